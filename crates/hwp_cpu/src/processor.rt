@@ -4,7 +4,7 @@ ghost use Rattle.std.specs.Arc.{arc_value};
 ghost use Rattle.hwp_cpu_course.specs.hwp_cpu_row.hwp_geom.Layout.{IsSound};
 ghost use Rattle.hwp_cpu_course.specs.hwp_cpu_row.hwp_law_commands.Commands.{is_watch};
 ghost use Rattle.hwp_cpu_course.specs.hwp_cpu_command.FileHandles.{HasChangeWithin};
-ghost use Rattle.hwp_cpu.specs.Processors.{AreCommands, AtBeginning, BeginsAt, IsAnswered, IsReady, at_number, left_of};
+ghost use Rattle.hwp_cpu.specs.Processors.{AreCommands, AtBeginning, BeginsAt, IsAnswered, IsReady, at_number, left_of, told_local};
 
 use hwp_cpu_course::{
     Answer, Body, Command, Course, Cpu, Layout, List, Local, OutOfMemory, Ranked, Row, Scheduled,
@@ -96,7 +96,7 @@ impl Processor {
         let number = self.rows.len();
         self.rows.push_reserved(row);
         let commands = self.commands.as_slice();
-        self.local.cows.told(&self.layout, &commands[number], answer);
+        remember(&self.layout, commands, number, answer, &mut self.local);
         begin_next(
             self.alloc,
             &self.layout,
@@ -106,6 +106,15 @@ impl Processor {
             &mut self.local,
             &mut self.course,
         );
+    }
+}
+
+/// The processor knows what is frozen and switched behind the command of this number, which got this answer.
+fn remember(layout: &Layout, commands: &[Command], number: usize, answer: Answer, local: &mut Local)
+    ensures { local.new ≡ told_local layout.now (slice_get commands.now number) answer local.old }
+{
+    if let Some(command) = commands.get(number) {
+        local.cows.told(layout, command, answer);
     }
 }
 
@@ -119,7 +128,8 @@ fn has_watch(commands: &[Command]) -> bool
 }
 
 /// The first command at its beginning; `None` where there is none. It takes what the banks hold, if it can add to that, gets the number
-/// of its file's handle, and has the processor's collector while it runs.
+/// of its file's handle, and has the processor's collector while it runs. It is acted on through the translations that stand for those that
+/// it names.
 fn first(
     alloc: Global,
     layout: &Layout,

@@ -216,7 +216,7 @@ copy-at-pause c {p} is = record {
     same = record {
       told = refl;
       beyond = ap (copying_done.marked_at resumed) own.0 ∙ marks-none c.instruction.request p;
-      failed = ap (λ (l : List Failed). instruction_done.failed_by (Some c.instruction.request.thread) c.instruction.lines.told ++ l)
+      failed = ap (λ (l : List Failed). instruction_done.failed_by (Some c.store.thread) c.instruction.lines.told ++ l)
           (ap (copying_done.failed_at resumed) own.0 ∙ fails-none c.instruction.request p ∙ sym (ap (copying_done.failed_at c.instruction) own.0 ∙ ap instruction_done.failed_at there));
       owed = ap (copying_done.owed_at resumed) own.0 ∙ owes-none c.instruction.request p;
     }

@@ -486,7 +486,7 @@ unmarked-at-start _ start = refl
 pub unfailed-at-start : (j : Job) → IsAtStop j → failed_now j ≡ []
 unfailed-at-start (jobs.Instruction i) start = ap (λ (l : List EventOutcome). instruction_done.failed_by (Some i.request.thread) l ++ instruction_done.failed_at i.at) start.3 ∙ ap instruction_done.failed_at start.1
 unfailed-at-start (jobs.Copying c) start =
-    ap (λ (l : List EventOutcome). instruction_done.failed_by (Some c.instruction.request.thread) l ++ copying_done.failed_at c.instruction c.at) start.2.3 ∙ ap (copying_done.failed_at c.instruction) start.0 ∙ ap instruction_done.failed_at start.2.1
+    ap (λ (l : List EventOutcome). instruction_done.failed_by (Some c.store.thread) l ++ copying_done.failed_at c.instruction c.at) start.2.3 ∙ ap (copying_done.failed_at c.instruction) start.0 ∙ ap instruction_done.failed_at start.2.1
 unfailed-at-start (jobs.Raise r) start = ap (λ (l : List EventOutcome). filter_map (failed_told (thread_of r.raiser)) l ++ raise_done.failed_at r.at) start.1 ∙ ap raise_done.failed_at start.0
 unfailed-at-start (jobs.Scrub c) start = ap (λ (l : List EventOutcome). filter_map (failed_told None) l ++ scrub_done.failed_at c.at) start.1 ∙ ap scrub_done.failed_at start.0
 unfailed-at-start (jobs.Inject i) start = ap failed_at start

@@ -1,5 +1,5 @@
 -- What a step of a copy adds to what the view lists of the command, and to what the command has done: what a step of its access adds.
-use Rattle.std.proofs.Common.{◌≡◌, inl, ℕ, ◌+◌, false, List, [], ◌++◌, Option, Some, None, refl, sym, ap, ◌∙◌, subst}
+use Rattle.std.proofs.Common.{◌≡◌, inl, ℕ, ◌+◌, List, [], ◌++◌, Option, Some, None, refl, sym, ap, ◌∙◌, subst}
 use Rattle.std.proofs.lemmas.Option.{none-some, same_Some}
 use Rattle.hwp_fault.specs.hwp_geom.declared.Layout.{Layout}
 use Rattle.hwp_fault.specs.hwp_geom.declared.Page.{Page}
@@ -58,20 +58,20 @@ record IsSame (i : Instruction) (after : Copying) : Type 0 where
   owed_is : owed_now after ≡ instruction_done.owed_now i
 
 -- an access that begins has done nothing more than the one before it, which is over
-again-same : (i : Instruction) (request : Request) {answer : InstructionAnswer} → i.at ≡ instruction_at.Over (Some answer) → request.thread ≡ i.request.thread
-    → (instruction_done.marked_now (instructions.again_with i request) ≡ instruction_done.marked_now i) × (instruction_done.failed_now (instructions.again_with i request) ≡ instruction_done.failed_now i)
-    × (instruction_done.owed_now (instructions.again_with i request) ≡ instruction_done.owed_now i)
-again-same i request over thread = (
-  ap (λ (l : List Marking). instruction_done.marked_by i.lines.told ++ l) (sym (ap instruction_done.marked_at over)),
-  ap (λ (t : Thread). instruction_done.failed_by (Some t) i.lines.told ++ []) thread ∙ ap (λ (l : List Failed). instruction_done.failed_by (Some i.request.thread) i.lines.told ++ l) (sym (ap instruction_done.failed_at over)),
-  sym (ap instruction_done.owed_at over),
-)
+again-same : (c : Copying) (i : Instruction) (request : Request) {answer : InstructionAnswer} → i.at ≡ instruction_at.Over (Some answer) → i.request.thread ≡ c.store.thread → IsSame i (record c { instruction = instructions.again_with i request; at = at.Access })
+again-same c i request over thread = record {
+  marked_is = ap (λ (l : List Marking). instruction_done.marked_by i.lines.told ++ l) (sym (ap instruction_done.marked_at over));
+  failed_is = ap (λ (t : Thread). instruction_done.failed_by (Some t) i.lines.told ++ []) (sym thread) ∙ ap (λ (l : List Failed). instruction_done.failed_by (Some i.request.thread) i.lines.told ++ l) (sym (ap instruction_done.failed_at over));
+  owed_is = sym (ap instruction_done.owed_at over);
+}
 
 -- the access that is over, of which the lines tell all
-told-same : (c : Copying) (i : Instruction) (x : CopyingAt) {answer : InstructionAnswer} → i.at ≡ instruction_at.Over (Some answer) → marked_at i x ≡ [] → failed_at i x ≡ [] → owed_at i x ≡ 0 → IsSame i (record c { instruction = i; at = x })
-told-same c i x over unmarked unfailed unowed = record {
+told-same : (c : Copying) (i : Instruction) (x : CopyingAt) {answer : InstructionAnswer} → i.at ≡ instruction_at.Over (Some answer) → i.request.thread ≡ c.store.thread → marked_at i x ≡ [] → failed_at i x ≡ [] → owed_at i x ≡ 0
+    → IsSame i (record c { instruction = i; at = x })
+told-same c i x over thread unmarked unfailed unowed = record {
   marked_is = ap (λ (l : List Marking). instruction_done.marked_by i.lines.told ++ l) (unmarked ∙ sym (ap instruction_done.marked_at over));
-  failed_is = ap (λ (l : List Failed). instruction_done.failed_by (Some i.request.thread) i.lines.told ++ l) (unfailed ∙ sym (ap instruction_done.failed_at over));
+  failed_is = ap (λ (t : Thread). instruction_done.failed_by (Some t) i.lines.told ++ failed_at i x) (sym thread)
+      ∙ ap (λ (l : List Failed). instruction_done.failed_by (Some i.request.thread) i.lines.told ++ l) (unfailed ∙ sym (ap instruction_done.failed_at over));
   owed_is = unowed ∙ sym (ap instruction_done.owed_at over);
 }
 
@@ -79,24 +79,27 @@ abbrev in_access : Copying → Instruction → Copying
 in_access c i = record c { instruction = i; at = at.Access }
 
 going-same : (c : Copying) (i : Instruction) (place : At) (sub : Sub) {answer : InstructionAnswer} → i.at ≡ instruction_at.Over (Some answer) → i.request.thread ≡ c.store.thread → IsSame i (going_on (in_access c i) place sub)
-going-same c i place (subs.Load slot line) over thread = let same = again-same i (load_of c.store c.page slot line) over (sym thread) in record { marked_is = same.0; failed_is = same.1; owed_is = same.2 }
-going-same c i place (subs.Store slot line word) over thread = let same = again-same i (store_of c.store slot line word) over (sym thread) in record { marked_is = same.0; failed_is = same.1; owed_is = same.2 }
-going-same c i place (subs.Free slot) over thread = told-same c i (at.Free (evicts.begin c.store.who c.page (evictions.Free slot)) place) over refl refl refl
-going-same c i place subs.Switched over thread = told-same c i (at.Over (answers.Stored place)) over refl refl refl
+going-same c i place (subs.Load slot line) over thread = again-same c i (load_of c.store c.page slot line) over thread
+going-same c i place (subs.Store slot line word) over thread = again-same c i (store_of c.store slot line word) over thread
+going-same c i place (subs.Free slot) over thread = told-same c i (at.Free (evicts.begin c.store.who c.page (evictions.Free slot)) place) over thread refl refl refl
+going-same c i place subs.Switched over thread = told-same c i (at.Over (answers.Stored place)) over thread refl refl refl
+
+as-access : (c : Copying) (i : Instruction) → i.request.thread ≡ c.store.thread → IsSame i (in_access c i)
+as-access c i thread = record { marked_is = refl; failed_is = ap (λ (t : Thread). instruction_done.failed_by (Some t) i.lines.told ++ instruction_done.failed_at i.at) (sym thread); owed_is = refl }
 
 access-same : (c : Copying) (i : Instruction) (o : Option InstructionAnswer) → instructions.answer i ≡ o → i.request.thread ≡ c.store.thread → IsSame i (after_access (in_access c i) o)
-access-same c i None is thread = record { marked_is = refl; failed_is = refl; owed_is = refl }
+access-same c i None is thread = as-access c i thread
 access-same c i (Some (answers.Value word place)) is thread = going-same (record c { cow = told_by c.cow word }) i place (sub_of (told_by c.cow word)) (over-instruction i is) thread
 access-same c i (Some (answers.Stored place)) is thread = going-same (record c { cow = told_by c.cow 0 }) i place (sub_of (told_by c.cow 0)) (over-instruction i is) thread
-access-same c i (Some (answers.Sigbus place)) is thread = record { marked_is = refl; failed_is = refl; owed_is = refl }
-access-same c i (Some answers.NoFrame) is thread = record { marked_is = refl; failed_is = refl; owed_is = refl }
-access-same c i (Some (answers.Gone page)) is thread = record { marked_is = refl; failed_is = refl; owed_is = refl }
-access-same c i (Some answers.Stopped) is thread = record { marked_is = refl; failed_is = refl; owed_is = refl }
+access-same c i (Some (answers.Sigbus place)) is thread = as-access c i thread
+access-same c i (Some answers.NoFrame) is thread = as-access c i thread
+access-same c i (Some (answers.Gone page)) is thread = as-access c i thread
+access-same c i (Some answers.Stopped) is thread = as-access c i thread
 
 -- nothing is done while the translation is freed
 record IsStill (c after : Copying) : Type 0 where
   marked_is : marked_now after ≡ instruction_done.marked_by c.instruction.lines.told ++ []
-  failed_is : failed_now after ≡ instruction_done.failed_by (Some c.instruction.request.thread) c.instruction.lines.told ++ []
+  failed_is : failed_now after ≡ instruction_done.failed_by (Some c.store.thread) c.instruction.lines.told ++ []
   owed_is : owed_now after ≡ 0
 
 free-still : (c : Copying) (e : Evict) (stored : At) (o : Option EvictAnswer) → IsStill c (after_free_by c e stored o)
@@ -110,8 +113,9 @@ module _ {base : List Made} (layout : Layout) (old new : View) (c : Copying) (st
   access-adds has e made next = record {
     marked = subst (Grows (λ (m : Mark). m.stamp.who) marking_of old.marks new.marks c.store.who (instruction_done.marked_now c.instruction)) (sym same.marked_is)
         (subst (λ (w : Who). Grows (λ (m : Mark). m.stamp.who) marking_of old.marks new.marks w (instruction_done.marked_now c.instruction) (instruction_done.marked_now next.instruction)) own adds.marked);
-    failed = subst (FailuresGrow (failures_by c.store.who old) (failures_by c.store.who new) (instruction_done.failed_now c.instruction)) (sym same.failed_is)
-        (subst (λ (w : Who). FailuresGrow (failures_by w old) (failures_by w new) (instruction_done.failed_now c.instruction) (instruction_done.failed_now next.instruction)) own adds.failed);
+    failed = subst (λ (l : List Failed). FailuresGrow (failures_by c.store.who old) (failures_by c.store.who new) l (failed_now after)) (sym (as-access c c.instruction (request-thread c.store c.page (sub_of c.cow) has.request_is)).failed_is)
+        (subst (FailuresGrow (failures_by c.store.who old) (failures_by c.store.who new) (instruction_done.failed_now c.instruction)) (sym same.failed_is)
+        (subst (λ (w : Who). FailuresGrow (failures_by w old) (failures_by w new) (instruction_done.failed_now c.instruction) (instruction_done.failed_now next.instruction)) own adds.failed));
     counted = adds.counted ∙ ap (λ (n : ℕ). counts_owed old + n) (sym same.owed_is);
   }
     where

@@ -24,7 +24,7 @@ failed_at i at.Access = instruction_done.failed_at i.at
 failed_at i _ = []
 
 abbrev pub failed_now : Copying → List Failed
-failed_now c = instruction_done.failed_by (Some c.instruction.request.thread) c.instruction.lines.told ++ failed_at c.instruction c.at
+failed_now c = instruction_done.failed_by (Some c.store.thread) c.instruction.lines.told ++ failed_at c.instruction c.at
 
 -- the count that is owed
 abbrev pub owed_at : Instruction → CopyingAt → ℕ

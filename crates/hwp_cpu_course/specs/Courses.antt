@@ -270,13 +270,13 @@ cost_behind (kinds.Instruction i) = anew_after_wait
 cost_behind (kinds.Copying c) = failure_weight * copying_costs.behind c.cow.at + anew_after_wait
 cost_behind _ = 0
 
-abbrev pub paused_cost : ℕ → Job → ℕ
-paused_cost more j = cond (jobs.pauses j) (cost_behind j + more) 0
+abbrev pub behind_cost : ℕ → Job → ℕ
+behind_cost more j = cond (jobs.pauses j) (cost_behind j + more) 0
 
 -- each frame that comes next costs more than all its turns, and the one that is taken out of use its own; then its own task goes on
 abbrev pub cost_of : Course → Option Soft → Words → ℕ
 cost_of c None words = own_cost c.own (jobs.plan c.own) words
-cost_of c (Some soft) words = softs.cost soft words + soft_weight * (length c.due.frames - (length c.due.offlined + 1)) + paused_cost 4 c.own + 1
+cost_of c (Some soft) words = softs.cost soft words + soft_weight * (length c.due.frames - (length c.due.offlined + 1)) + behind_cost 4 c.own + 1
 
 abbrev pub cost : Course → Words → ℕ
 cost c words = cost_of c c.beside words

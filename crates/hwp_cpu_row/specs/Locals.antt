@@ -10,7 +10,7 @@ use Rattle.hwp_cpu_check.specs.hwp_law_commands.hwp_cec.Counters.{Counters, Stan
 use Rattle.hwp_cpu_check.specs.hwp_law_commands.Watched.{Watched, offlining}
 use Rattle.hwp_cpu_row.specs.declared.local.Local.{Local}
 use Rattle.hwp_cpu_row.specs.declared.local.Watching.{Watching}
-use Rattle.hwp_cpu_row.specs.Cows.{first_cows}
+use Rattle.hwp_cpu_row.specs.CowLists.{first_cows}
 
 -- a collector for so many frames that doesn't collect
 abbrev pub IsOff : ℕ → Watching → Type 0

@@ -1,9 +1,9 @@
-ghost use Rattle.std.specs.Prelude.{◌≡◌, ◌&&◌, ◌==◌, false, get_or, is_some, IfOk, slice_get, slice_set};
+ghost use Rattle.std.specs.Prelude.{◌≡◌, ◌&&◌, ◌==◌, false, get_or, is_some, vec_len, IfOk, slice_get, slice_set};
 ghost use Rattle.std.specs.List.{list_any};
 ghost use Rattle.std.specs.Option.{option_map_or};
 ghost use Rattle.hwp_cpu_check.specs.hwp_law_commands.Cows.{own_page, twin_or};
 ghost use Rattle.hwp_cpu_check.specs.hwp_script_read.Forks.{freezes};
-ghost use Rattle.hwp_cpu_row.specs.Cows.{acting_in, copied_by, copied_in, cow_in, first_cows, freezes_at, frozen_from, frozen_in, switched_by, switched_in, through_in, told_in, written_in};
+ghost use Rattle.hwp_cpu_row.specs.CowLists.{acting_in, copied_by, copied_in, cow_in, first_cows, freezes_at, frozen_by, frozen_from, frozen_in, switched_by, switched_in, through_in, told_in, written_in};
 
 use hwp_cpu_check::{Answer, Command, Layout, OutOfMemory, Page, Proc, Thread, VSlot};
 use std::alloc::Global;
@@ -194,9 +194,20 @@ fn freeze(layout: &Layout, thread: Thread, cows: &mut Vec<Cow>)
     ensures { cows.new.items ≡ frozen_from layout.now thread 0 cows.old.items }
 {
     for number in 0..cows.len() {
+        let freezes = freezes_slot(layout, thread, number);
+        freeze_one(cows, number, freezes);
+    }
+}
+
+/// The same of one translation, if the fork freezes it.
+fn freeze_one(cows: &mut Vec<Cow>, number: usize, freezes: bool)
+    ensures items { cows.new.items ≡ slice_set cows.old.items number (frozen_by freezes (get_or cows.old.items number own_page)) }
+    ensures len { vec_len cows.new ≡ vec_len cows.old }
+{
+    if number < cows.len() {
         let cow = cows[number];
         cows[number] = Cow {
-            frozen: cow.frozen || freezes_slot(layout, thread, number),
+            frozen: cow.frozen || freezes,
             switched: cow.switched,
         };
     }

@@ -11,3 +11,4 @@ pub mod ForkForgeries
 pub mod OfflinedLaws
 pub mod CheckRuns
 pub use Rattle.hwp_law_commands.proofs.of_hwp_page as of_hwp_page
+pub use Rattle.hwp_law_commands.proofs as of_hwp_law_commands

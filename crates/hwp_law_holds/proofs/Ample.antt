@@ -4,6 +4,7 @@ use Rattle.std.specs.List.{cons_option, filter_map, list_any, sum_by}
 use Rattle.std.specs.Int.{from_bool}
 use Rattle.std.proofs.lemmas.Bool.{eqb-true, ltb-true}
 use Rattle.std.proofs.lemmas.Option.{get_or_from_slice_get, none-some, same_Some}
+use Rattle.hwp_law_records.specs.hwp_geom.declared.VSlot.{VSlot}
 use Rattle.hwp_law_records.specs.hwp_geom.declared.Cpu.{Cpu}
 use Rattle.hwp_law_records.specs.hwp_geom.declared.Frame.{Frame}
 use Rattle.hwp_law_records.specs.hwp_geom.declared.Who.{Who}
@@ -81,7 +82,7 @@ below-le g h u (suc n) each =
     let last : g n + h n ≤ u n = each n (omega arith) in
     omega arith
 
-module _ (script : Script) (seat : Cpu → ℕ) (last : State) (report : Report) (end : IsEnd script seat last report) where
+module _ (script : Script) (copies : Who → Option VSlot) (seat : Cpu → ℕ) (last : State) (report : Report) (end : IsEnd script copies seat last report) where
   abbrev all_marks : List (List Mark)
   all_marks = map (λ (v : View). v.marks) last.views
 
@@ -89,11 +90,11 @@ module _ (script : Script) (seat : Cpu → ℕ) (last : State) (report : Report)
   Such k = is_poisoning k.kind ≡ true → list_any (λ n. n == k.frame.0) (named_frames script) ≡ true
 
   -- a frame that was taken out of use beside a command is named: an event of the command noted it, in a script with a `watch`
-  offlined-named : (who : Who) (of : IsOf script end.rows (view_of last (seat who.cpu)) who) → AreSuch (IsNamed script seat last report end) (has_watch script) of.row.told
+  offlined-named : (who : Who) (of : IsOf script copies end.rows (view_of last (seat who.cpu)) who) → AreSuch (IsNamed script copies seat last report end) (has_watch script) of.row.told
       → EachMember (λ (o : Offlining). list_any (λ n. n == o.frame.0) (named_frames script) ≡ true) of.row.offlined
   offlined-named who of told i o there =
       let view : View = view_of last (seat who.cpu) in
-      let watches : has_watch script ≡ true = (can-offline script seat last report end view who of (λ none. none-some o (sym (ap (λ (l : List Offlining). slice_get l i) none) ∙ there))).0 in
+      let watches : has_watch script ≡ true = (can-offline script copies seat last report end view who of (λ none. none-some o (sym (ap (λ (l : List Offlining). slice_get l i) none) ∙ there))).0 in
       let lines : EachMember (λ (l : EventLine). IsFrameNamed (frame_at l.addr)) (map (event_at 0) of.row.told) = each-map (event_at 0) (λ (l : EventLine). IsFrameNamed (frame_at l.addr)) of.row.told
       (λ k t at. told k t at (ap (λ (b : Bool). is_some t.found || b) watches ∙ or-true (is_some t.found))) in
       let noted : EachMember (λ (f : Frame). IsFrameNamed f.0) (told_notes script.layout of.row.told) = notes-such IsFrameNamed script.layout (map (event_at 0) of.row.told) lines in
@@ -104,16 +105,16 @@ module _ (script : Script) (seat : Cpu → ℕ) (last : State) (report : Report)
       IsFrameNamed : ℕ → Type 0
       IsFrameNamed f = list_any (λ n. n == f) (named_frames script) ≡ true
 
-      due-here : (of : IsOf script end.rows (view_of last (seat who.cpu)) who) → map (λ (x : Offlining). x.frame) of.row.offlined ≡ due (watched_at script.layout of.list of.own who.seq) (told_notes script.layout of.row.told)
-      due-here of = (served-of script seat last report end who.cpu of.list of.own of.list_is of.own_is).0.due who.seq of.row of.row_is
+      due-here : (of : IsOf script copies end.rows (view_of last (seat who.cpu)) who) → map (λ (x : Offlining). x.frame) of.row.offlined ≡ due (watched_at script.layout of.list of.own who.seq) (told_notes script.layout of.row.told)
+      due-here of = (served-of script copies seat last report end who.cpu of.list of.own of.list_is of.own_is).0.due who.seq of.row of.row_is
 
   -- the frame of a failure by an event is named, that of what a command did to a frame itself, and one that was taken out of use beside it
-  picked-named : (row : Row) → AreSuch (IsNamed script seat last report end) (has_watch script) row.told → EachMember (λ (o : Offlining). list_any (λ n. n == o.frame.0) (named_frames script) ≡ true) row.offlined
+  picked-named : (row : Row) → AreSuch (IsNamed script copies seat last report end) (has_watch script) row.told → EachMember (λ (o : Offlining). list_any (λ n. n == o.frame.0) (named_frames script) ≡ true) row.offlined
       → EachMember (λ (o : Offlining). (x : Marking) → own_marking o.change ≡ Some x → x.frame ≡ o.frame) row.offlined → (command : Command) (who : Who) → command_at script who ≡ Some command → IsOwn command row.answer row.own
       → EachMember Such (markings_in row)
   picked-named row told offlined frames command who at own = each-append Such (filter_map act_marking (acts row.told row.offlined)) (cons_option (own_marking row.own) []) by-acts (by-own row.own command at own)
     where
-      of-told : (t : EventOutcome) (x : Marking) (o : Option Found) → t.found ≡ o → option_map (λ (found : Found). poisoning (frame_of t.held) true found.cycle) o ≡ Some x → ((is_some t.found || has_watch script) ≡ true → IsNamed script seat last report end t.held.event.addr) → Such x
+      of-told : (t : EventOutcome) (x : Marking) (o : Option Found) → t.found ≡ o → option_map (λ (found : Found). poisoning (frame_of t.held) true found.cycle) o ≡ Some x → ((is_some t.found || has_watch script) ≡ true → IsNamed script copies seat last report end t.held.event.addr) → Such x
       of-told t x None none is named = absurd (none-some x is)
       of-told t x (Some found) some is named = subst Such (same_Some (poisoning (frame_of t.held) true found.cycle) x is) (λ poisons. named (ap (λ (o : Option Found). is_some o || has_watch script) some))
 
@@ -155,14 +156,14 @@ module _ (script : Script) (seat : Cpu → ℕ) (last : State) (report : Report)
   mark-named i j v m view there poisons =
       let who : Who = m.stamp.who in
       let past = (end.board.holds.rule.processors.commands.own i v view).marks j m there in
-      let own = own-view script seat last report end i v who view past in
+      let own = own-view script copies seat last report end i v who view past in
       let mine : slice_get (view_of last (seat who.cpu)).marks j ≡ Some m = sym (ap (λ (x : View). slice_get x.marks j) own.1) ∙ there in
-      let list = list-of script seat last report end who.cpu own.0 in
-      let rows = rows-of script seat last report end who.cpu own.0 in
-      let begun = (served-of script seat last report end who.cpu list.0 rows.0 list.1 rows.1).0.marked j m mine in
+      let list = list-of script copies seat last report end who.cpu own.0 in
+      let rows = rows-of script copies seat last report end who.cpu own.0 in
+      let begun = (served-of script copies seat last report end who.cpu list.0 rows.0 list.1 rows.1).0.marked j m mine in
       let command = there-is list.0 who.seq begun.1 in
-      let of = command-of script seat last report end who list.0 command.0 list.1 command.1 in
-      let told = events-named script seat last report end who.cpu of.list of.own own.0 of.list_is of.own_is who.seq of.row of.row_is in
+      let of = command-of script copies seat last report end who list.0 command.0 list.1 command.1 in
+      let told = events-named script copies seat last report end who.cpu of.list of.own own.0 of.list_is of.own_is who.seq of.row of.row_is in
       let found = filter-has (λ (k : Mark). is_same who k.stamp.who) (view_of last (seat who.cpu)).marks j m mine (same-self who who refl) in
       let among : slice_get (markings who (view_of last (seat who.cpu))) found.0 ≡ Some (marking_of m) = at_map marking_of _ found.0 m found.1 in
       picked-named of.row told (offlined-named who of told) (frames-of who of.row.offlined of.served.offlined) of.command who (command-is script who of.list of.command of.list_is of.command_is) of.served.accounted.own found.0 (marking_of m) (sym (ap (λ (l : List Marking). slice_get l found.0) of.served.accounted.marked) ∙ among) poisons

@@ -2,6 +2,7 @@
 use Rattle.std.proofs.Common.{◌≡◌, ◌≢◌, ◌⊎◌, inl, inr, ℕ, ◌<◌, Bool, true, false, bit_and, List, Option, Some, length, slice_get, option_and_then, option_map, take, unwrap_or, refl, sym, ap, ◌∙◌, subst}
 use Rattle.std.proofs.lemmas.List.{length-map}
 use Rattle.std.proofs.lemmas.Option.{get_or_from_slice_get, none-some, same_Some, slice_get_within}
+use Rattle.hwp_law_records.specs.hwp_geom.declared.VSlot.{VSlot}
 use Rattle.hwp_law_records.specs.hwp_geom.declared.Cpu.{Cpu}
 use Rattle.hwp_law_records.specs.hwp_geom.declared.Frame.{Frame}
 use Rattle.hwp_law_records.specs.hwp_geom.declared.Mask.{Mask}
@@ -76,7 +77,7 @@ use Rattle.hwp_law_records.proofs.of_hwp_law_served.Seen.{HasSignalled, MadeWhat
 use Rattle.hwp_law_holds.proofs.Signalled.{signalled-sends}
 use Rattle.hwp_law_records.proofs.of_hwp_law_served.Stops.{stop-by, stop-there}
 
-module _ (script : Script) (seat : Cpu → ℕ) (last : State) (report : Report) (end : IsEnd script seat last report) (cpu : Cpu) (inside : cpu.0 < script.layout.cpus) where
+module _ (script : Script) (copies : Who → Option VSlot) (seat : Cpu → ℕ) (last : State) (report : Report) (end : IsEnd script copies seat last report) (cpu : Cpu) (inside : cpu.0 < script.layout.cpus) where
   abbrev view : View
   view = view_of last (seat cpu)
 
@@ -93,7 +94,7 @@ module _ (script : Script) (seat : Cpu → ℕ) (last : State) (report : Report)
   stands has = made-stands (made-what has)
 
   -- the entry that sent SIGBUS stands in the report
-  sigbus : (who : Who) (command : Command) (thread : Thread) (at : At) (what : What) → current_thread command ≡ Some thread → SendsSigbus thread what → StandsAt report.pages who at what → IsSigbus report who command at
+  pub sigbus : (who : Who) (command : Command) (thread : Thread) (at : At) (what : What) → current_thread command ≡ Some thread → SendsSigbus thread what → StandsAt report.pages who at what → IsSigbus report who command at
   sigbus who command thread at what current sends stands_ = record {
     entry = record { who = who; what = what };
     there = stands_;
@@ -137,7 +138,7 @@ module _ (script : Script) (seat : Cpu → ℕ) (last : State) (report : Report)
   failure who frame own answers.Recovered marked come = marked frame _ come
   failure who frame own answers.Delayed marked come = marked frame _ come
   failure who frame own answers.Ignored marked come = marked frame _ come
-  failure who frame own answers.Already marked found = was-poisoned script seat last report end cpu inside who frame found.0.word true found.0.poisoned found.0.saw
+  failure who frame own answers.Already marked found = was-poisoned script copies seat last report end cpu inside who frame found.0.word true found.0.poisoned found.0.saw
   failure who frame own _ marked caused = absurd caused
 
   -- a frame that isn't the kernel's is one of the script's
@@ -158,10 +159,10 @@ module _ (script : Script) (seat : Cpu → ℕ) (last : State) (report : Report)
   pub came : (who : Who) (frame : Frame) (change : Option FrameChange) (result : OfflineResult) → IsMarkedSo who change → HasLeft who result → IsOfflineServed script.layout view who frame change result → IsOffline script report who frame result
   came who frame change (results.Moved other bt) marked left (users, (cycle, is), free) = (left bt refl, marked frame cycle true is)
   came who frame change results.TakenFree marked left (users, (cycle, is)) = marked frame cycle false is
-  came who frame change results.Already marked left (users, saw, none) = was-poisoned script seat last report end cpu inside who frame saw.word true saw.poisoned saw.saw
+  came who frame change results.Already marked left (users, saw, none) = was-poisoned script copies seat last report end cpu inside who frame saw.word true saw.poisoned saw.saw
   came who frame change (results.HasBad mask) marked left (users, lines, none) = bad-at-end frame mask (users-inside frame users) lines.some (looked lines.page lines.saw)
-  came who frame change results.NoFrame marked left (users, saw, none) = not-ample script seat last report end cpu inside who saw
-  came who frame change results.Stopped marked left (saw, none) = stop-by script seat last report end cpu who inside (inl saw)
+  came who frame change results.NoFrame marked left (users, saw, none) = not-ample script copies seat last report end cpu inside who saw
+  came who frame change results.Stopped marked left (saw, none) = stop-by script copies seat last report end cpu who inside (inl saw)
 
   -- an answer of a soft offline of a frame that isn't the kernel's
   offline : (who : Who) (frame : Frame) (own : Option FrameChange) (answer : Answer) → IsUsers script.layout frame → IsMarkedSo who own → IsOfflineCaused script.layout view who frame own answer → IsOfflineAnswer script report who frame answer
@@ -180,19 +181,19 @@ module _ (script : Script) (seat : Cpu → ℕ) (last : State) (report : Report)
   -- an answer of a command that takes a poison back
   unpoison : (who : Who) (frame : Frame) (own : Option FrameChange) (answer : Answer) → IsRevivedSo who own → IsUnpoisonCaused script.layout view who frame own answer → IsUnpoisonAnswer report who frame answer
   unpoison who frame own answers.Done marked caused = marked frame caused.cycle caused.own_is
-  unpoison who frame own answers.NotPoisoned marked caused = was-poisoned script seat last report end cpu inside who frame caused.word false caused.sound caused.saw
-  unpoison who frame own answers.HardwareSeen marked caused = was-hardware-seen script seat last report end cpu inside who caused.word caused.some caused.saw
+  unpoison who frame own answers.NotPoisoned marked caused = was-poisoned script copies seat last report end cpu inside who frame caused.word false caused.sound caused.saw
+  unpoison who frame own answers.HardwareSeen marked caused = was-hardware-seen script copies seat last report end cpu inside who caused.word caused.some caused.saw
   unpoison who frame own (answers.HasBad mask) marked caused = bad-at-end frame mask caused.inside caused.some caused.saw
   unpoison who frame own (answers.InUse count) marked caused = tt
   unpoison who frame own _ marked caused = absurd caused
 
   -- the entry of a failure that signalled the thread
-  by-failure : (who : Who) (command : Command) (at : At) → HasSignalled view who command at → IsSigbus report who command at
-  by-failure who command at has = signalled-sends script seat last report end cpu inside who command at has
+  pub by-failure : (who : Who) (command : Command) (at : At) → HasSignalled view who command at → IsSigbus report who command at
+  by-failure who command at has = signalled-sends script copies seat last report end cpu inside who command at has
 
   -- the policy that prctl(2) met is the one of the report
-  replied : (who : Who) (earlier : List (Command × Answer)) → earlier ≡ answered_before script report who → (thread : Thread) (args : PrctlArgs) → reply_answer (reply (last_policy (settings thread earlier)) (arguments args)) ≡ reply_answer (reply (policy_before script report who thread) (arguments args))
-  replied who earlier before thread args = ap (λ (l : List (Command × Answer)). reply_answer (reply (last_policy (settings thread l)) (arguments args))) before
+  replied : (who : Who) (earlier : List (Command × Answer)) → earlier ≡ answered_before script report who → (thread : Thread) (args : PrctlArgs) → reply_answer (reply (last_policy (settings script.layout thread earlier)) (arguments args)) ≡ reply_answer (reply (policy_before script report who thread) (arguments args))
+  replied who earlier before thread args = ap (λ (l : List (Command × Answer)). reply_answer (reply (last_policy (settings script.layout thread l)) (arguments args))) before
 
   neither : ⊥ ⊎ ⊥ → ⊥
   neither (inl never) = never
@@ -208,54 +209,56 @@ module _ (script : Script) (seat : Cpu → ℕ) (last : State) (report : Report)
 
   pub law-caused : (who : Who) (earlier : List (Command × Answer)) → earlier ≡ answered_before script report who → (command : Command) (told : List EventOutcome) (own : Option FrameChange) (answer : Answer) → command_at script who ≡ Some command → HasFacts who command told own
       → IsAnswerCaused script.layout earlier view who command told own answer → IsLawCaused script report who command answer
-  law-caused who earlier before command told own answers.Stopped at facts caused = stop-there script seat last report end cpu who command inside caused
+  law-caused who earlier before command told own answers.Stopped at facts caused = stop-there script copies seat last report end cpu who command inside caused
   law-caused who earlier before (commands.Load thread slot line) told own (answers.Value word bt) at facts caused = (caused.0, stands caused.1.made)
   law-caused who earlier before (commands.Load thread slot line) told own (answers.Sigbus bt) at facts (inl caused) = sigbus who (commands.Load thread slot line) thread bt (entries.Load slot line (Sigbus thread)) refl refl (stands caused.made)
   law-caused who earlier before (commands.Load thread slot line) told own (answers.Sigbus bt) at facts (inr was) = by-failure who (commands.Load thread slot line) bt (facts.signalled bt was.first)
-  law-caused who earlier before (commands.Load thread slot line) told own answers.NoFrame at facts caused = not-ample script seat last report end cpu inside who caused.available
-  law-caused who earlier before (commands.Load thread slot line) told own (answers.Gone page) at facts caused = is-gone script seat last report end cpu inside who (commands.Load thread slot line) thread page at refl caused.0
+  law-caused who earlier before (commands.Load thread slot line) told own answers.NoFrame at facts caused = not-ample script copies seat last report end cpu inside who caused.available
+  law-caused who earlier before (commands.Load thread slot line) told own (answers.Gone page) at facts caused = is-gone script copies seat last report end cpu inside who (commands.Load thread slot line) thread page at refl caused.0
   law-caused who earlier before (commands.Fetch thread slot line) told own (answers.Value word bt) at facts caused = (caused.0, stands caused.1.made)
   law-caused who earlier before (commands.Fetch thread slot line) told own (answers.Sigbus bt) at facts (inl caused) = sigbus who (commands.Fetch thread slot line) thread bt (entries.Load slot line (Sigbus thread)) refl refl (stands caused.made)
   law-caused who earlier before (commands.Fetch thread slot line) told own (answers.Sigbus bt) at facts (inr was) = by-failure who (commands.Fetch thread slot line) bt (facts.signalled bt was.first)
-  law-caused who earlier before (commands.Fetch thread slot line) told own answers.NoFrame at facts caused = not-ample script seat last report end cpu inside who caused.available
-  law-caused who earlier before (commands.Fetch thread slot line) told own (answers.Gone page) at facts caused = is-gone script seat last report end cpu inside who (commands.Fetch thread slot line) thread page at refl caused.0
+  law-caused who earlier before (commands.Fetch thread slot line) told own answers.NoFrame at facts caused = not-ample script copies seat last report end cpu inside who caused.available
+  law-caused who earlier before (commands.Fetch thread slot line) told own (answers.Gone page) at facts caused = is-gone script copies seat last report end cpu inside who (commands.Fetch thread slot line) thread page at refl caused.0
   law-caused who earlier before (commands.KLoad thread slot line) told own (answers.Value word bt) at facts caused = (caused.0, stands caused.1.made)
   law-caused who earlier before (commands.KLoad thread slot line) told own (answers.Sigbus bt) at facts (inl caused) = sigbus who (commands.KLoad thread slot line) thread bt (entries.Load slot line (Sigbus thread)) refl refl (stands caused.made)
   law-caused who earlier before (commands.KLoad thread slot line) told own (answers.Sigbus bt) at facts (inr was) = by-failure who (commands.KLoad thread slot line) bt (facts.signalled bt was.first)
-  law-caused who earlier before (commands.KLoad thread slot line) told own answers.NoFrame at facts caused = not-ample script seat last report end cpu inside who caused.available
-  law-caused who earlier before (commands.KLoad thread slot line) told own (answers.Gone page) at facts caused = is-gone script seat last report end cpu inside who (commands.KLoad thread slot line) thread page at refl caused.0
+  law-caused who earlier before (commands.KLoad thread slot line) told own answers.NoFrame at facts caused = not-ample script copies seat last report end cpu inside who caused.available
+  law-caused who earlier before (commands.KLoad thread slot line) told own (answers.Gone page) at facts caused = is-gone script copies seat last report end cpu inside who (commands.KLoad thread slot line) thread page at refl caused.0
   law-caused who earlier before (commands.Store thread slot line word) told own (answers.Stored bt) at facts caused = (caused.0, stands caused.1.made)
   law-caused who earlier before (commands.Store thread slot line word) told own (answers.Sigbus bt) at facts (inl caused) = sigbus who (commands.Store thread slot line word) thread bt (entries.Store slot line (Sigbus thread)) refl refl (stands caused.made)
   law-caused who earlier before (commands.Store thread slot line word) told own (answers.Sigbus bt) at facts (inr was) = by-failure who (commands.Store thread slot line word) bt (facts.signalled bt was.first)
-  law-caused who earlier before (commands.Store thread slot line word) told own answers.NoFrame at facts caused = not-ample script seat last report end cpu inside who caused.available
-  law-caused who earlier before (commands.Store thread slot line word) told own (answers.Gone page) at facts caused = is-gone script seat last report end cpu inside who (commands.Store thread slot line word) thread page at refl caused.0
+  law-caused who earlier before (commands.Store thread slot line word) told own answers.NoFrame at facts caused = not-ample script copies seat last report end cpu inside who caused.available
+  law-caused who earlier before (commands.Store thread slot line word) told own (answers.Gone page) at facts caused = is-gone script copies seat last report end cpu inside who (commands.Store thread slot line word) thread page at refl caused.0
   law-caused who earlier before (commands.Free slot) told own (answers.DoneAt bt) at facts caused = stands caused.1.made
-  law-caused who earlier before (commands.Free slot) told own (answers.NotMapped bt) at facts caused = (caused.0, had script seat last report end cpu inside caused.1.saw)
+  law-caused who earlier before (commands.Free slot) told own (answers.NotMapped bt) at facts caused = (caused.0, had script copies seat last report end cpu inside caused.1.saw)
   law-caused who earlier before (commands.Drop page) told own (answers.DoneAt bt) at facts caused = (caused.0, stands caused.1.made)
-  law-caused who earlier before (commands.Drop page) told own (answers.NotResident bt) at facts caused = (caused.0, had script seat last report end cpu inside caused.1.saw)
-  law-caused who earlier before (commands.Drop page) told own (answers.Locked bt) at facts caused = (caused.0, had script seat last report end cpu inside caused.1.saw)
-  law-caused who earlier before (commands.Drop page) told own (answers.Dirty bt) at facts caused = (caused.0, had script seat last report end cpu inside caused.1.saw)
-  law-caused who earlier before (commands.Drop page) told own (answers.Mapped bt) at facts caused = (caused.0, had script seat last report end cpu inside caused.1.saw)
+  law-caused who earlier before (commands.Drop page) told own (answers.NotResident bt) at facts caused = (caused.0, had script copies seat last report end cpu inside caused.1.saw)
+  law-caused who earlier before (commands.Drop page) told own (answers.Locked bt) at facts caused = (caused.0, had script copies seat last report end cpu inside caused.1.saw)
+  law-caused who earlier before (commands.Drop page) told own (answers.Dirty bt) at facts caused = (caused.0, had script copies seat last report end cpu inside caused.1.saw)
+  law-caused who earlier before (commands.Drop page) told own (answers.Mapped bt) at facts caused = (caused.0, had script copies seat last report end cpu inside caused.1.saw)
   law-caused who earlier before (commands.Sync page) told own (answers.DoneAt bt) at facts caused = (caused.0, stands caused.1.made)
-  law-caused who earlier before (commands.Sync page) told own (answers.NotResident bt) at facts caused = (caused.0, had script seat last report end cpu inside caused.1.saw)
-  law-caused who earlier before (commands.Sync page) told own (answers.BadLines mask bt) at facts caused = (caused.0, bad-lines who page mask bt (had script seat last report end cpu inside caused.1.saw) caused.2)
+  law-caused who earlier before (commands.Sync page) told own (answers.NotResident bt) at facts caused = (caused.0, had script copies seat last report end cpu inside caused.1.saw)
+  law-caused who earlier before (commands.Sync page) told own (answers.BadLines mask bt) at facts caused = (caused.0, bad-lines who page mask bt (had script copies seat last report end cpu inside caused.1.saw) caused.2)
   law-caused who earlier before (commands.Out page) told own (answers.DoneAt bt) at facts caused = (caused.0, stands caused.1.made)
-  law-caused who earlier before (commands.Out page) told own (answers.NotResident bt) at facts caused = (caused.0, had script seat last report end cpu inside caused.1.saw)
-  law-caused who earlier before (commands.Out page) told own (answers.Locked bt) at facts caused = (caused.0, had script seat last report end cpu inside caused.1.saw)
-  law-caused who earlier before (commands.Out page) told own (answers.BadLines mask bt) at facts caused = out-lines who page mask bt caused.0 (had script seat last report end cpu inside caused.1.saw) caused.2
+  law-caused who earlier before (commands.Out page) told own (answers.NotResident bt) at facts caused = (caused.0, had script copies seat last report end cpu inside caused.1.saw)
+  law-caused who earlier before (commands.Out page) told own (answers.Locked bt) at facts caused = (caused.0, had script copies seat last report end cpu inside caused.1.saw)
+  law-caused who earlier before (commands.Out page) told own (answers.BadLines mask bt) at facts caused = out-lines who page mask bt caused.0 (had script copies seat last report end cpu inside caused.1.saw) caused.2
   law-caused who earlier before (commands.Fsync file) told own answers.Done at facts caused = tt
   law-caused who earlier before (commands.Fsync file) told own (answers.Eio more) at facts caused = caused.1
   law-caused who earlier before (commands.Open file) told own (answers.Opened word) at facts caused = tt
-  law-caused who earlier before (commands.Prctl thread args) told own (answers.Gone page) at facts caused = is-gone script seat last report end cpu inside who (commands.Prctl thread args) thread page at refl caused.0
+  law-caused who earlier before (commands.Prctl thread args) told own (answers.Gone page) at facts caused = is-gone script copies seat last report end cpu inside who (commands.Prctl thread args) thread page at refl caused.0
   law-caused who earlier before (commands.Prctl thread args) told own (answers.Sigbus bt) at facts (inl caused) = caused.replied ∙ replied who earlier before thread args
   law-caused who earlier before (commands.Prctl thread args) told own (answers.Sigbus bt) at facts (inr was) = absurd was
   law-caused who earlier before (commands.Prctl thread args) told own answer at facts caused = caused.replied ∙ replied who earlier before thread args
+  law-caused who earlier before (commands.Fork thread process) told own answers.Done at facts caused = tt
+  law-caused who earlier before (commands.Fork thread process) told own (answers.Gone page) at facts caused = is-gone script copies seat last report end cpu inside who (commands.Fork thread process) thread page at refl caused.0
   law-caused who earlier before (commands.Log status addr misc) told own answers.Done at facts caused = tt
   law-caused who earlier before (commands.Watch threshold window) told own answers.Done at facts caused = tt
   law-caused who earlier before (commands.Bad frame line) told own answers.Done at facts caused = tt
   law-caused who earlier before (commands.Weak frame line) told own answers.Done at facts caused = tt
   law-caused who earlier before (commands.RaiseUser thread ripv eipv) told own (answers.Raised n) at facts caused = caused.1.count ∙ sym facts.count
-  law-caused who earlier before (commands.RaiseUser thread ripv eipv) told own (answers.Gone page) at facts caused = is-gone script seat last report end cpu inside who (commands.RaiseUser thread ripv eipv) thread page at refl caused.0
+  law-caused who earlier before (commands.RaiseUser thread ripv eipv) told own (answers.Gone page) at facts caused = is-gone script copies seat last report end cpu inside who (commands.RaiseUser thread ripv eipv) thread page at refl caused.0
   law-caused who earlier before (commands.RaiseKernel ripv eipv) told own (answers.Raised n) at facts caused = caused.count ∙ sym facts.count
   law-caused who earlier before (commands.Scrub first last_frame) told own (answers.Scrubbed n) at facts caused = caused.count ∙ sym facts.count
   law-caused who earlier before (commands.Inject frame) told own answer at facts caused = (caused.0, failure who frame own answer facts.marked caused.1)
@@ -263,17 +266,3 @@ module _ (script : Script) (seat : Cpu → ℕ) (last : State) (report : Report)
   law-caused who earlier before (commands.Unpoison frame) told own answer at facts caused = unpoison who frame own answer facts.revived caused.1
   law-caused who earlier before command told own (answers.Sigbus bt) at facts caused = absurd (neither caused)
   law-caused who earlier before command told own answer at facts caused = absurd caused
-
--- the report shows the cause of an answer
-pub is-caused : (script : Script) (seat : Cpu → ℕ) (last : State) (report : Report) (end : IsEnd script seat last report) → (who : Who) (of : IsOf script end.rows (view_of last (seat who.cpu)) who) → IsLawCaused script report who of.command of.row.answer
-is-caused script seat last report end who of =
-    let row_is : row_at end.rows who ≡ Some of.row = ap (λ (o : Option (List Row)). option_and_then (λ (own : List Row). slice_get own who.seq) o) of.own_is ∙ of.row_is in
-    let before : of.earlier ≡ answered_before script report who = of.earlier_is ∙ ap (take who.seq) (sym (answered-so script seat last report end who.cpu of.list of.own of.list_is of.own_is)) in
-    law-caused script seat last report end who.cpu of.inside who of.earlier before of.command of.row.told of.row.own of.row.answer (command-is script who of.list of.command of.list_is of.command_is)
-    (record {
-      signalled = λ at is. has-signalled (view_of last (seat who.cpu)) who of.command of.row at of.served.accounted is;
-      count = ap (λ (l : List EventLine). length l) (events-told script seat last report end (view_of last (seat who.cpu)) who of) ∙ length-map of.row.told (event_at who.seq);
-      marked = λ frame outcome come. own-mark script seat last report end who of.row row_is (owns.Failed frame come.found) come.own_is (ComesTo outcome) come.outcome_is;
-      offlined = λ frame cycle moved own_is. own-mark script seat last report end who of.row row_is (owns.Offlined frame cycle moved) own_is (λ (m : MarkLine). how_in m ≡ Some (offlined moved)) refl;
-      revived = λ frame cycle own_is. own-mark script seat last report end who of.row row_is (owns.Revived frame cycle) own_is TakesBack tt;
-    }) of.served.caused

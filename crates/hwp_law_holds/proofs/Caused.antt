@@ -3,6 +3,7 @@
 use Rattle.std.proofs.Common.{◌≡◌, ℕ, zero, suc, ◌+◌, ◌<◌, List, [], ◌∷◌, ◌++◌, Option, Some, length, map, slice_get, option_and_then, append_assoc, sym, ap, ◌∙◌, subst, arith, refl}
 use Rattle.std.specs.List.{list_any}
 use Rattle.std.proofs.lemmas.Option.{same_Some}
+use Rattle.hwp_law_records.specs.hwp_geom.declared.VSlot.{VSlot}
 use Rattle.hwp_law_records.specs.hwp_geom.declared.Cpu.{Cpu}
 use Rattle.hwp_law_records.specs.hwp_geom.declared.Who.{Who}
 use Rattle.hwp_law_records.specs.hwp_core_rule.declared.State.{State}
@@ -27,12 +28,12 @@ use Rattle.hwp_law_records.specs.hwp_law_served.Rows.{event_line, lines_from, of
 use Rattle.hwp_law_records.specs.hwp_law_served.Runs.{IsCauseOf, IsRunOf, row_at}
 use Rattle.hwp_law_records.specs.hwp_law_served.Served.{CanStop}
 use Rattle.hwp_law_records.specs.hwp_law_served.Served as served
-use Rattle.hwp_law_holds.proofs.Answered.{is-caused}
+use Rattle.hwp_law_holds.proofs.copied.CopyCaused.{is-caused}
 use Rattle.hwp_law_records.proofs.of_hwp_law_served.RunEnds.{IsEnd, IsOf, command-of, rows-of-lines}
 use Rattle.hwp_law_records.proofs.of_hwp_law_served.LastBoard.{ended, ended-rows}
 use Rattle.hwp_law_records.proofs.of_hwp_law_served.deeds.Made.{command-is, some-so}
 use Rattle.hwp_law_records.proofs.of_hwp_law_served.RowLines.{answer-told, answers-rise, events-told, row-of-line}
-use Rattle.hwp_law_records.proofs.of_hwp_law_served.RowTold.{told-so}
+use Rattle.hwp_law_records.proofs.of_hwp_law_served.copied.CopyTells.{told-so}
 use Rattle.hwp_law_holds.proofs.StopCauses.{can-stop, ends-by}
 use Rattle.hwp_law_records.proofs.of_hwp_law_served.Stops.{StopBy, stopper}
 
@@ -46,13 +47,13 @@ stays-lines rows stays i j m n answer less first second =
     let later : n ≡ 0 + two.k = two.number in
     sym two.answer_is ∙ stays one.k two.k one.row two.row (omega (arith, rise, here, later)) one.row_is two.row_is one.answer_is
 
-module _ (script : Script) (seat : Cpu → ℕ) (turns : List Played) (last : State) (report : Report) (run : IsRunOf script seat turns last report) where
-  abbrev end : IsEnd script seat last report
-  end = ended script seat turns last report run
+module _ (script : Script) (copies : Who → Option VSlot) (seat : Cpu → ℕ) (turns : List Played) (last : State) (report : Report) (run : IsRunOf script copies seat turns last report) where
+  abbrev end : IsEnd script copies seat last report
+  end = ended script copies seat turns last report run
 
   -- where a line ends the machine the command is answered so
-  heeded : (who : Who) (of : IsOf script end.rows (view_of last (seat who.cpu)) who) → IsHeeded report who of.row.answer
-  heeded who of any = of.served.heeded (sym (ends-by who.seq of.row.told) ∙ sym (ap (list_any ends_machine) (events-told script seat last report end (view_of last (seat who.cpu)) who of)) ∙ any)
+  heeded : (who : Who) (of : IsOf script copies end.rows (view_of last (seat who.cpu)) who) → IsHeeded report who of.row.answer
+  heeded who of any = of.served.heeded (sym (ends-by who.seq of.row.told) ∙ sym (ap (list_any ends_machine) (events-told script copies seat last report end (view_of last (seat who.cpu)) who of)) ∙ any)
 
   module _ (cpu : Cpu) (all : List Command) (all_is : slice_get script.lists cpu.0 ≡ Some all) (own : List Row) (own_is : slice_get end.rows cpu.0 ≡ Some own) where
     -- the lines of a command's events, and of frames that were taken out of use beside it, go before its answer
@@ -69,12 +70,12 @@ module _ (script : Script) (seat : Cpu → ℕ) (turns : List Played) (last : St
     one-caused : (n : ℕ) (command : Command) (row : Row) → slice_get all n ≡ Some command → slice_get own n ≡ Some row → IsLawCaused script report (record { cpu = cpu; seq = n }) command row.answer × IsHeeded report (record { cpu = cpu; seq = n }) row.answer
     one-caused n command row command_is row_is =
         let who : Who = record { cpu = cpu; seq = n } in
-        let of = command-of script seat last report end who all command all_is command_is in
+        let of = command-of script copies seat last report end who all command all_is command_is in
         let same_list : of.list ≡ all = same_Some of.list all (sym of.list_is ∙ all_is) in
         let same_command : of.command ≡ command = same_Some of.command command (sym of.command_is ∙ ap (λ (l : List Command). slice_get l n) same_list ∙ command_is) in
         let same_own : of.own ≡ own = same_Some of.own own (sym of.own_is ∙ own_is) in
         let same_row : of.row ≡ row = same_Some of.row row (sym of.row_is ∙ ap (λ (l : List Row). slice_get l n) same_own ∙ row_is) in (
-          subst (λ (r : Row). IsLawCaused script report who command r.answer) same_row (subst (λ (c : Command). IsLawCaused script report who c of.row.answer) same_command (is-caused script seat last report end who of)),
+          subst (λ (r : Row). IsLawCaused script report who command r.answer) same_row (subst (λ (c : Command). IsLawCaused script report who c of.row.answer) same_command (is-caused script copies seat last report end who of)),
           subst (λ (r : Row). IsHeeded report who r.answer) same_row (heeded who of),
         )
 
@@ -99,7 +100,7 @@ module _ (script : Script) (seat : Cpu → ℕ) (turns : List Played) (last : St
 
   pub all-caused : (cpu : Cpu) (list : List Command) (rows : List CpuLine) → slice_get script.lists cpu.0 ≡ Some list → slice_get report.cpus cpu.0 ≡ Some rows → AreCaused script report cpu 0 list rows
   all-caused cpu list rows list_is rows_is =
-      let has = rows-of-lines script seat last report end cpu rows rows_is in
+      let has = rows-of-lines script copies seat last report end cpu rows rows_is in
       let same : has.list ≡ list = same_Some has.list list (sym has.list_is ∙ list_is) in
       let zeroth : (i : ℕ) → i ≡ 0 + i = λ i. omega arith in
       subst (AreCaused script report cpu 0 list) (sym has.lines_are) (caused-from cpu list list_is has.own has.own_is 0 list has.own (λ i c there. subst (λ (k : ℕ). slice_get list k ≡ Some c) (zeroth i) there)
@@ -110,9 +111,9 @@ module _ (script : Script) (seat : Cpu → ℕ) (turns : List Played) (last : St
   stop-of : (stop : Stop) → report.stop ≡ Some stop → IsStopOf script report stop
   stop-of stop is =
       let who : Who = stop.who in
-      let by : StopBy script seat last report end who = stopper script seat last report end stop is in
+      let by : StopBy script copies seat last report end who = stopper script copies seat last report end stop is in
       let cause = run.cause stop is in
-      let of = command-of script seat last report end who by.list by.own.command by.list_is by.own.there in
+      let of = command-of script copies seat last report end who by.list by.own.command by.list_is by.own.there in
       let same_list : of.list ≡ by.list = same_Some of.list by.list (sym of.list_is ∙ by.list_is) in
       let same_own : of.own ≡ by.rows = same_Some of.own by.rows (sym of.own_is ∙ by.rows_is) in
       let same_command : of.command ≡ by.own.command = same_Some of.command by.own.command (sym of.command_is ∙ ap (λ (l : List Command). slice_get l who.seq) same_list ∙ by.own.there) in
@@ -120,20 +121,20 @@ module _ (script : Script) (seat : Cpu → ℕ) (turns : List Played) (last : St
       let at : command_at script who ≡ Some of.command = command-is script who of.list of.command of.list_is of.command_is in
       let caused_command : cause.command ≡ of.command = same_Some cause.command of.command (sym cause.command_is ∙ at) in
       let its : row_at end.rows who ≡ Some of.row = ap (λ (o : Option (List Row)). option_and_then (λ (own : List Row). slice_get own who.seq) o) of.own_is ∙ of.row_is in
-      let caused_row : cause.row ≡ of.row = same_Some cause.row of.row (sym cause.row_is ∙ ap (λ (l : List (List Row)). row_at l who) (sym (ended-rows script seat turns last report run)) ∙ its) in
+      let caused_row : cause.row ≡ of.row = same_Some cause.row of.row (sym cause.row_is ∙ ap (λ (l : List (List Row)). row_at l who) (sym (ended-rows script copies seat turns last report run)) ∙ its) in
       let can : CanStop script.layout of.command of.row.told = subst (λ (c : Command). CanStop script.layout c of.row.told) (sym same_command) (subst (λ (r : Row). CanStop script.layout by.own.command r.told) (sym same_row) by.own.can) in
       let is_cause : IsCauseOf of.command of.row.told stop.cause = subst (λ (c : Command). IsCauseOf c of.row.told stop.cause) caused_command (subst (λ (r : Row). IsCauseOf cause.command r.told stop.cause) caused_row cause.cause) in
       record {
         cause = some-so (λ (command : Command). CanStopFor script report who command stop.cause) (command_at script who) of.command at
-            (can-stop script report (view_of last (seat who.cpu)) who of.command of.row.told (current_thread of.command) stop.cause (events-told script seat last report end (view_of last (seat who.cpu)) who of)
-            (told-so script.layout (view_of last (seat who.cpu)) who of.command of.row.answer of.before of.row.told of.after of.served.told) can is_cause);
-        answered = answer-told script seat last report end (view_of last (seat who.cpu)) who of ∙ ap (λ (r : Row). Some r.answer) same_row ∙ ap (λ (a : Answer). Some a) by.own.answered.stopped;
+            (can-stop script report (view_of last (seat who.cpu)) who of.command of.row.told (current_thread of.command) stop.cause (events-told script copies seat last report end (view_of last (seat who.cpu)) who of)
+            (told-so script.layout (view_of last (seat who.cpu)) who (copies who) of.command of.row.answer of.before of.row.told of.after of.served.told) can is_cause);
+        answered = answer-told script copies seat last report end (view_of last (seat who.cpu)) who of ∙ ap (λ (r : Row). Some r.answer) same_row ∙ ap (λ (a : Answer). Some a) by.own.answered.stopped;
       }
 
   pub stop-agrees : StopAgrees script report
   stop-agrees = record {
     caused = stop-of;
     stays = λ cpu rows rows_is.
-        let has = rows-of-lines script seat last report end cpu rows rows_is in
+        let has = rows-of-lines script copies seat last report end cpu rows rows_is in
         subst StaysStopped (sym has.lines_are) (stays-lines has.own has.served.stays);
   }

@@ -1,6 +1,8 @@
 -- The report of a run keeps the whole law.
 use Rattle.hwp_law_records.specs.hwp_geom.declared.Cpu.{Cpu}
-use Rattle.std.proofs.Common.{ℕ, List}
+use Rattle.std.proofs.Common.{ℕ, List, Option}
+use Rattle.hwp_law_records.specs.hwp_geom.declared.Who.{Who}
+use Rattle.hwp_law_records.specs.hwp_geom.declared.VSlot.{VSlot}
 use Rattle.hwp_law_records.specs.hwp_core_rule.declared.State.{State}
 use Rattle.hwp_law_records.specs.hwp_core_task.Boards.{Played}
 use Rattle.hwp_law_records.specs.hwp_script_read.declared.Script.{Script}
@@ -20,39 +22,52 @@ use Rattle.hwp_law_records.proofs.lines.Events.{events-are}
 use Rattle.hwp_law_sights.proofs.policies.Policies.{are-seen, never-falls}
 use Rattle.hwp_law_records.proofs.of_hwp_law_served.Windows.{states-in-windows}
 
-module _ (script : Script) (seat : Cpu → ℕ) (turns : List Played) (last : State) (report : Report) (run : IsRunOf script seat turns last report) where
-  abbrev end : IsEnd script seat last report
-  end = ended script seat turns last report run
+use Rattle.hwp_law_records.specs.hwp_script_read.Valid.{IsValid}
+use Rattle.hwp_law_records.specs.hwp_law.Acting.{acting_script, copied_at}
+use Rattle.hwp_law_private.proofs.Private.{private-holds}
+use Rattle.hwp_law_records.proofs.of_hwp_law_served.copied.CopyLast.{last-stores}
+use Rattle.hwp_law_holds.proofs.copied.CopyWords.{copies-keep-words}
+use Rattle.hwp_law_holds.proofs.copied.LossesActed.{losses-acted}
+
+module _ (script : Script) (copies : Who → Option VSlot) (seat : Cpu → ℕ) (turns : List Played) (last : State) (report : Report) (run : IsRunOf script copies seat turns last report) where
+  abbrev end : IsEnd script copies seat last report
+  end = ended script copies seat turns last report run
 
   pub shape-fits : HasShape script report
   shape-fits = record { version = run.lengths.version; frames = run.lengths.frames; pages = run.lengths.pages; cpus = run.lengths.cpus }
 
-  pub histories-fit : HistoriesFit script report
+  pub histories-fit : HistoriesFit script copies report
   histories-fit = record {
     legal = histories-lead script.layout last report end.board;
-    made = entries-made-by script seat last report end;
+    made = entries-made-by script copies seat last report end;
     ordered = histories-ordered script.layout last report end.board;
-    seen = are-seen script seat turns last report run;
-    falls_never = never-falls script seat turns last report run;
+    seen = are-seen script copies seat turns last report run;
+    falls_never = never-falls script copies seat turns last report run;
   }
 
-  pub answers-fit : AnswersFit script report
+  pub answers-fit : AnswersFit script copies report
   answers-fit = record {
-    caused = all-caused script seat turns last report run;
-    named = entries-named script seat last report end;
-    windows = states-in-windows script seat last report end;
-    endings = endings-stay script seat turns last report run;
-    events = events-are script seat turns last report run;
-    stop = stop-agrees script seat turns last report run;
-    offlined = are-offlined script seat last report end;
+    caused = all-caused script copies seat turns last report run;
+    named = entries-named script copies seat last report end;
+    last = last-stores script copies seat last report end;
+    windows = states-in-windows script copies seat last report end;
+    endings = endings-stay script copies seat turns last report run;
+    events = events-are script copies seat turns last report run;
+    stop = stop-agrees script copies seat turns last report run;
+    offlined = are-offlined script copies seat last report end;
   }
 
-  -- the whole
-  pub law-holds : IsLawful script report
-  law-holds = record {
-    shape = shape-fits;
-    histories = histories-fit;
-    answers = answers-fit;
-    frames = frames-lawful script seat turns last report run;
-    losses = losses-lawful script seat turns last report run;
-  }
+-- the whole, of what the processors of a script acted on
+pub law-holds : (script : Script) → IsValid script → (seat : Cpu → ℕ) (turns : List Played) (last : State) (report : Report) → IsRunOf (acting_script script report) (copied_at script report) seat turns last report → IsLawful script report
+law-holds script valid seat turns last report run =
+    let acted : Script = acting_script script report in
+    let histories : HistoriesFit (acting_script script report) (copied_at script report) report = histories-fit acted (copied_at script report) seat turns last report run in
+    let answers : AnswersFit (acting_script script report) (copied_at script report) report = answers-fit acted (copied_at script report) seat turns last report run in
+    record {
+      shape = record { version = run.lengths.version; frames = run.lengths.frames; pages = run.lengths.pages; cpus = run.lengths.cpus };
+      histories = histories;
+      answers = answers;
+      frames = frames-lawful acted (copied_at script report) seat turns last report run;
+      losses = losses-acted script report (losses-lawful acted (copied_at script report) seat turns last report run);
+      private = private-holds script report valid histories answers (copies-keep-words acted (copied_at script report) seat last report (ended acted (copied_at script report) seat turns last report run));
+    }

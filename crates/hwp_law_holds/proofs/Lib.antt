@@ -5,6 +5,7 @@ pub mod StopCauses
 pub mod Caused
 pub mod OfflinedLines
 pub mod Lawful
+pub mod copied
 pub mod Settled
 pub mod Retired
 pub mod AllowedThere

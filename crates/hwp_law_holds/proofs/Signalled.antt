@@ -5,6 +5,7 @@ use Rattle.std.specs.FinSet as set
 use Rattle.std.specs.Ordering.{nat_cmp}
 use Rattle.std.proofs.lemmas.List.Folds.{Any-from_list_any}
 use Rattle.std.proofs.lemmas.Option.{none-some}
+use Rattle.hwp_law_records.specs.hwp_geom.declared.VSlot.{VSlot}
 use Rattle.hwp_law_records.specs.hwp_geom.declared.Cpu.{Cpu}
 use Rattle.hwp_law_records.specs.hwp_geom.declared.Layout.{Layout}
 use Rattle.hwp_law_records.specs.hwp_geom.declared.Page.{Page}
@@ -74,7 +75,7 @@ own-thread thread severities.Deferred one is = absurd (none-some one is)
 own-thread thread severities.Logged one is = absurd (none-some one is)
 own-thread thread severities.Optional one is = absurd (none-some one is)
 
-module _ (script : Script) (seat : Cpu → ℕ) (last : State) (report : Report) (end : IsEnd script seat last report) (cpu : Cpu) (inside : cpu.0 < script.layout.cpus) where
+module _ (script : Script) (copies : Who → Option VSlot) (seat : Cpu → ℕ) (last : State) (report : Report) (end : IsEnd script copies seat last report) (cpu : Cpu) (inside : cpu.0 < script.layout.cpus) where
   pub signalled-sends : (who : Who) (command : Command) (at : At) → HasSignalled (view_of last (seat cpu)) who command at → IsSigbus report who command at
   signalled-sends who command at has =
       let f : Failed = signalling (current_thread command) has.t has.found at in

@@ -20,3 +20,7 @@ pub use Rattle.hwp_law_served.specs.hwp_scrub as hwp_scrub
 pub use Rattle.hwp_law_served.specs.hwp_severity as hwp_severity
 pub use Rattle.hwp_law_served.specs.hwp_soft_move as hwp_soft_move
 pub use Rattle.hwp_law_served.specs.hwp_words as hwp_words
+pub use Rattle.hwp_law_served.specs.hwp_fault as hwp_fault
+pub use Rattle.hwp_law_served.specs.hwp_fork as hwp_fork
+pub use Rattle.hwp_law_served.specs.hwp_cpu_access as hwp_cpu_access
+pub use Rattle.hwp_law_served.specs.hwp_cpu_copy as hwp_cpu_copy

@@ -64,10 +64,10 @@ Rising layout v = Rises layout v.made v.lengths
 -- ---- where entries stand
 
 -- 1 at this place of the page, and 0 elsewhere
-abbrev is_at : Page → ℕ → Page → ℕ → Entry → ℕ
+abbrev pub is_at : Page → ℕ → Page → ℕ → Entry → ℕ
 is_at page place p n e = from_bool ((p.0 == page.0) && (n == place))
 
-at-one : (page : Page) (place : ℕ) (e : Entry) → is_at page place page place e ≡ 1
+pub at-one : (page : Page) (place : ℕ) (e : Entry) → is_at page place page place e ≡ 1
 at-one page place e = ap from_bool (and_from (page.0 == page.0) (place == place) (eq-eqb page.0 page.0 refl) (eq-eqb place place refl))
 
 was-true : (b : Bool) → 0 < from_bool b → b ≡ true
@@ -75,7 +75,7 @@ was-true true above = refl
 was-true false above = absurd (omega (arith, above))
 
 -- where it is above 0 for a history, the history is the page's and longer than the place
-at-within : (page : Page) (place : ℕ) (log : Log) (from : ℕ) (es : List Entry) → 0 < weigh_from (is_at page place) log.page from es → (log.page.0 ≡ page.0) × (place < from + length es)
+pub at-within : (page : Page) (place : ℕ) (log : Log) (from : ℕ) (es : List Entry) → 0 < weigh_from (is_at page place) log.page from es → (log.page.0 ≡ page.0) × (place < from + length es)
 at-within page place log from [] above = absurd (omega arith)
 at-within page place log from (e ∷ es) above = which (λ more. at-within page place log (suc from) es more) (is_at page place log.page from e) refl
   where
@@ -90,7 +90,7 @@ at-within page place log from (e ∷ es) above = which (λ more. at-within page 
         (eqb-true log.page.0 page.0 is.0, (let longer : length (e ∷ es) ≡ suc (length es) = refl in omega arith))
 
 -- 1 for a history of the page
-abbrev is_of : ℕ → Log → ℕ
+abbrev pub is_of : ℕ → Log → ℕ
 is_of q log = from_bool (log.page.0 == q)
 
 module _ (layout : Layout) (s : State) (h : Holds layout s) where

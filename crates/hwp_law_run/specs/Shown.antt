@@ -1,5 +1,5 @@
 -- The words and lengths that answers rest on: each stands at a step of its own command.
-use Rattle.std.specs.Prelude.{◌≡◌, ◌≢◌, ◌⊎◌, ℕ, ◌+◌, ◌<◌, Bool, true, false, List, Some, IsSomeAnd, length, slice_get, take}
+use Rattle.std.specs.Prelude.{◌≡◌, ◌≢◌, ◌⊎◌, ℕ, ◌+◌, ◌<◌, Bool, true, false, List, Option, None, Some, IsSomeAnd, length, slice_get, take}
 use Rattle.hwp_law.specs.hwp_geom.declared.Cpu.{Cpu}
 use Rattle.hwp_law.specs.hwp_geom.declared.FileNo.{FileNo}
 use Rattle.hwp_law.specs.hwp_geom.declared.Frame.{Frame}
@@ -37,7 +37,7 @@ use Rattle.hwp_law.specs.hwp_report_text.Offlines.{offline_answer}
 use Rattle.hwp_law.specs.hwp_law_commands.Commands.{command_at, process_at}
 use Rattle.hwp_law.specs.Lines.{answer_of, answered, events_of, offlined_of}
 use Rattle.hwp_law.specs.Losses.{numbers_after, tells_number}
-use Rattle.hwp_law.specs.Runs.{slot_of}
+use Rattle.hwp_law.specs.Runs.{slot_ended}
 use Rattle.hwp_law_run.specs.Turns.{Finds, FindsBad, SawPage, TurnBy}
 
 -- the machine had stopped, or the command stopped it by a step of its own
@@ -92,10 +92,10 @@ pub record RevivalShown (layout : Layout) (turns : List Played) (who : Who) (fra
 abbrev pub LengthShown : Layout → List Played → Who → At → Type 0
 LengthShown layout turns who at = SawPage layout turns who at.page (λ (log : Log). length log.entries ≡ at.entry)
 
--- no frame was available, and an access found its page in none, when its seat had the page's lock and body
-pub record NoFrameShown (script : Script) (turns : List Played) (who : Who) (command : Command) : Type 0 where
+-- no frame was available, and an access found the page of its translation in none, when its seat had the page's lock and body
+pub record NoFrameShown (script : Script) (turns : List Played) (who : Who) (through : Option VSlot) : Type 0 where
   pub available : Finds script.layout turns who places.Available (λ (word : ℕ). word ≡ 0)
-  pub out : (slot : VSlot) (page : Page) → slot_of command ≡ Some slot → IsOf script.layout page slot → SawPage script.layout turns who page (λ (log : Log). (state_of script.layout log).cached ≡ false)
+  pub out : (slot : VSlot) (page : Page) → through ≡ Some slot → IsOf script.layout page slot → SawPage script.layout turns who page (λ (log : Log). (state_of script.layout log).cached ≡ false)
 
 -- what an answer about a frame rests on
 abbrev pub FrameAnswerShown : Layout → List Played → Who → Frame → Answer → Type 0
@@ -116,18 +116,18 @@ CommandAnswerShown layout turns who (commands.Unpoison frame) answers.Done = Rev
 CommandAnswerShown layout turns who (commands.Unpoison frame) answer = FrameAnswerShown layout turns who frame answer
 CommandAnswerShown layout turns who command answer = Unit {0}
 
--- the words and lengths that an answer rests on were shown to its command
-abbrev pub AnswerShown : Script → List Played → Who → Command → Answer → Type 0
-AnswerShown script turns who command answers.Stopped = StopShown script.layout turns who
-AnswerShown script turns who command (answers.Gone page) = GoneShown script turns who page
-AnswerShown script turns who command answers.NoFrame = NoFrameShown script turns who command
-AnswerShown script turns who command (answers.NotResident at) = LengthShown script.layout turns who at
-AnswerShown script turns who command (answers.NotMapped at) = LengthShown script.layout turns who at
-AnswerShown script turns who command (answers.Dirty at) = LengthShown script.layout turns who at
-AnswerShown script turns who command (answers.Mapped at) = LengthShown script.layout turns who at
-AnswerShown script turns who command (answers.Locked at) = LengthShown script.layout turns who at
-AnswerShown script turns who command (answers.BadLines mask at) = LengthShown script.layout turns who at × ((frame : Frame) × FindsBad script.layout turns who at.page frame mask.0)
-AnswerShown script turns who command answer = CommandAnswerShown script.layout turns who command answer
+-- the words and lengths that an answer rests on were shown to its command, an access through this translation if it is one
+abbrev pub AnswerShown : Script → List Played → Who → Option VSlot → Command → Answer → Type 0
+AnswerShown script turns who through command answers.Stopped = StopShown script.layout turns who
+AnswerShown script turns who through command (answers.Gone page) = GoneShown script turns who page
+AnswerShown script turns who through command answers.NoFrame = NoFrameShown script turns who through
+AnswerShown script turns who through command (answers.NotResident at) = LengthShown script.layout turns who at
+AnswerShown script turns who through command (answers.NotMapped at) = LengthShown script.layout turns who at
+AnswerShown script turns who through command (answers.Dirty at) = LengthShown script.layout turns who at
+AnswerShown script turns who through command (answers.Mapped at) = LengthShown script.layout turns who at
+AnswerShown script turns who through command (answers.Locked at) = LengthShown script.layout turns who at
+AnswerShown script turns who through command (answers.BadLines mask at) = LengthShown script.layout turns who at × ((frame : Frame) × FindsBad script.layout turns who at.page frame mask.0)
+AnswerShown script turns who through command answer = CommandAnswerShown script.layout turns who command answer
 
 -- every other answer of a thread's command than `gone` and `stopped` found its process going on
 abbrev pub GoesOn : Layout → List Played → Who → Proc → Answer → Type 0
@@ -143,7 +143,7 @@ RunningShown layout turns who answer = Finds layout turns who places.Stop (λ (w
 -- what came of a frame that the command took out of use rests on the same as the answer of a `soft` of the frame
 abbrev pub OfflineShown : Script → List Played → Who → OfflinedLine → Type 0
 OfflineShown script turns who line =
-    AnswerShown script turns who (commands.Soft line.frame) (offline_answer line.result) × RunningShown script.layout turns who (offline_answer line.result)
+    AnswerShown script turns who None (commands.Soft line.frame) (offline_answer line.result) × RunningShown script.layout turns who (offline_answer line.result)
 
 -- an event's frame that was poisoned already was seen so
 abbrev pub AlreadyShown : Layout → List Played → Who → EventLine → Type 0
@@ -159,9 +159,10 @@ abbrev pub NumbersShown : Layout → List Played → Cpu → List Command → Li
 NumbersShown layout turns cpu list rows =
     (file : FileNo) (i : ℕ) (p : Command × Answer) → slice_get {X = Command × Answer} (answered list rows) i ≡ Some p → tells_number file p.0 p.1 ≡ true → NumberShown layout turns file cpu (answered list rows) i
 
--- each answer, each line of an event and of a frame taken out of use, and each number of a handle rests on what its command was shown
-pub record IsShown (script : Script) (report : Report) (turns : List Played) : Type 0 where
-  pub answers : (who : Who) (command : Command) (answer : Answer) → command_at script who ≡ Some command → answer_of report who ≡ Some answer → AnswerShown script turns who command answer
+-- each answer, each line of an event and of a frame taken out of use, and each number of a handle rests on what its command was shown; a
+-- store that copies a page first ended through the translation of its last access
+pub record IsShown (script : Script) (copies : Who → Option VSlot) (report : Report) (turns : List Played) : Type 0 where
+  pub answers : (who : Who) (command : Command) (answer : Answer) → command_at script who ≡ Some command → answer_of report who ≡ Some answer → AnswerShown script turns who (slot_ended script copies report who) command answer
   pub going : (who : Who) (process : Proc) (answer : Answer) → process_at script who ≡ Some process → answer_of report who ≡ Some answer → GoesOn script.layout turns who process answer
   pub running : (who : Who) (command : Command) (answer : Answer) → command_at script who ≡ Some command → answer_of report who ≡ Some answer → RunningShown script.layout turns who answer
   pub events : (who : Who) → EachMember (AlreadyShown script.layout turns who) (events_of report who)

@@ -17,6 +17,7 @@ use Rattle.hwp_law_run.specs.hwp_core_task.Known.{deeds}
 use Rattle.hwp_soft.specs.hwp_claim_act.Abandoned.{failed_in}
 use Rattle.hwp_soft.specs.hwp_claim_frame.Done.{marking_of}
 use Rattle.hwp_law_run.specs.hwp_script_read.declared.Command.{Command}
+use Rattle.hwp_law_run.specs.hwp_report_text.declared.Answer.{Answer}
 use Rattle.hwp_cpu_row.specs.declared.Row.{Row}
 use Rattle.hwp_law_served.specs.Accounts.{IsAccounted, is_same}
 use Rattle.hwp_law_served.proofs.StepAdds.{Adds, OneMore, adds-by}
@@ -64,8 +65,8 @@ module _ {layout : Layout} {by : Who} {step : Step} {put : Option Log} {old new 
   pub marks-stay : (who : Who) → who ≢ by → filter (λ (m : Mark). is_same who m.stamp.who) new.marks ≡ filter (λ (m : Mark). is_same who m.stamp.who) old.marks
   marks-stay who other = kept (λ (m : Mark). m.stamp.who) _ who by other (λ m own. own) old.marks new.marks more-marks
 
-  pub account-stays : (who : Who) → who ≢ by → deeds who new ≡ deeds who old → (command : Command) (row : Row) → IsAccounted old who command row → IsAccounted new who command row
-  account-stays who other same command row was = record {
+  pub account-stays : (who : Who) → who ≢ by → deeds who new ≡ deeds who old → (earlier : List (Command × Answer)) (command : Command) (row : Row) → IsAccounted layout earlier old who command row → IsAccounted layout earlier new who command row
+  account-stays who other same earlier command row was = record {
     marked = ap (map marking_of) (marks-stay who other) ∙ was.marked;
     failed = ap (filter_map failed_in) same ∙ was.failed;
     set = ap (map (λ (s : Setting). (s.thread, s.policy))) (kept (λ (s : Setting). s.stamp.who) _ who by other (λ s own. own.0) old.settings new.settings more-settings) ∙ was.set;

@@ -28,13 +28,12 @@ use Rattle.hwp_law_run.specs.hwp_severity.Handling.{has_stop}
 use Rattle.hwp_law_run.specs.hwp_law_commands.Commands.{arrival_of, is_check}
 use Rattle.hwp_law_run.specs.hwp_severity.declared.Arrival.{Arrival}
 use Rattle.hwp_soft.specs.hwp_claim.declared.Found.{Found}
-use Rattle.hwp_cpu_row.specs.declared.Row.{Row}
 use Rattle.hwp_cpu_row.specs.hwp_cpu_check.declared.EventOutcome.{EventOutcome}
 use Rattle.hwp_cpu_row.specs.hwp_cpu_check.Checks.{AreChecks, Check, IsActedOn, IsCheck}
 use Rattle.hwp_cpu_row.specs.hwp_cpu_check.Fits.{IsEntered}
 use Rattle.hwp_cpu_row.proofs.of_hwp_cpu_check.FailureKeeps.{Stay, told-stays}
 use Rattle.hwp_scrub.proofs.VisitLaws.{bad-stays, visits-stay}
-use Rattle.hwp_law_served.specs.Told.{AreToldBy, IsAccessTold, IsCutShort, IsRaiseTold, IsScrubTold, IsRowTold, IsUntold, is_raised}
+use Rattle.hwp_law_served.specs.Told.{AreToldBy, IsAccessTold, IsCutShort, IsRaiseTold, IsScrubTold, IsUntold, is_raised}
 use Rattle.hwp_law_served.proofs.AccountKeeps.{marks-stay}
 
 module _ {layout : Layout} {by : Who} {step : Step} {body : Option BodyValue} {old new : View} {found : ℕ} {got : Option BodyValue} (can : CanMake layout by step body old) (made : Steps layout by step (logs body) old new found got)
@@ -76,7 +75,7 @@ module _ {layout : Layout} {by : Who} {step : Step} {body : Option BodyValue} {o
     acted_on = acted-on-stays (Some thread) _ _ c.lines is.acted_on;
   }
 
-  checks-stay : (thread : Thread) (line : ℕ) (origin : Origin) (mode : Mode) (banks : Banks) (checks : List Check) → AreChecks layout old who thread line origin mode banks checks
+  pub checks-stay : (thread : Thread) (line : ℕ) (origin : Origin) (mode : Mode) (banks : Banks) (checks : List Check) → AreChecks layout old who thread line origin mode banks checks
       → AreChecks layout new who thread line origin mode banks checks
   checks-stay thread line origin mode banks [] are = tt
   checks-stay thread line origin mode banks (c ∷ cs) are = (check-stays thread line origin mode banks c are.0, checks-stay thread line origin mode _ cs are.1)
@@ -123,7 +122,8 @@ module _ {layout : Layout} {by : Who} {step : Step} {body : Option BodyValue} {o
   }
   scrub-stays first last answer before told after is = cut-stays first last before told after is
 
-  told-by-stays : (command : Command) (answer : Answer) (before : Banks) (told : List EventOutcome) (after : Banks) → AreToldBy layout old who command answer before told after → AreToldBy layout new who command answer before told after
+  -- what another command told stays
+  pub told-by-stays : (command : Command) (answer : Answer) (before : Banks) (told : List EventOutcome) (after : Banks) → AreToldBy layout old who command answer before told after → AreToldBy layout new who command answer before told after
   told-by-stays (commands.Load thread slot line) answer before told after is = access-stays thread line origins.Access modes.User before told after is
   told-by-stays (commands.Fetch thread slot line) answer before told after is = access-stays thread line origins.Fetch modes.User before told after is
   told-by-stays (commands.KLoad thread slot line) answer before told after is = access-stays thread line origins.Access modes.Kernel before told after is
@@ -132,7 +132,3 @@ module _ {layout : Layout} {by : Who} {step : Step} {body : Option BodyValue} {o
   told-by-stays (commands.RaiseKernel ripv eipv) answer before told after is = raise-stays None (arrival_of (commands.RaiseKernel ripv eipv)) answer before told after is
   told-by-stays (commands.Scrub first last) answer before told after is = scrub-stays first last answer before told after is
   told-by-stays command answer before told after is = is
-
-  -- what a row tells of another command stays
-  pub row-told-stays : (command : Command) (before : Banks) (row : Row) (after : Banks) → IsRowTold layout old who command before row after → IsRowTold layout new who command before row after
-  row-told-stays command before row after is = told-by-stays command row.answer before row.told after is

@@ -47,13 +47,15 @@ use Rattle.hwp_cpu_row.specs.declared.FrameChange.{FrameChange}
 use Rattle.hwp_cpu_row.specs.declared.Offlining.{Offlining}
 use Rattle.hwp_cpu_row.specs.declared.Row.{Row}
 use Rattle.hwp_cpu_row.specs.hwp_cpu_check.declared.EventOutcome.{EventOutcome}
-use Rattle.hwp_law_served.specs.Causes.{FoundGone, FoundNoFrame, FoundPoisoned, FoundState, FoundStopped, FoundBadLines, HasCome, HasFailed, HasMoved, HasOnlyBegun, HasOnlyMet, HasSpoiledLine, HasTaken, IsAnswerCaused, IsCaused, IsCopyCaused, IsInjectCaused, IsLoadCaused, IsOfflineCaused, IsPageCaused, IsReplied, IsSoftCaused, IsStoreCaused, IsTableCaused, MadeOne, Reached, SawBadLines, SawProcess, WasRaised, WasSignalled, IsUnpoisonCaused}
+use Rattle.hwp_law_served.specs.Causes.{FoundGone, FoundNoFrame, FoundPoisoned, FoundState, FoundStopped, FoundBadLines, HasCome, HasFailed, HasMoved, HasOnlyBegun, HasOnlyMet, HasSpoiledLine, HasTaken, IsAnswerCaused, IsCausedWith, IsCopiedOut, IsInjectCaused, IsLoadCaused, IsOfflineCaused, IsPageCaused, IsReplied, IsSoftCaused, IsStoreCaused, IsTableCaused, MadeOne, Reached, SawBadLines, SawProcess, WasRaised, WasSignalled, IsUnpoisonCaused}
 use Rattle.hwp_law_served.specs.Offlinings.{AreBeside, IsOfflineServed, left_among}
 use Rattle.hwp_law_served.specs.Served.{IsOffliningServed, IsRowServed, SawRunning}
 use Rattle.hwp_law_served.proofs.AccountKeeps.{account-stays}
 use Rattle.hwp_law_served.proofs.StepAdds.{some-more}
 use Rattle.hwp_law_served.proofs.lines.Spoils.{spoils-by}
-use Rattle.hwp_law_served.proofs.CheckTells.{deeds-stay, entered-stays, row-told-stays}
+use Rattle.hwp_law_served.specs.Told.{AreToldWith}
+use Rattle.hwp_law_served.proofs.CheckTells.{deeds-stay, entered-stays, told-by-stays}
+use Rattle.hwp_law_served.proofs.copied.CopyStays.{copy-caused-stays, copy-told-stays}
 
 -- ---- stops
 
@@ -189,7 +191,7 @@ module _ {layout : Layout} {by : Who} {step : Step} {body : Option BodyValue} {o
   lines-stay : (page : Page) (mask : Mask) → SawBadLines layout old who page mask → SawBadLines layout new who page mask
   lines-stay page mask lines = record { some = lines.some; frame = lines.frame; inside = lines.inside; saw = saw-bad-of-stays made page lines.saw }
 
-  copy-stays : (page : Page) (what : What) (answer : Answer) → IsCopyCaused layout old who page what answer → IsCopyCaused layout new who page what answer
+  copy-stays : (page : Page) (what : What) (answer : Answer) → IsCopiedOut layout old who page what answer → IsCopiedOut layout new who page what answer
   copy-stays page what (answers.BadLines mask at) caused = (caused.0, state-stays at _ caused.1, lines-stay page mask caused.2)
   copy-stays page what answer caused = page-stays page what answer caused
 
@@ -285,6 +287,8 @@ module _ {layout : Layout} {by : Who} {step : Step} {body : Option BodyValue} {o
   table-stays earlier (commands.Open file) (answers.Opened word) caused = made-none-later caused
   table-stays earlier (commands.Prctl thread args) (answers.Gone page) caused = (gone-stays thread page caused.0, made-none-later caused.1)
   table-stays earlier (commands.Prctl thread args) answer caused = replied-stays earlier thread _ answer caused
+  table-stays earlier (commands.Fork thread process) answers.Done caused = (saw-process-stays thread 0 caused.0, made-none-later caused.1)
+  table-stays earlier (commands.Fork thread process) (answers.Gone page) caused = (gone-stays thread page caused.0, made-none-later caused.1)
   table-stays earlier (commands.Log status addr misc) answers.Done caused = made-none-later caused
   table-stays earlier (commands.Watch threshold window) answers.Done caused = made-none-later caused
   table-stays earlier (commands.Bad frame line) answers.Done caused = spoiled-stays frame line _ caused
@@ -322,8 +326,18 @@ module _ {layout : Layout} {by : Who} {step : Step} {body : Option BodyValue} {o
   answer-stays earlier command told own (answers.Sigbus at) caused = either-stays earlier command told at caused
   answer-stays earlier command told own answer caused = table-stays earlier command answer caused
 
-  pub caused-stays : (earlier : List (Command × Answer)) (command : Command) (row : Row) → IsCaused layout earlier old who command row → IsCaused layout earlier new who command row
-  caused-stays earlier command row caused = answer-stays earlier command row.told row.own row.answer caused
+  -- where it copied a page first, too
+  pub caused-stays : (earlier : List (Command × Answer)) (copied : Option VSlot) (command : Command) (before : Banks) (told : List EventOutcome) (own : Option FrameChange) (answer : Answer)
+      → IsCausedWith layout earlier copied old who command before told own answer → IsCausedWith layout earlier copied new who command before told own answer
+  caused-stays earlier None command before told own answer caused = answer-stays earlier command told own answer caused
+  caused-stays earlier (Some from) (commands.Store thread to line word) before told own answer caused = copy-caused-stays can made who other stops-stay thread from to line word before told answer caused
+  caused-stays earlier (Some from) command before told own answer caused = absurd caused
+
+  -- and what it told
+  told-stays : (copied : Option VSlot) (command : Command) (answer : Answer) (before : Banks) (told : List EventOutcome) (after : Banks) → AreToldWith layout copied old who command answer before told after → AreToldWith layout copied new who command answer before told after
+  told-stays None command answer before told after is = told-by-stays can made who other command answer before told after is
+  told-stays (Some from) (commands.Store thread to line word) answer before told after is = copy-told-stays can made who other thread from to line word before told after is
+  told-stays (Some from) command answer before told after is = absurd is
 
   -- ---- frames that were taken out of use beside another command
 
@@ -346,11 +360,11 @@ module _ {layout : Layout} {by : Who} {step : Step} {body : Option BodyValue} {o
   beside-stays command row are = ap left_among same-deeds ∙ are
 
   -- what another command that is answered has done and told stays
-  pub row-stays : (earlier : List (Command × Answer)) (command : Command) (before : Banks) (row : Row) (left : Banks) → IsRowServed layout earlier old who command before row left → IsRowServed layout earlier new who command before row left
-  row-stays earlier command before row left served = record {
-    caused = caused-stays earlier command row served.caused;
-    accounted = account-stays made who other same-deeds command row served.accounted;
-    told = row-told-stays can made who other command before row left served.told;
+  pub row-stays : (earlier : List (Command × Answer)) (copied : Option VSlot) (command : Command) (before : Banks) (row : Row) (left : Banks) → IsRowServed layout earlier copied old who command before row left → IsRowServed layout earlier copied new who command before row left
+  row-stays earlier copied command before row left served = record {
+    caused = caused-stays earlier copied command before row.told row.own row.answer served.caused;
+    accounted = account-stays made who other same-deeds earlier command row served.accounted;
+    told = told-stays copied command row.answer before row.told left served.told;
     heeded = served.heeded;
     running = running-stays served.running;
     beside = beside-stays command row served.beside;

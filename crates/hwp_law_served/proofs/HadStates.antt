@@ -1,5 +1,6 @@
 -- What a processor saw of a page is a state that the page had in the report's history.
-use Rattle.std.proofs.Common.{◌≡◌, ℕ, ◌<◌, Some, length, slice_get, sym, ap, ◌∙◌, subst}
+use Rattle.std.proofs.Common.{◌≡◌, ℕ, ◌<◌, Some, length, slice_get, sym, ap, ◌∙◌, subst, Option}
+use Rattle.hwp_law_run.specs.hwp_geom.declared.VSlot.{VSlot}
 use Rattle.hwp_law_run.specs.hwp_geom.declared.Cpu.{Cpu}
 use Rattle.hwp_law_run.specs.hwp_geom.declared.Page.{Page}
 use Rattle.hwp_law_run.specs.hwp_geom.declared.Who.{Who}
@@ -18,7 +19,7 @@ use Rattle.hwp_law_run.specs.hwp_law.States.{HadState}
 use Rattle.hwp_law_run.proofs.Reported.{seen-had}
 use Rattle.hwp_law_served.proofs.RunEnds.{IsEnd}
 
-module _ (script : Script) (seat : Cpu → ℕ) (last : State) (report : Report) (end : IsEnd script seat last report) (cpu : Cpu) (inside : cpu.0 < script.layout.cpus) where
+module _ (script : Script) (copies : Who → Option VSlot) (seat : Cpu → ℕ) (last : State) (report : Report) (end : IsEnd script copies seat last report) (cpu : Cpu) (inside : cpu.0 < script.layout.cpus) where
   abbrev view : View
   view = view_of last (seat cpu)
 

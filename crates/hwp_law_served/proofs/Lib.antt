@@ -22,6 +22,7 @@ pub mod marks
 pub mod lines
 pub mod deeds
 pub mod losses
+pub mod copied
 pub mod HadStates
 pub use Rattle.hwp_law_run.proofs.of_hwp_core_rule as of_hwp_core_rule
 pub use Rattle.hwp_law_run.proofs.of_hwp_core_task as of_hwp_core_task

@@ -5,6 +5,7 @@ use Rattle.std.specs.List.{find, zip}
 use Rattle.std.proofs.lemmas.Bool.{eq-eqb, ne_eqb}
 use Rattle.std.proofs.lemmas.List.Elements.{filter-append, filter_map-append}
 use Rattle.std.proofs.lemmas.Option.{none-some, same_Some, slice_get_within}
+use Rattle.hwp_law_run.specs.hwp_geom.declared.VSlot.{VSlot}
 use Rattle.hwp_law_run.specs.hwp_geom.declared.Cpu.{Cpu}
 use Rattle.hwp_law_run.specs.hwp_geom.declared.Who.{Who}
 use Rattle.hwp_law_run.specs.hwp_core_rule.declared.State.{State}
@@ -269,21 +270,21 @@ events-past = kind-past event_in (λ (l : EventLine). l.seq) event_at (λ (r : R
 offlined-past : (n : ℕ) (rows : List Row) (k m : ℕ) → slice_get rows k ≡ None → m ≡ n + k → offlined_among (lines_from n rows) m ≡ []
 offlined-past = kind-past offlined_in (λ (l : OfflinedLine). l.seq) offlined_at (λ (r : Row). r.offlined) offlined-in (λ n o. refl)
 
-module _ (script : Script) (seat : Cpu → ℕ) (last : State) (report : Report) (end : IsEnd script seat last report) where
+module _ (script : Script) (copies : Who → Option VSlot) (seat : Cpu → ℕ) (last : State) (report : Report) (end : IsEnd script copies seat last report) where
   -- the report's answer of a command, and its event lines, are those of its row
-  pub answer-told : (view : View) (who : Who) (of : IsOf script end.rows view who) → answer_of report who ≡ Some of.row.answer
+  pub answer-told : (view : View) (who : Who) (of : IsOf script copies end.rows view who) → answer_of report who ≡ Some of.row.answer
   answer-told view who of =
-      ap (λ (o : Option (List CpuLine)). answer_among (unwrap_or o []) who.seq) (served-of script seat last report end who.cpu of.list of.own of.list_is of.own_is).1
+      ap (λ (o : Option (List CpuLine)). answer_among (unwrap_or o []) who.seq) (served-of script copies seat last report end who.cpu of.list of.own of.list_is of.own_is).1
       ∙ answer-at 0 of.own who.seq who.seq of.row of.row_is (omega arith)
 
-  pub events-told : (view : View) (who : Who) (of : IsOf script end.rows view who) → events_of report who ≡ map (event_at who.seq) of.row.told
+  pub events-told : (view : View) (who : Who) (of : IsOf script copies end.rows view who) → events_of report who ≡ map (event_at who.seq) of.row.told
   events-told view who of =
-      ap (λ (o : Option (List CpuLine)). events_among (unwrap_or o []) who.seq) (served-of script seat last report end who.cpu of.list of.own of.list_is of.own_is).1
+      ap (λ (o : Option (List CpuLine)). events_among (unwrap_or o []) who.seq) (served-of script copies seat last report end who.cpu of.list of.own of.list_is of.own_is).1
       ∙ events-at 0 of.own who.seq who.seq of.row of.row_is (omega arith)
 
-  pub offlined-told : (view : View) (who : Who) (of : IsOf script end.rows view who) → offlined_of report who ≡ map (offlined_at who.seq) of.row.offlined
+  pub offlined-told : (view : View) (who : Who) (of : IsOf script copies end.rows view who) → offlined_of report who ≡ map (offlined_at who.seq) of.row.offlined
   offlined-told view who of =
-      ap (λ (o : Option (List CpuLine)). offlined_among (unwrap_or o []) who.seq) (served-of script seat last report end who.cpu of.list of.own of.list_is of.own_is).1
+      ap (λ (o : Option (List CpuLine)). offlined_among (unwrap_or o []) who.seq) (served-of script copies seat last report end who.cpu of.list of.own of.list_is of.own_is).1
       ∙ offlined-among 0 of.own who.seq who.seq of.row of.row_is (omega arith)
 
   -- of any command, also where there is none: what its processor's lines say, and nothing where it has none
@@ -293,14 +294,14 @@ module _ (script : Script) (seat : Cpu → ℕ) (last : State) (report : Report)
       none-at : (o : Option (List CpuLine)) → slice_get report.cpus who.cpu.0 ≡ o → slice_get end.rows who.cpu.0 ≡ None → among (unwrap_or o []) ≡ []
       none-at None there outside = empty
       none-at (Some found) there outside =
-          let has = rows-of-lines script seat last report end who.cpu found there in
+          let has = rows-of-lines script copies seat last report end who.cpu found there in
           absurd (none-some has.own (sym outside ∙ has.own_is))
 
       which : (o : Option (List Row)) → slice_get end.rows who.cpu.0 ≡ o → among (rows_of report who) ≡ of (option_and_then (λ (own : List Row). slice_get own who.seq) o)
       which None outside = none-at (slice_get report.cpus who.cpu.0) refl outside ∙ sym none
       which (Some own) some =
-          let list = list-of script seat last report end who.cpu (subst (λ (n : ℕ). who.cpu.0 < n) end.rows_fit (slice_get_within end.rows who.cpu.0 own some)) in
-          ap (λ (o : Option (List CpuLine)). among (unwrap_or o [])) (served-of script seat last report end who.cpu list.0 own list.1 some).1 ∙ at own
+          let list = list-of script copies seat last report end who.cpu (subst (λ (n : ℕ). who.cpu.0 < n) end.rows_fit (slice_get_within end.rows who.cpu.0 own some)) in
+          ap (λ (o : Option (List CpuLine)). among (unwrap_or o [])) (served-of script copies seat last report end who.cpu list.0 own list.1 some).1 ∙ at own
 
   pub events-by-row : (who : Who) → events_of report who ≡ map (event_at who.seq) (told_at (row_at end.rows who))
   events-by-row who = by-row (λ (l : List CpuLine). events_among l who.seq) (λ (o : Option Row). map (event_at who.seq) (told_at o)) refl refl who (λ own. past own (slice_get own who.seq) refl)
@@ -320,5 +321,5 @@ module _ (script : Script) (seat : Cpu → ℕ) (last : State) (report : Report)
   pub answered-so : (cpu : Cpu) (list : List Command) (own : List Row) → slice_get script.lists cpu.0 ≡ Some list → slice_get end.rows cpu.0 ≡ Some own → answered_on script report cpu ≡ answers_by list own
   answered-so cpu list own list_is own_is =
       ap (λ (o : Option (List Command)). answered (unwrap_or o []) (unwrap_or (slice_get report.cpus cpu.0) [])) list_is
-      ∙ ap (λ (o : Option (List CpuLine)). answered list (unwrap_or o [])) (served-of script seat last report end cpu list own list_is own_is).1
+      ∙ ap (λ (o : Option (List CpuLine)). answered list (unwrap_or o [])) (served-of script copies seat last report end cpu list own list_is own_is).1
       ∙ ap (λ (l : List Answer). zip list l) (answers-of-rows 0 own)

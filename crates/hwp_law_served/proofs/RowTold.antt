@@ -41,7 +41,7 @@ module _ (layout : Layout) (view : View) (who : Who) (P : Option Thread → Even
   of-acted : (thread : Option Thread) (how : Arrival) (banks : Banks) (lines : List EventOutcome) → (is_user how.mode ≡ true → is_some thread ≡ true) → IsActedOn layout view who thread how banks lines → EachMember (P thread) lines
   of-acted thread how banks lines user acted = holds thread how (held_from 0 banks) (has_stop how banks) lines user acted.events acted.told
 
-  of-checks : (thread : Thread) (line : ℕ) (origin : Origin) (mode : Mode) (banks : Banks) (checks : List Check) → AreChecks layout view who thread line origin mode banks checks → EachMember (P (Some thread)) (lines_of checks)
+  pub of-checks : (thread : Thread) (line : ℕ) (origin : Origin) (mode : Mode) (banks : Banks) (checks : List Check) → AreChecks layout view who thread line origin mode banks checks → EachMember (P (Some thread)) (lines_of checks)
   of-checks thread line origin mode banks [] are = λ i t there. absurd (none-some t there)
   of-checks thread line origin mode banks (c ∷ cs) (is, rest) =
       each-append (P (Some thread)) c.lines (lines_of cs) (of-acted (Some thread) _ _ c.lines (λ user. refl) is.acted_on) (of-checks thread line origin mode empty_banks cs rest)
@@ -106,6 +106,3 @@ module _ (layout : Layout) (view : View) (who : Who) where
   told-each thread held_back [] told i x there = absurd (none-some x there)
   told-each thread held_back (t ∷ ts) (first, rest) zero x there = subst (IsToldRight thread) (same_Some t x there) (held_back, first)
   told-each thread held_back (t ∷ ts) (first, rest) (suc i) x there = told-each thread _ ts rest i x there
-
-  pub told-so : (command : Command) (answer : Answer) (before : Banks) (told : List EventOutcome) (after : Banks) → AreToldBy layout view who command answer before told after → EachMember (IsToldRight (current_thread command)) told
-  told-so = told-by layout view who IsToldRight (λ thread how events held_back lines user held told. told-each thread held_back lines told)

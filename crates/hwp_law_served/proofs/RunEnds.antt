@@ -2,6 +2,7 @@
 use Rattle.std.proofs.Common.{◌≡◌, ℕ, zero, suc, ◌+◌, ◌<◌, ◌==◌, Bool, true, false, cond, List, [], ◌∷◌, ◌++◌, Option, Some, filter, length, map, slice_get, take, append-nil, append_assoc, refl, sym, ap, ◌∙◌, subst, arith}
 use Rattle.std.proofs.lemmas.Bool.{and_from, eq-eqb}
 use Rattle.std.proofs.lemmas.Option.{none-some, same_Some, slice_get_within}
+use Rattle.hwp_law_run.specs.hwp_geom.declared.VSlot.{VSlot}
 use Rattle.hwp_law_run.specs.hwp_geom.declared.Cpu.{Cpu}
 use Rattle.hwp_law_run.specs.hwp_geom.declared.Layout.{Layout}
 use Rattle.hwp_law_run.specs.hwp_geom.declared.Who.{Who}
@@ -29,58 +30,61 @@ use Rattle.hwp_cpu_row.specs.declared.Row.{Row}
 use Rattle.hwp_scrub.specs.Visits.{AreBanks}
 use Rattle.hwp_law_served.specs.Handles.{answers_by}
 use Rattle.hwp_law_served.specs.Rows.{lines_from}
-use Rattle.hwp_law_served.specs.Runs.{AreRecords, AreServed, notes_of}
+use Rattle.hwp_law_served.specs.Runs.{AreApart, AreRecords, AreServed, notes_of}
 use Rattle.hwp_law_served.specs.Served.{AreRowsServed, IsRowServed, IsServed}
 use Rattle.hwp_law_served.proofs.lines.LowWords.{AreOfLines}
-use Rattle.hwp_law_served.proofs.lines.ScrubBank.{empty-free, row-free}
+use Rattle.hwp_law_served.proofs.copied.MadeOrder.{IsOrdered}
+use Rattle.hwp_law_served.proofs.lines.ScrubBank.{empty-free, with-free}
 use Rattle.hwp_law_served.proofs.lines.SightedLines.{AreSights}
 use Rattle.hwp_law_served.proofs.marks.MarkSights.{AreRisingMarks, AreSplit}
 use Rattle.hwp_law_served.proofs.lines.Spoils.{AreOfParts}
 
 -- the report is that of the last board of a run, where each processor has served its commands
-pub record IsEnd (script : Script) (seat : Cpu → ℕ) (last : State) (report : Report) : Type 0 where
+pub record IsEnd (script : Script) (copies : Who → Option VSlot) (seat : Cpu → ℕ) (last : State) (report : Report) : Type 0 where
   pub board : IsLast script.layout last report
   pub seated : AreSeated script.layout last seat
   pub lists_fit : length script.lists ≡ script.layout.cpus
   pub cpus_fit : length report.cpus ≡ script.layout.cpus
   pub rows : List (List Row)
   pub rows_fit : length rows ≡ script.layout.cpus
-  pub served : AreServed script seat last rows report.cpus
+  pub served : AreServed script copies seat last rows report.cpus
+  pub apart : AreApart script copies
   pub records : AreRecords (notes_of 0 rows) report
   pub low : AreOfLines (words_of script.layout last.words)
   pub marks_rise : EachMember AreRisingMarks last.views
   pub split : EachMember (AreSplit script.layout last) last.views
   pub spoilers : EachMember (AreOfParts last) last.views
   pub sights : EachMember (AreSights script.layout) last.views
+  pub ordered : EachMember (IsOrdered script.layout) last.views
 
 -- the row of a command behind the earlier ones with their answers, and what its processor's banks held before it, the scrubber's
 -- nothing, and after it
-pub record HasRow (layout : Layout) (earlier : List (Command × Answer)) (view : View) (who : Who) (command : Command) (there : Option Row) : Type 0 where
+pub record HasRow (layout : Layout) (earlier : List (Command × Answer)) (copied : Option VSlot) (view : View) (who : Who) (command : Command) (there : Option Row) : Type 0 where
   pub row : Row
   pub row_is : there ≡ Some row
   pub before : Banks
   pub free : AreBanks before
   pub after : Banks
-  pub served : IsRowServed layout earlier view who command before row after
+  pub served : IsRowServed layout earlier copied view who command before row after
 
-pub row-at : (layout : Layout) (earlier : List (Command × Answer)) (view : View) (cpu : Cpu) (n : ℕ) (before : Banks) (list : List Command) (rows : List Row) (after : Banks) (k m : ℕ) (command : Command) → AreRowsServed layout earlier view cpu n before list rows after → length rows ≡ length list → slice_get list k ≡ Some command
-    → m ≡ n + k → AreBanks before → HasRow layout (earlier ++ take k (answers_by list rows)) view (record { cpu = cpu; seq = m }) command (slice_get rows k)
-row-at layout earlier view cpu n before [] rows after k m command are fit there at free = absurd (none-some command there)
-row-at layout earlier view cpu n before (c ∷ cs) [] after k m command are fit there at free = absurd (let none : 0 ≡ suc (length cs) = fit in omega arith)
-row-at layout earlier view cpu n before (c ∷ cs) (row ∷ rows) after zero m command (between, served, rest) fit there at free =
+pub row-at : (layout : Layout) (copies : Who → Option VSlot) (earlier : List (Command × Answer)) (view : View) (cpu : Cpu) (n : ℕ) (before : Banks) (list : List Command) (rows : List Row) (after : Banks) (k m : ℕ) (command : Command) → AreRowsServed layout copies earlier view cpu n before list rows after → length rows ≡ length list → slice_get list k ≡ Some command
+    → m ≡ n + k → AreBanks before → HasRow layout (earlier ++ take k (answers_by list rows)) (copies (record { cpu = cpu; seq = m })) view (record { cpu = cpu; seq = m }) command (slice_get rows k)
+row-at layout copies earlier view cpu n before [] rows after k m command are fit there at free = absurd (none-some command there)
+row-at layout copies earlier view cpu n before (c ∷ cs) [] after k m command are fit there at free = absurd (let none : 0 ≡ suc (length cs) = fit in omega arith)
+row-at layout copies earlier view cpu n before (c ∷ cs) (row ∷ rows) after zero m command (between, served, rest) fit there at free =
     let same : n ≡ m = omega arith in
-    subst (λ (l : List (Command × Answer)). HasRow layout l view (record { cpu = cpu; seq = m }) command (Some row)) (sym (append-nil earlier)) (record {
+    subst (λ (l : List (Command × Answer)). HasRow layout l (copies (record { cpu = cpu; seq = m })) view (record { cpu = cpu; seq = m }) command (Some row)) (sym (append-nil earlier)) (record {
       row = row;
       row_is = refl;
       before = before;
       free = free;
       after = between;
-      served = subst (λ (x : Command). IsRowServed layout earlier view (record { cpu = cpu; seq = m }) x before row between) (same_Some c command there) (subst (λ (i : ℕ). IsRowServed layout earlier view (record { cpu = cpu; seq = i }) c before row between) same served);
+      served = subst (λ (x : Command). IsRowServed layout earlier (copies (record { cpu = cpu; seq = m })) view (record { cpu = cpu; seq = m }) x before row between) (same_Some c command there) (subst (λ (i : ℕ). IsRowServed layout earlier (copies (record { cpu = cpu; seq = i })) view (record { cpu = cpu; seq = i }) c before row between) same served);
     })
-row-at layout earlier view cpu n before (c ∷ cs) (row ∷ rows) after (suc k) m command (between, served, rest) fit there at free =
-    subst (λ (l : List (Command × Answer)). HasRow layout l view (record { cpu = cpu; seq = m }) command (slice_get rows k)) (append_assoc earlier ((c, row.answer) ∷ []) (take k (answers_by cs rows)))
-    (row-at layout (earlier ++ (c, row.answer) ∷ []) view cpu (n + 1) between cs rows after k m command rest (let one : suc (length rows) ≡ suc (length cs) = fit in let same : length rows ≡ length cs = omega arith in same) there (omega arith)
-    (row-free layout view (record { cpu = cpu; seq = n }) c row.answer before row.told between served.told free))
+row-at layout copies earlier view cpu n before (c ∷ cs) (row ∷ rows) after (suc k) m command (between, served, rest) fit there at free =
+    subst (λ (l : List (Command × Answer)). HasRow layout l (copies (record { cpu = cpu; seq = m })) view (record { cpu = cpu; seq = m }) command (slice_get rows k)) (append_assoc earlier ((c, row.answer) ∷ []) (take k (answers_by cs rows)))
+    (row-at layout copies (earlier ++ (c, row.answer) ∷ []) view cpu (n + 1) between cs rows after k m command rest (let one : suc (length rows) ≡ suc (length cs) = fit in let same : length rows ≡ length cs = omega arith in same) there (omega arith)
+    (with-free layout view (record { cpu = cpu; seq = n }) (copies (record { cpu = cpu; seq = n })) c row.answer before row.told between served.told free))
 
 -- a member that passes the test is one of those that do
 pub filter-has : {A : Type 0} (test : A → Bool) (l : List A) (j : ℕ) (x : A) → slice_get l j ≡ Some x → test x ≡ true → (k : ℕ) × (slice_get (filter test l) k ≡ Some x)
@@ -100,7 +104,7 @@ of-deeds P view who j m each there own =
     each found.0 m found.1
 
 -- a command, with its row and what its view knows of it
-pub record IsOf (script : Script) (rows : List (List Row)) (view : View) (who : Who) : Type 0 where
+pub record IsOf (script : Script) (copies : Who → Option VSlot) (rows : List (List Row)) (view : View) (who : Who) : Type 0 where
   pub inside : who.cpu.0 < script.layout.cpus
   pub list : List Command
   pub list_is : slice_get script.lists who.cpu.0 ≡ Some list
@@ -115,10 +119,10 @@ pub record IsOf (script : Script) (rows : List (List Row)) (view : View) (who : 
   pub after : Banks
   pub earlier : List (Command × Answer)
   pub earlier_is : earlier ≡ take who.seq (answers_by list own)
-  pub served : IsRowServed script.layout earlier view who command before row after
+  pub served : IsRowServed script.layout earlier (copies who) view who command before row after
 
 -- its row is the one that stands at its number
-pub same-row : {script : Script} {rows : List (List Row)} {view : View} {who : Who} (of : IsOf script rows view who) (own : List Row) (row : Row) → slice_get rows who.cpu.0 ≡ Some own → slice_get own who.seq ≡ Some row → of.row ≡ row
+pub same-row : {script : Script} {copies : Who → Option VSlot} {rows : List (List Row)} {view : View} {who : Who} (of : IsOf script copies rows view who) (own : List Row) (row : Row) → slice_get rows who.cpu.0 ≡ Some own → slice_get own who.seq ≡ Some row → of.row ≡ row
 same-row {who = who} of own row own_is row_is = same_Some of.row row (sym of.row_is ∙ ap (λ (l : List Row). slice_get l who.seq) (same_Some of.own own (sym of.own_is ∙ own_is)) ∙ row_is)
 
 -- a view that has a processor is the one of the processor's seat
@@ -143,7 +147,7 @@ nothing-held layout seat last holds seated none i v view = which v.parts refl
         let own = seat-view layout seat last holds seated i 0 v p view (ap (λ (l : List Part). slice_get l 0) some) in
         subst HoldsNothing (sym own.1) (none p.cpu own.0)
 
-module _ (script : Script) (seat : Cpu → ℕ) (last : State) (report : Report) (end : IsEnd script seat last report) where
+module _ (script : Script) (copies : Who → Option VSlot) (seat : Cpu → ℕ) (last : State) (report : Report) (end : IsEnd script copies seat last report) where
   -- the view that lists what a processor did is its seat's
   pub own-view : (i : ℕ) (v : View) (who : Who) → slice_get last.views i ≡ Some v → IsPast v.parts who → (who.cpu.0 < script.layout.cpus) × (v ≡ view_of last (seat who.cpu))
   own-view i v who view past = subst (λ (c : Cpu). (c.0 < script.layout.cpus) × (v ≡ view_of last (seat c))) past.3.0 (seat-view script.layout seat last end.board.holds end.seated i past.0 v past.1 view past.2)
@@ -157,7 +161,7 @@ module _ (script : Script) (seat : Cpu → ℕ) (last : State) (report : Report)
 
   -- the processor has served its commands, and its lines in the report are those of its rows
   pub served-of : (cpu : Cpu) (list : List Command) (own : List Row) → slice_get script.lists cpu.0 ≡ Some list → slice_get end.rows cpu.0 ≡ Some own
-      → IsServed script.layout (view_of last (seat cpu)) cpu list own × (slice_get report.cpus cpu.0 ≡ Some (lines_from 0 own))
+      → IsServed script.layout copies (view_of last (seat cpu)) cpu list own × (slice_get report.cpus cpu.0 ≡ Some (lines_from 0 own))
   served-of cpu list own list_is own_is = end.served cpu list own list_is own_is
 
   -- the rows that the lines of a processor in the report are of
@@ -167,7 +171,7 @@ module _ (script : Script) (seat : Cpu → ℕ) (last : State) (report : Report)
     pub list_is : slice_get script.lists cpu.0 ≡ Some list
     pub own : List Row
     pub own_is : slice_get end.rows cpu.0 ≡ Some own
-    pub served : IsServed script.layout (view_of last (seat cpu)) cpu list own
+    pub served : IsServed script.layout copies (view_of last (seat cpu)) cpu list own
     pub lines_are : lines ≡ lines_from 0 own
 
   pub rows-of-lines : (cpu : Cpu) (lines : List CpuLine) → slice_get report.cpus cpu.0 ≡ Some lines → HasRows cpu lines
@@ -187,12 +191,12 @@ module _ (script : Script) (seat : Cpu → ℕ) (last : State) (report : Report)
       }
 
   -- a command of a processor, by its number
-  pub command-of : (who : Who) (list : List Command) (command : Command) → slice_get script.lists who.cpu.0 ≡ Some list → slice_get list who.seq ≡ Some command → IsOf script end.rows (view_of last (seat who.cpu)) who
+  pub command-of : (who : Who) (list : List Command) (command : Command) → slice_get script.lists who.cpu.0 ≡ Some list → slice_get list who.seq ≡ Some command → IsOf script copies end.rows (view_of last (seat who.cpu)) who
   command-of who list command list_is command_is =
       let inside : who.cpu.0 < script.layout.cpus = subst (λ (n : ℕ). who.cpu.0 < n) end.lists_fit (slice_get_within script.lists who.cpu.0 list list_is) in
       let own = rows-of who.cpu inside in
       let served = (served-of who.cpu list own.0 list_is own.1).0 in
-      let has = row-at script.layout [] (view_of last (seat who.cpu)) who.cpu 0 empty_banks list own.0 served.banks who.seq who.seq command served.rows_are served.count command_is (omega arith) empty-free in
+      let has = row-at script.layout copies [] (view_of last (seat who.cpu)) who.cpu 0 empty_banks list own.0 served.banks who.seq who.seq command served.rows_are served.count command_is (omega arith) empty-free in
       record {
         inside = inside;
         list = list;
@@ -212,7 +216,7 @@ module _ (script : Script) (seat : Cpu → ℕ) (last : State) (report : Report)
       }
 
   -- the command of an entry that a view lists
-  pub of-made : (i j : ℕ) (v : View) (m : Made) → slice_get last.views i ≡ Some v → slice_get v.made j ≡ Some m → IsOf script end.rows v m.entry.who
+  pub of-made : (i j : ℕ) (v : View) (m : Made) → slice_get last.views i ≡ Some v → slice_get v.made j ≡ Some m → IsOf script copies end.rows v m.entry.who
   of-made i j v m view made =
       let past = (end.board.holds.rule.processors.commands.own i v view).made j m made in
       let own = own-view i v m.entry.who view past in
@@ -221,4 +225,4 @@ module _ (script : Script) (seat : Cpu → ℕ) (last : State) (report : Report)
       let served = (served-of m.entry.who.cpu list.0 rows.0 list.1 rows.1).0 in
       let begun = served.made j m (sym (ap (λ (x : View). slice_get x.made j) own.1) ∙ made) in
       let command = there-is list.0 m.entry.who.seq begun.1 in
-      subst (λ (x : View). IsOf script end.rows x m.entry.who) (sym own.1) (command-of m.entry.who list.0 command.0 list.1 command.1)
+      subst (λ (x : View). IsOf script copies end.rows x m.entry.who) (sym own.1) (command-of m.entry.who list.0 command.0 list.1 command.1)

@@ -44,7 +44,7 @@ use Rattle.hwp_cpu_row.specs.hwp_cpu_check.Done.{failed_by}
 use Rattle.hwp_cpu_row.specs.hwp_cpu_check.Done as done
 use Rattle.hwp_cpu_row.specs.hwp_cpu_check.Told.{first_signal, required_by, signal_of}
 use Rattle.hwp_law_served.specs.Accounts.{IsAccounted, failures_in, own_failure}
-use Rattle.hwp_law_served.specs.Causes.{IsAnswerCaused, IsCaused, IsOfflineCaused, IsSoftCaused, IsTableCaused, WasSignalled, IsUnpoisonCaused}
+use Rattle.hwp_law_served.specs.Causes.{IsAnswerCaused, IsOfflineCaused, IsSoftCaused, IsTableCaused, WasSignalled, IsUnpoisonCaused}
 use Rattle.hwp_law_served.proofs.Picked.{picked-has, picked-is}
 
 -- the command saw the page after as many entries as the place says
@@ -124,7 +124,7 @@ pub record MadeFailure (view : View) (who : Who) (failed : Failed) : Type 0 wher
   pub tells : failed_in made ≡ Some failed
 
 -- a failure that its row tells
-pub made-failure : (view : View) (who : Who) (command : Command) (row : Row) → IsAccounted view who command row → (k : ℕ) (failed : Failed) → slice_get (failures_in command row) k ≡ Some failed → MadeFailure view who failed
+pub made-failure : {layout : Layout} {earlier : List (Command × Answer)} (view : View) (who : Who) (command : Command) (row : Row) → IsAccounted layout earlier view who command row → (k : ℕ) (failed : Failed) → slice_get (failures_in command row) k ≡ Some failed → MadeFailure view who failed
 made-failure view who command row account k failed there =
     let picked = picked-is failed_in (deeds who view) k failed (ap (λ (l : List Failed). slice_get l k) account.failed ∙ there) in
     let own = listed-as-own view who picked.0 picked.1 picked.2 in
@@ -197,7 +197,7 @@ pub record HasSignalled (view : View) (who : Who) (command : Command) (at : At) 
   pub found : Found
   pub made : MadeFailure view who (signalling (current_thread command) t found at)
 
-pub has-signalled : (view : View) (who : Who) (command : Command) (row : Row) (at : At) → IsAccounted view who command row → first_signal row.told ≡ Some at → HasSignalled view who command at
+pub has-signalled : {layout : Layout} {earlier : List (Command × Answer)} (view : View) (who : Who) (command : Command) (row : Row) (at : At) → IsAccounted layout earlier view who command row → first_signal row.told ≡ Some at → HasSignalled view who command at
 has-signalled view who command row at account is =
     let first = first-told row.told at is in
     let t : EventOutcome = first.1 in
@@ -257,12 +257,14 @@ module _ (layout : Layout) (earlier : List (Command × Answer)) (view : View) (w
   table-place (commands.Fsync file) (answers.Eio more) caused at is = absurd (none-some at is)
   table-place (commands.Open file) (answers.Opened word) caused at is = absurd (none-some at is)
   table-place (commands.Prctl thread args) (answers.Gone page) caused at is = absurd (none-some at is)
-  table-place (commands.Prctl thread args) answer caused at is = absurd (replied (reply (last_policy (settings thread earlier)) (arguments args)) (sym (ap place_named caused.replied) ∙ is))
+  table-place (commands.Prctl thread args) answer caused at is = absurd (replied (reply (last_policy (settings layout thread earlier)) (arguments args)) (sym (ap place_named caused.replied) ∙ is))
     where
       replied : (r : Reply) → place_named (reply_answer r) ≡ Some at → ⊥
       replied (replies.Set policy) is = none-some at is
       replied (replies.Is policy) is = none-some at is
       replied replies.Einval is = none-some at is
+  table-place (commands.Fork thread process) answers.Done caused at is = absurd (none-some at is)
+  table-place (commands.Fork thread process) (answers.Gone page) caused at is = absurd (none-some at is)
   table-place (commands.Log status addr misc) answers.Done caused at is = absurd (none-some at is)
   table-place (commands.Watch threshold window) answers.Done caused at is = absurd (none-some at is)
   table-place (commands.Sync page) (answers.BadLines mask bt) caused at is = saw-one bt (saw-at caused.1.saw) at is
@@ -271,7 +273,7 @@ module _ (layout : Layout) (earlier : List (Command × Answer)) (view : View) (w
   table-place (commands.Weak frame line) answers.Done caused at is = absurd (none-some at is)
   table-place command answer caused at is = absurd caused
 
-  module _ (command : Command) (row : Row) (account : IsAccounted view who command row) where
+  module _ (command : Command) (row : Row) (account : IsAccounted layout earlier view who command row) where
     -- a failure that signalled the thread
     signal-place : (o : Option Access) (at : At) → IsSomeAnd o (λ (a : Access). WasSignalled layout view who command a.thread row.told at) → MadeAt view who at
     signal-place None at was = absurd was
@@ -322,8 +324,8 @@ module _ (layout : Layout) (earlier : List (Command × Answer)) (view : View) (w
   answer-place command told own (answers.Sigbus bt) either caused at is = either bt caused at is
   answer-place command told own answer either caused at is = table-place command answer caused at is
 
-  pub names-place : (command : Command) (row : Row) → IsCaused layout earlier view who command row → IsAccounted view who command row → Names row.answer
-  names-place command row caused account = answer-place command row.told row.own row.answer (either-place command row account) caused
+  pub plain-place : (command : Command) (row : Row) → IsAnswerCaused layout earlier view who command row.told row.own row.answer → IsAccounted layout earlier view who command row → Names row.answer
+  plain-place command row caused account = answer-place command row.told row.own row.answer (either-place command row account) caused
 
   -- where the answer names a number of entries, the command saw the page after as many
   table-state : (command : Command) (answer : Answer) → IsTableCaused layout earlier view who command answer → (at : At) → state_named answer ≡ Some at → SawAt view who at
@@ -338,7 +340,7 @@ module _ (layout : Layout) (earlier : List (Command × Answer)) (view : View) (w
   table-state (commands.Sync page) (answers.BadLines mask bt) caused at is = subst (SawAt view who) (same_Some bt at is) (saw-at caused.1.saw)
   table-state (commands.Out page) (answers.BadLines mask bt) caused at is = subst (SawAt view who) (same_Some bt at is) (saw-at caused.1.saw)
   table-state (commands.Prctl thread args) (answers.Gone page) caused at is = absurd (none-some at is)
-  table-state (commands.Prctl thread args) answer caused at is = absurd (replied (reply (last_policy (settings thread earlier)) (arguments args)) (sym (ap state_named caused.replied) ∙ is))
+  table-state (commands.Prctl thread args) answer caused at is = absurd (replied (reply (last_policy (settings layout thread earlier)) (arguments args)) (sym (ap state_named caused.replied) ∙ is))
     where
       replied : (r : Reply) → state_named (reply_answer r) ≡ Some at → ⊥
       replied (replies.Set policy) is = none-some at is
@@ -391,5 +393,5 @@ module _ (layout : Layout) (earlier : List (Command × Answer)) (view : View) (w
   answer-state command told own (answers.Sigbus bt) caused at is = absurd (none-some at is)
   answer-state command told own answer caused at is = table-state command answer caused at is
 
-  pub names-state : (command : Command) (row : Row) → IsCaused layout earlier view who command row → (at : At) → state_named row.answer ≡ Some at → SawAt view who at
-  names-state command row caused = answer-state command row.told row.own row.answer caused
+  pub plain-state : (command : Command) (row : Row) → IsAnswerCaused layout earlier view who command row.told row.own row.answer → (at : At) → state_named row.answer ≡ Some at → SawAt view who at
+  plain-state command row caused = answer-state command row.told row.own row.answer caused

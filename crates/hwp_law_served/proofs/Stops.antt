@@ -1,6 +1,7 @@
 -- The stop record is that of a command which stopped the machine.
 use Rattle.std.proofs.Common.{◌≡◌, ◌⊎◌, ◌≢◌, ℕ, ◌+◌, ◌<◌, not, List, Option, Some, None, IsSome, slice_get, refl, sym, ap, ◌∙◌, subst, arith, inl, inr, true≢false}
 use Rattle.std.proofs.lemmas.Bool.{eq-eqb}
+use Rattle.hwp_law_run.specs.hwp_geom.declared.VSlot.{VSlot}
 use Rattle.hwp_law_run.specs.hwp_geom.declared.Cpu.{Cpu}
 use Rattle.hwp_law_run.specs.hwp_geom.declared.Who.{Who}
 use Rattle.hwp_law_run.specs.hwp_words.Stops.{stopper_of}
@@ -22,7 +23,7 @@ use Rattle.hwp_law_served.specs.Causes.{FoundStopped}
 use Rattle.hwp_law_served.specs.Served.{IsOwnStop}
 use Rattle.hwp_law_served.proofs.RunEnds.{IsEnd, list-of, own-view, rows-of, served-of}
 
-module _ (script : Script) (seat : Cpu → ℕ) (last : State) (report : Report) (end : IsEnd script seat last report) where
+module _ (script : Script) (copies : Who → Option VSlot) (seat : Cpu → ℕ) (last : State) (report : Report) (end : IsEnd script copies seat last report) where
   -- the command that a stop record names
   pub record StopBy (who : Who) : Type 0 where
     pub list : List Command
@@ -38,11 +39,11 @@ module _ (script : Script) (seat : Cpu → ℕ) (last : State) (report : Report)
       let was = map-was (λ (v : View). v.stops) last.views listed.0 listed.1 listed.2 in
       let in_view : slice_get was.0.stops listed.3.0 ≡ Some listed.3.1 = ap (λ (l : List Who). slice_get l listed.3.0) was.2 ∙ listed.3.2 in
       let past = (end.board.holds.rule.processors.commands.own listed.0 was.0 was.1).stops listed.3.0 listed.3.1 in_view in
-      let own = own-view script seat last report end listed.0 was.0 listed.3.1 was.1 past in
+      let own = own-view script copies seat last report end listed.0 was.0 listed.3.1 was.1 past in
       let same : listed.3.1 ≡ stop.who = listed.3.3 in
-      let list = list-of script seat last report end listed.3.1.cpu own.0 in
-      let rows = rows-of script seat last report end listed.3.1.cpu own.0 in
-      let served = (served-of script seat last report end listed.3.1.cpu list.0 rows.0 list.1 rows.1).0 in
+      let list = list-of script copies seat last report end listed.3.1.cpu own.0 in
+      let rows = rows-of script copies seat last report end listed.3.1.cpu own.0 in
+      let served = (served-of script copies seat last report end listed.3.1.cpu list.0 rows.0 list.1 rows.1).0 in
       let stopped : IsOwnStop script.layout listed.3.1.cpu list.0 rows.0 listed.3.1 = served.stops listed.3.0 listed.3.1 (sym (ap (λ (x : View). slice_get x.stops listed.3.0) own.1) ∙ in_view) in
       subst StopBy same (record { list = list.0; rows = rows.0; list_is = list.1; rows_is = rows.1; own = stopped })
 

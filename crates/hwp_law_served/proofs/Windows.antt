@@ -1,6 +1,7 @@
 -- Each answer that says what state a page was in names a number of entries in its command's window.
-use Rattle.std.proofs.Common.{◌≡◌, ◌⊎◌, ℕ, ◌+◌, ◌<◌, ◌≤◌, List, Some, length, slice_get, sym, ap, ◌∙◌, subst, arith, inl, inr}
+use Rattle.std.proofs.Common.{◌≡◌, ◌⊎◌, ℕ, ◌+◌, ◌<◌, ◌≤◌, List, Some, length, slice_get, sym, ap, ◌∙◌, subst, arith, inl, inr, Option}
 use Rattle.std.proofs.lemmas.Option.{slice_get_within}
+use Rattle.hwp_law_run.specs.hwp_geom.declared.VSlot.{VSlot}
 use Rattle.hwp_law_run.specs.hwp_geom.declared.Cpu.{Cpu}
 use Rattle.hwp_law_run.specs.hwp_geom.declared.Who.{Who}
 use Rattle.hwp_law_run.specs.hwp_page.declared.At.{At}
@@ -24,16 +25,17 @@ use Rattle.hwp_law_served.specs.Rows.{lines_from}
 use Rattle.hwp_law_served.proofs.RunEnds.{IsEnd, IsOf, command-of, rows-of-lines, same-row}
 use Rattle.hwp_law_served.proofs.RowLines.{row-of-line}
 use Rattle.hwp_law_served.proofs.deeds.Made.{command-is}
-use Rattle.hwp_law_served.proofs.Seen.{MadeAt, SawAt, names-place, names-state}
+use Rattle.hwp_law_served.proofs.Seen.{MadeAt, SawAt}
+use Rattle.hwp_law_served.proofs.copied.CopyPlaces.{names-place, names-state}
 
-module _ (script : Script) (seat : Cpu → ℕ) (last : State) (report : Report) (end : IsEnd script seat last report) where
+module _ (script : Script) (copies : Who → Option VSlot) (seat : Cpu → ℕ) (last : State) (report : Report) (end : IsEnd script copies seat last report) where
   -- the command that a line of a processor answers, with its row
   pub record Answers (cpu : Cpu) (seq : ℕ) (answer : Answer) : Type 0 where
-    pub of : IsOf script end.rows (view_of last (seat cpu)) (record { cpu = cpu; seq = seq })
+    pub of : IsOf script copies end.rows (view_of last (seat cpu)) (record { cpu = cpu; seq = seq })
     pub command_is : command_at script (record { cpu = cpu; seq = seq }) ≡ Some of.command
     pub answer_is : of.row.answer ≡ answer
 
-  answers-by : (cpu : Cpu) (seq : ℕ) (answer : Answer) (of : IsOf script end.rows (view_of last (seat cpu)) (record { cpu = cpu; seq = seq })) (own : List Row) (row : Row) → slice_get end.rows cpu.0 ≡ Some own → slice_get own seq ≡ Some row → row.answer ≡ answer → Answers cpu seq answer
+  answers-by : (cpu : Cpu) (seq : ℕ) (answer : Answer) (of : IsOf script copies end.rows (view_of last (seat cpu)) (record { cpu = cpu; seq = seq })) (own : List Row) (row : Row) → slice_get end.rows cpu.0 ≡ Some own → slice_get own seq ≡ Some row → row.answer ≡ answer → Answers cpu seq answer
   answers-by cpu seq answer of own row own_is row_is is = record {
     of = of;
     command_is = command-is script (record { cpu = cpu; seq = seq }) of.list of.command of.list_is of.command_is;
@@ -43,13 +45,13 @@ module _ (script : Script) (seat : Cpu → ℕ) (last : State) (report : Report)
   pub line-answers : (cpu : Cpu) (rows : List CpuLine) (i seq : ℕ) (answer : Answer) → slice_get report.cpus cpu.0 ≡ Some rows → slice_get rows i ≡ Some (lines.Answer seq answer) → Answers cpu seq answer
   line-answers cpu rows i seq answer rows_is line =
       let who : Who = record { cpu = cpu; seq = seq } in
-      let has = rows-of-lines script seat last report end cpu rows rows_is in
+      let has = rows-of-lines script copies seat last report end cpu rows rows_is in
       let line_is : slice_get (lines_from 0 has.own) i ≡ Some (lines.Answer seq answer) = subst (λ (l : List CpuLine). slice_get l i ≡ Some (lines.Answer seq answer)) has.lines_are line in
       let at = row-of-line 0 has.own i seq answer line_is in
       let number : at.k ≡ seq = (let is : seq ≡ 0 + at.k = at.number in omega arith) in
       let row_is : slice_get has.own seq ≡ Some at.row = subst (λ (n : ℕ). slice_get has.own n ≡ Some at.row) number at.row_is in
       let command = there-is has.list seq (subst (λ (n : ℕ). seq < n) has.served.count (slice_get_within has.own seq at.row row_is)) in
-      let of = command-of script seat last report end who has.list command.0 has.list_is command.1 in
+      let of = command-of script copies seat last report end who has.list command.0 has.list_is command.1 in
       answers-by cpu seq answer of has.own at.row has.own_is row_is at.answer_is
 
   -- where the command saw the page is in its window
@@ -74,7 +76,7 @@ module _ (script : Script) (seat : Cpu → ℕ) (last : State) (report : Report)
         not_below = λ k n answer bt line earlier named same_page.
             let b = line-answers cpu rows k n answer rows_is line in
             not-below cpu seq at x saw.saw.0 there seen page long cpu_is seq_is n bt earlier same_page
-            (names-place script.layout b.of.earlier (view_of last (seat cpu)) (record { cpu = cpu; seq = n }) b.of.command b.of.row b.of.served.caused b.of.served.accounted bt (ap place_named b.answer_is ∙ named));
+            (names-place script.layout b.of.earlier (copies (record { cpu = cpu; seq = n })) (view_of last (seat cpu)) (record { cpu = cpu; seq = n }) b.of.command b.of.before b.of.row b.of.served.caused b.of.served.accounted bt (ap place_named b.answer_is ∙ named));
       }
     where
       not-below : (cpu : Cpu) (seq : ℕ) (at : At) (x : Length) (j : ℕ) → slice_get last.views (seat cpu) ≡ Some (view_of last (seat cpu)) → slice_get (view_of last (seat cpu)).lengths j ≡ Some x → x.log.page ≡ at.page → length x.log.entries ≡ at.entry
@@ -98,5 +100,5 @@ module _ (script : Script) (seat : Cpu → ℕ) (last : State) (report : Report)
   states-in-windows cpu rows i seq answer at rows_is line state =
       let a = line-answers cpu rows i seq answer rows_is line in
       let there = end.seated.there cpu a.of.inside in
-      let saw = names-state script.layout a.of.earlier (view_of last (seat cpu)) (record { cpu = cpu; seq = seq }) a.of.command a.of.row a.of.served.caused at (ap state_named a.answer_is ∙ state) in
+      let saw = names-state script.layout a.of.earlier (copies (record { cpu = cpu; seq = seq })) (view_of last (seat cpu)) (record { cpu = cpu; seq = seq }) a.of.command a.of.before a.of.row a.of.served.caused at (ap state_named a.answer_is ∙ state) in
       in-window cpu rows rows_is seq at there saw

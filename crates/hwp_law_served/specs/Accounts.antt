@@ -2,6 +2,7 @@
 -- that it set.
 use Rattle.std.specs.Prelude.{◌≡◌, ◌==◌, ◌&&◌, Bool, true, false, List, [], ◌∷◌, ◌++◌, Option, None, Some, option_map, option_and_then, filter, filter_map, map}
 use Rattle.std.specs.List.{cons_option}
+use Rattle.hwp_law_run.specs.hwp_geom.declared.Layout.{Layout}
 use Rattle.hwp_law_run.specs.hwp_geom.declared.Thread.{Thread}
 use Rattle.hwp_law_run.specs.hwp_geom.declared.Who.{Who}
 use Rattle.hwp_law_run.specs.hwp_kill.declared.Policy.{Policy}
@@ -25,7 +26,8 @@ use Rattle.hwp_law_run.specs.hwp_report_text.declared.How.TheVariants as hows
 use Rattle.hwp_law_run.specs.hwp_report_text.declared.MarkLine.{MarkLine}
 use Rattle.hwp_law_run.specs.hwp_report_text.declared.MarkLine.TheVariants as marks
 use Rattle.hwp_law_run.specs.hwp_law_commands.Commands.{current_thread}
-use Rattle.hwp_law_run.specs.hwp_law_commands.Settings.{arguments}
+use Rattle.hwp_law_run.specs.hwp_law_commands.Settings.{arguments, last_policy, settings}
+use Rattle.hwp_cpu_control.specs.Forks.{threads_of}
 use Rattle.hwp_law_run.specs.hwp_law_commands.Outcomes.{outcome_answer}
 use Rattle.hwp_law_run.specs.hwp_law.Records.{is_moved}
 use Rattle.hwp_soft.specs.hwp_claim.declared.Found.{Found}
@@ -81,14 +83,16 @@ own_failure own = failed_by None (option_and_then found_in own)
 abbrev pub failures_in : Command → Row → List Failed
 failures_in command row = filter_map (failed_in (current_thread command)) row.told ++ cons_option (own_failure row.own) []
 
--- the policy that a command set, by its answer
+-- the policies that a command set, by its answer
 abbrev pub set_for : Thread → Option Policy → List (Thread × Policy)
 set_for thread None = []
 set_for thread (Some policy) = (thread, policy) ∷ []
 
-abbrev pub set_by : Command → Answer → List (Thread × Policy)
-set_by (commands.Prctl thread args) answers.Done = set_for thread (policy_set (arguments args))
-set_by _ _ = []
+-- behind these earlier ones: a fork sets for each thread of the child the policy that its own thread has then
+abbrev pub set_by : Layout → List (Command × Answer) → Command → Answer → List (Thread × Policy)
+set_by layout earlier (commands.Prctl thread args) answers.Done = set_for thread (policy_set (arguments args))
+set_by layout earlier (commands.Fork parent process) answers.Done = map (λ (t : Thread). (t, last_policy (settings layout parent earlier))) (threads_of process 0 layout.threads)
+set_by layout earlier _ _ = []
 
 -- the answer says whether a page left the frame that was taken out of use
 abbrev pub IsOfflined : Bool → Answer → Type 0
@@ -105,10 +109,10 @@ IsOwn (commands.Unpoison frame) answer (Some (owns.Revived own cycle)) = (own �
 IsOwn command answer (Some own) = ⊥
 
 -- the command did what its row says
-pub record IsAccounted (view : View) (who : Who) (command : Command) (row : Row) : Type 0 where
+pub record IsAccounted (layout : Layout) (earlier : List (Command × Answer)) (view : View) (who : Who) (command : Command) (row : Row) : Type 0 where
   pub marked : markings who view ≡ markings_in row
   pub failed : failures who view ≡ failures_in command row
-  pub set : policies_set who view ≡ set_by command row.answer
+  pub set : policies_set who view ≡ set_by layout earlier command row.answer
   pub own : IsOwn command row.answer row.own
 
 -- a poisoning that the hardware reported, or not, came about so

@@ -36,6 +36,7 @@ use Rattle.hwp_law_run.specs.hwp_script_read.declared.Command.{Command}
 use Rattle.hwp_law_run.specs.hwp_script_read.declared.Command.TheVariants as commands
 use Rattle.hwp_law_run.specs.hwp_report_text.declared.Answer.{Answer}
 use Rattle.hwp_law_run.specs.hwp_report_text.declared.Answer.TheVariants as answers
+use Rattle.hwp_law_run.specs.hwp_banks.Banks.{Banks}
 use Rattle.hwp_law_run.specs.hwp_law_commands.Outcomes.{reply_answer}
 use Rattle.hwp_law_run.specs.hwp_law_commands.Commands.{Access, access_of, can_fail, process_of_thread}
 use Rattle.hwp_law_run.specs.hwp_law_commands.Settings.{arguments, last_policy, settings}
@@ -50,6 +51,7 @@ use Rattle.hwp_cpu_row.specs.declared.Row.{Row}
 use Rattle.hwp_cpu_row.specs.hwp_cpu_check.declared.EventOutcome.{EventOutcome}
 use Rattle.hwp_cpu_row.specs.hwp_cpu_check.Fits.{IsEntered}
 use Rattle.hwp_cpu_row.specs.hwp_cpu_check.Told.{first_signal}
+use Rattle.hwp_law_served.specs.Copied.{IsCopyCaused}
 
 -- a step of the command showed this word of its thread's process
 pub record SawProcess (layout : Layout) (view : View) (who : Who) (thread : Thread) (word : ℕ) : Type 0 where
@@ -148,10 +150,10 @@ pub record SawBadLines (layout : Layout) (view : View) (who : Who) (page : Page)
   pub saw : SawBadOf view who page frame mask.0
 
 -- of a command that copies a page's content: the page was in a frame with bad lines
-abbrev pub IsCopyCaused : Layout → View → Who → Page → What → Answer → Type 0
-IsCopyCaused layout view who page what (answers.BadLines mask at) =
+abbrev pub IsCopiedOut : Layout → View → Who → Page → What → Answer → Type 0
+IsCopiedOut layout view who page what (answers.BadLines mask at) =
     (at.page ≡ page) × FoundState layout view who at (λ (s : PageState). s.cached ≡ true) × SawBadLines layout view who page mask
-IsCopyCaused layout view who page what answer = IsPageCaused layout view who page what answer
+IsCopiedOut layout view who page what answer = IsPageCaused layout view who page what answer
 
 -- the command spoiled this line of the frame, and made no entry
 pub record HasSpoiledLine (view : View) (who : Who) (frame : Frame) (line : ℕ) (damage : Damage) : Type 0 where
@@ -163,7 +165,7 @@ pub record HasSpoiledLine (view : View) (who : Who) (frame : Frame) (line : ℕ)
 pub record IsReplied (layout : Layout) (earlier : List (Command × Answer)) (view : View) (who : Who) (thread : Thread) (given : List ℕ) (answer : Answer) : Type 0 where
   pub going : SawProcess layout view who thread 0
   pub made : HasMadeNone view who
-  pub replied : answer ≡ reply_answer (reply (last_policy (settings thread earlier)) given)
+  pub replied : answer ≡ reply_answer (reply (last_policy (settings layout thread earlier)) given)
 
 -- ---- failures
 
@@ -310,16 +312,18 @@ IsTableCaused layout earlier view who (commands.Drop page) (answers.Locked at) =
 IsTableCaused layout earlier view who (commands.Drop page) (answers.Dirty at) = (at.page ≡ page) × FoundState layout view who at IsDirty
 IsTableCaused layout earlier view who (commands.Drop page) (answers.Mapped at) = (at.page ≡ page) × FoundState layout view who at IsMapped
 IsTableCaused layout earlier view who (commands.Drop page) answer = IsPageCaused layout view who page entries.Drop answer
-IsTableCaused layout earlier view who (commands.Sync page) answer = IsCopyCaused layout view who page entries.Sync answer
+IsTableCaused layout earlier view who (commands.Sync page) answer = IsCopiedOut layout view who page entries.Sync answer
 IsTableCaused layout earlier view who (commands.Out page) (answers.Locked at) = (at.page ≡ page) × FoundState layout view who at IsLockedIn
 IsTableCaused layout earlier view who (commands.Out page) (answers.BadLines mask at) =
     (at.page ≡ page) × FoundState layout view who at (λ (s : PageState). (s.cached ≡ true) × (s.locked ≡ false)) × SawBadLines layout view who page mask
-IsTableCaused layout earlier view who (commands.Out page) answer = IsCopyCaused layout view who page entries.Out answer
+IsTableCaused layout earlier view who (commands.Out page) answer = IsCopiedOut layout view who page entries.Out answer
 IsTableCaused layout earlier view who (commands.Fsync file) answers.Done = HasMadeNone view who
 IsTableCaused layout earlier view who (commands.Fsync file) (answers.Eio more) = HasMadeNone view who × (0 < more)
 IsTableCaused layout earlier view who (commands.Open file) (answers.Opened word) = HasMadeNone view who
 IsTableCaused layout earlier view who (commands.Prctl thread args) (answers.Gone page) = FoundGone layout view who thread page × HasMadeNone view who
 IsTableCaused layout earlier view who (commands.Prctl thread args) answer = IsReplied layout earlier view who thread (arguments args) answer
+IsTableCaused layout earlier view who (commands.Fork thread process) answers.Done = SawProcess layout view who thread 0 × HasMadeNone view who
+IsTableCaused layout earlier view who (commands.Fork thread process) (answers.Gone page) = FoundGone layout view who thread page × HasMadeNone view who
 IsTableCaused layout earlier view who (commands.Log status addr misc) answers.Done = HasMadeNone view who
 IsTableCaused layout earlier view who (commands.Watch threshold window) answers.Done = HasMadeNone view who
 IsTableCaused layout earlier view who (commands.Bad frame line) answers.Done = HasSpoiledLine view who frame line damages.Bad
@@ -341,5 +345,15 @@ IsAnswerCaused layout earlier view who command told own (answers.Sigbus at) =
     IsTableCaused layout earlier view who command (answers.Sigbus at) ⊎ IsSomeAnd (access_of command) (λ (a : Access). WasSignalled layout view who command a.thread told at)
 IsAnswerCaused layout earlier view who command told own answer = IsTableCaused layout earlier view who command answer
 
-abbrev pub IsCaused : Layout → List (Command × Answer) → View → Who → Command → Row → Type 0
-IsCaused layout earlier view who command row = IsAnswerCaused layout earlier view who command row.told row.own row.answer
+-- of a command that copies a page first, from this translation: a store
+abbrev pub IsCopyingCaused : Layout → VSlot → View → Who → Command → Banks → List EventOutcome → Answer → Type 0
+IsCopyingCaused layout from view who (commands.Store thread to line word) before told answer = IsCopyCaused layout view who thread from to line word before told answer
+IsCopyingCaused layout from view who command before told answer = ⊥
+
+-- and of one that copies from the translation, if from one
+abbrev pub IsCausedWith : Layout → List (Command × Answer) → Option VSlot → View → Who → Command → Banks → List EventOutcome → Option FrameChange → Answer → Type 0
+IsCausedWith layout earlier None view who command before told own answer = IsAnswerCaused layout earlier view who command told own answer
+IsCausedWith layout earlier (Some from) view who command before told own answer = IsCopyingCaused layout from view who command before told answer
+
+abbrev pub IsCaused : Layout → List (Command × Answer) → Option VSlot → View → Who → Command → Banks → Row → Type 0
+IsCaused layout earlier copied view who command before row = IsCausedWith layout earlier copied view who command before row.told row.own row.answer

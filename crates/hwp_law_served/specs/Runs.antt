@@ -5,7 +5,11 @@ use Rattle.std.specs.List.Sorted.{IsNonDecreasingBy, IsPermutation}
 use Rattle.std.specs.Option.{option_or}
 use Rattle.hwp_law_run.specs.hwp_geom.declared.Cpu.{Cpu}
 use Rattle.hwp_law_run.specs.hwp_geom.declared.Frame.{Frame}
+use Rattle.hwp_law_run.specs.hwp_geom.declared.Page.{Page}
+use Rattle.hwp_law_run.specs.hwp_geom.declared.Thread.{Thread}
+use Rattle.hwp_law_run.specs.hwp_geom.declared.VSlot.{VSlot}
 use Rattle.hwp_law_run.specs.hwp_geom.declared.Who.{Who}
+use Rattle.hwp_law_run.specs.hwp_page.Step.{IsOf}
 use Rattle.hwp_law_run.specs.hwp_core_rule.declared.State.{State}
 use Rattle.hwp_law_run.specs.hwp_core_rule.Opening.{opening}
 use Rattle.hwp_law_run.specs.hwp_core_rule.Rule.{Holds}
@@ -31,14 +35,20 @@ use Rattle.hwp_cpu_row.specs.declared.Row.{Row}
 use Rattle.hwp_cpu_row.specs.hwp_cpu_check.declared.EventOutcome.{EventOutcome}
 use Rattle.hwp_cpu_row.specs.hwp_cpu_check.Told.{frame_of}
 use Rattle.hwp_law_served.specs.Rows.{Note, lines_from, notes_from, record_of}
-use Rattle.hwp_law_served.specs.Served.{IsServed}
+use Rattle.hwp_law_served.specs.Served.{HasServed, IsServed}
 
 -- the processors have served their commands: the rows of each are those of its list, by what its seat knows, and its lines in the
 -- report are those of its rows
-abbrev pub AreServed : Script → (Cpu → ℕ) → State → List (List Row) → List (List CpuLine) → Type 0
-AreServed script seat last rows cpus =
+abbrev pub AreServed : Script → (Who → Option VSlot) → (Cpu → ℕ) → State → List (List Row) → List (List CpuLine) → Type 0
+AreServed script copies seat last rows cpus =
     (cpu : Cpu) (list : List Command) (own : List Row) → slice_get script.lists cpu.0 ≡ Some list → slice_get rows cpu.0 ≡ Some own
-    → IsServed script.layout (view_of last (seat cpu)) cpu list own × (slice_get cpus cpu.0 ≡ Some (lines_from 0 own))
+    → IsServed script.layout copies (view_of last (seat cpu)) cpu list own × (slice_get cpus cpu.0 ≡ Some (lines_from 0 own))
+
+-- the same of the lists of a script, of each command as its processor acted on it
+abbrev pub HaveServed : Script → (Cpu → ℕ) → State → List (List Row) → List (List CpuLine) → Type 0
+HaveServed script seat last rows cpus =
+    (cpu : Cpu) (list : List Command) (own : List Row) → slice_get script.lists cpu.0 ≡ Some list → slice_get rows cpu.0 ≡ Some own
+    → HasServed script.layout (view_of last (seat cpu)) cpu list own × (slice_get cpus cpu.0 ≡ Some (lines_from 0 own))
 
 -- what the processors noted, from number n on
 abbrev pub notes_of : ℕ → List (List Row) → List (List Note)
@@ -104,16 +114,23 @@ pub record HasStopCause (script : Script) (rows : List (List Row)) (stop : Stop)
   pub row_is : row_at rows stop.who ≡ Some row
   pub cause : IsCauseOf command row.told stop.cause
 
+-- no store copies a page to itself
+abbrev pub AreApart : Script → (Who → Option VSlot) → Type 0
+AreApart script copies =
+    (who : Who) (from to : VSlot) (thread : Thread) (line word : ℕ) (page : Page) → copies who ≡ Some from → command_at script who ≡ Some (commands.Store thread to line word)
+    → IsOf script.layout page from → IsOf script.layout page to → ⊥
+
 -- The turns start from the board at opening, each is a move that keeps the frame rule. On the last board each processor's seat
 -- has served its commands and each failure of a frame is ended, and the report is of that board, of the processors' rows and of what
--- they noted.
-pub record IsRunOf (script : Script) (seat : Cpu → ℕ) (turns : List Played) (last : State) (report : Report) : Type 0 where
+-- they noted. Its commands are those that the processors acted on, some of which copy first.
+pub record IsRunOf (script : Script) (copies : Who → Option VSlot) (seat : Cpu → ℕ) (turns : List Played) (last : State) (report : Report) : Type 0 where
   pub rule : Holds script.layout (opening script.layout)
   pub moves : Leads script.layout (opening script.layout) turns last
   pub seated : AreSeated script.layout last seat
   pub settled : (frame : Frame) (cycle : ℕ) → Pending (words_at script.layout last) frame cycle → ⊥
   pub rows : List (List Row)
-  pub served : AreServed script seat last rows report.cpus
+  pub served : AreServed script copies seat last rows report.cpus
+  pub apart : AreApart script copies
   pub records : AreRecords (notes_of 0 rows) report
   pub ends : EndsWith script.layout last report
   pub lengths : HasLengths script report rows

@@ -1,11 +1,12 @@
 -- What a processor has done when its commands are answered.
-use Rattle.std.specs.Prelude.{◌≡◌, ◌⊎◌, ℕ, ◌+◌, ◌<◌, true, false, List, [], ◌∷◌, ◌++◌, Some, length, map, slice_get}
+use Rattle.std.specs.Prelude.{◌≡◌, ◌⊎◌, ℕ, ◌+◌, ◌<◌, true, false, List, [], ◌∷◌, ◌++◌, Option, Some, length, map, slice_get}
 use Rattle.hwp_law_run.specs.hwp_geom.declared.Cpu.{Cpu}
 use Rattle.hwp_law_run.specs.hwp_geom.declared.Damage.{Damage}
 use Rattle.hwp_law_run.specs.hwp_geom.declared.Damage.TheVariants as damages
 use Rattle.hwp_law_run.specs.hwp_geom.declared.Frame.{Frame}
 use Rattle.hwp_law_run.specs.hwp_geom.declared.Layout.{Layout}
 use Rattle.hwp_law_run.specs.hwp_geom.declared.Thread.{Thread}
+use Rattle.hwp_law_run.specs.hwp_geom.declared.VSlot.{VSlot}
 use Rattle.hwp_law_run.specs.hwp_geom.declared.Who.{Who}
 use Rattle.hwp_law_run.specs.hwp_geom.Pairs.{Pairs}
 use Rattle.hwp_law_run.specs.hwp_core_rule.declared.Made.{Made}
@@ -23,6 +24,7 @@ use Rattle.hwp_law_run.specs.hwp_script_read.declared.Command.TheVariants as com
 use Rattle.hwp_law_run.specs.hwp_report_text.declared.Answer.{Answer}
 use Rattle.hwp_law_run.specs.hwp_report_text.declared.Answer.TheVariants as answers
 use Rattle.hwp_law_run.specs.hwp_banks.Banks.{Banks, empty_banks}
+use Rattle.hwp_law_run.specs.hwp_law_commands.Cows.{acting, copied_from}
 use Rattle.hwp_law_run.specs.hwp_law_commands.Settings.{settings}
 use Rattle.hwp_law_run.specs.hwp_words.Stops.{is_stopped}
 use Rattle.hwp_law_run.specs.hwp_report_text.declared.OfflineResult.TheVariants as results
@@ -50,24 +52,33 @@ pub record IsOffliningServed (layout : Layout) (view : View) (who : Who) (o : Of
   pub running : (o.result ≡ results.Stopped) ⊎ SawRunning view who
 
 -- what a command that is answered so, with these lines, has done and told; a command whose events stopped the machine answers
--- `stopped`, and one with another answer saw the machine running; and what came of the frames that were taken out of use beside it
-pub record IsRowServed (layout : Layout) (earlier : List (Command × Answer)) (view : View) (who : Who) (command : Command) (before : Banks) (row : Row) (after : Banks) : Type 0 where
-  pub caused : IsCaused layout earlier view who command row
-  pub accounted : IsAccounted view who command row
-  pub told : IsRowTold layout view who command before row after
+-- `stopped`, and one with another answer saw the machine running; and what came of the frames that were taken out of use beside it. It
+-- copied from the translation first, if from one
+pub record IsRowServed (layout : Layout) (earlier : List (Command × Answer)) (copied : Option VSlot) (view : View) (who : Who) (command : Command) (before : Banks) (row : Row) (after : Banks) : Type 0 where
+  pub caused : IsCaused layout earlier copied view who command before row
+  pub accounted : IsAccounted layout earlier view who command row
+  pub told : IsRowTold layout copied view who command before row after
   pub heeded : halts row.told ≡ true → row.answer ≡ answers.Stopped
   pub running : (row.answer ≡ answers.Stopped) ⊎ SawRunning view who
   pub beside : AreBeside view who command row
   pub offlined : EachMember (IsOffliningServed layout view who) row.offlined
 
 -- the rows are those of the first of these commands, in order, and lead from what the banks held before to what they hold after;
--- the commands are those of the processor's list from its n-th on, behind the earlier ones with their answers
-abbrev pub AreRowsServed : Layout → List (Command × Answer) → View → Cpu → ℕ → Banks → List Command → List Row → Banks → Type 0
-AreRowsServed layout earlier view cpu n before commands [] after = after ≡ before
-AreRowsServed layout earlier view cpu n before (command ∷ commands) (row ∷ rows) after =
-    (between : Banks) × IsRowServed layout earlier view (record { cpu = cpu; seq = n }) command before row between
-    × AreRowsServed layout (earlier ++ (command, row.answer) ∷ []) view cpu (n + 1) between commands rows after
-AreRowsServed layout earlier view cpu n before [] (row ∷ rows) after = ⊥
+-- the commands are those of the processor's list from its n-th on, behind the earlier ones with their answers; some of them copy first
+abbrev pub AreRowsServed : Layout → (Who → Option VSlot) → List (Command × Answer) → View → Cpu → ℕ → Banks → List Command → List Row → Banks → Type 0
+AreRowsServed layout copies earlier view cpu n before commands [] after = after ≡ before
+AreRowsServed layout copies earlier view cpu n before (command ∷ commands) (row ∷ rows) after =
+    (between : Banks) × IsRowServed layout earlier (copies (record { cpu = cpu; seq = n })) view (record { cpu = cpu; seq = n }) command before row between
+    × AreRowsServed layout copies (earlier ++ (command, row.answer) ∷ []) view cpu (n + 1) between commands rows after
+AreRowsServed layout copies earlier view cpu n before [] (row ∷ rows) after = ⊥
+
+-- so of a script's list, where the processor acts on each command through the translations that stand for those it names
+abbrev pub AreRowsActed : Layout → List (Command × Answer) → View → Cpu → ℕ → Banks → List Command → List Row → Banks → Type 0
+AreRowsActed layout earlier view cpu n before commands [] after = after ≡ before
+AreRowsActed layout earlier view cpu n before (command ∷ commands) (row ∷ rows) after =
+    (between : Banks) × IsRowServed layout earlier (copied_from layout earlier command) view (record { cpu = cpu; seq = n }) (acting layout earlier command) before row between
+    × AreRowsActed layout (earlier ++ (command, row.answer) ∷ []) view cpu (n + 1) between commands rows after
+AreRowsActed layout earlier view cpu n before [] (row ∷ rows) after = ⊥
 
 -- of a command of the processor that was begun
 abbrev pub IsOneOf : Cpu → ℕ → Who → Type 0
@@ -115,19 +126,19 @@ pub record IsOwnSpoil (cpu : Cpu) (list : List Command) (rows : List Row) (s : S
   pub row_is : slice_get rows s.stamp.who.seq ≡ Some row
   pub answered : row.answer ≡ answers.Done
 
--- The processor's commands are answered, all of them, each with its cause, its events told and its banks empty at first; all that it
+-- By what its rows say of it: the processor's commands are answered, all of them, each with its cause, its events told and its banks empty at first; all that it
 -- made and did is of them, and the policies of each thread are those that they set, in their order; its marks are noted, each with what its failure
 -- found; after a first `stopped` it answered nothing else; the lines that it spoiled are those of its commands; the numbers of its
 -- handles are those that it was shown; the frames that were taken out of use beside its commands are those that were due; and it holds
 -- nothing.
-pub record IsServed (layout : Layout) (view : View) (cpu : Cpu) (list : List Command) (rows : List Row) : Type 0 where
+pub record IsServedBy (Are : Banks → Type 0) (layout : Layout) (view : View) (cpu : Cpu) (list : List Command) (rows : List Row) : Type 0 where
   pub count : length rows ≡ length list
   pub banks : Banks
-  pub rows_are : AreRowsServed layout [] view cpu 0 empty_banks list rows banks
+  pub rows_are : Are banks
   pub made : EachMember (IsBegun cpu (length list)) view.made
   pub marked : EachMember (λ (m : Mark). IsOneOf cpu (length list) m.stamp.who) view.marks
   pub set : EachMember (λ (s : Setting). IsOneOf cpu (length list) s.stamp.who) view.settings
-  pub policies : (thread : Thread) → map (λ (s : Setting). s.policy) (settings_of thread view.settings) ≡ settings thread (answers_by list rows)
+  pub policies : (thread : Thread) → map (λ (s : Setting). s.policy) (settings_of thread view.settings) ≡ settings layout thread (answers_by list rows)
   pub stops : EachMember (IsOwnStop layout cpu list rows) view.stops
   pub noted : Pairs IsNote (notes_from cpu 0 rows) view.marks
   pub spoiled : EachMember (IsOwnSpoil cpu list rows) view.spoiled
@@ -135,3 +146,10 @@ pub record IsServed (layout : Layout) (view : View) (cpu : Cpu) (list : List Com
   pub numbers : KnowsNumbers layout view cpu list rows
   pub due : KnowsDue layout list rows
   pub nothing : HoldsNothing view
+
+-- by the commands that it acted on, some of which copy first; and by those of the script
+abbrev pub IsServed : Layout → (Who → Option VSlot) → View → Cpu → List Command → List Row → Type 0
+IsServed layout copies view cpu list rows = IsServedBy (λ (after : Banks). AreRowsServed layout copies [] view cpu 0 empty_banks list rows after) layout view cpu list rows
+
+abbrev pub HasServed : Layout → View → Cpu → List Command → List Row → Type 0
+HasServed layout view cpu list rows = IsServedBy (λ (after : Banks). AreRowsActed layout [] view cpu 0 empty_banks list rows after) layout view cpu list rows

@@ -5,6 +5,7 @@ use Rattle.hwp_law_run.specs.hwp_geom.declared.Layout.{Layout}
 use Rattle.hwp_law_run.specs.hwp_geom.declared.Mode.{Mode}
 use Rattle.hwp_law_run.specs.hwp_geom.declared.Mode.TheVariants as modes
 use Rattle.hwp_law_run.specs.hwp_geom.declared.Thread.{Thread}
+use Rattle.hwp_law_run.specs.hwp_geom.declared.VSlot.{VSlot}
 use Rattle.hwp_law_run.specs.hwp_geom.declared.Who.{Who}
 use Rattle.hwp_law_run.specs.hwp_banks.declared.Origin.{Origin}
 use Rattle.hwp_law_run.specs.hwp_banks.declared.Origin.TheVariants as origins
@@ -22,6 +23,7 @@ use Rattle.hwp_law_run.specs.hwp_banks.Banks.{raw_event}
 use Rattle.hwp_cpu_row.specs.declared.Row.{Row}
 use Rattle.hwp_cpu_row.specs.hwp_cpu_check.declared.EventOutcome.{EventOutcome}
 use Rattle.hwp_cpu_row.specs.hwp_cpu_check.Checks.{AreChecks, Check, IsActedOn, left_by, lines_of}
+use Rattle.hwp_law_served.specs.Copied.{IsCopyTold}
 use Rattle.hwp_scrub.specs.Visits as scrubs
 use Rattle.hwp_scrub.specs.Visits.{AreVisits, Find, IsBadFind, Visit, left_by_bad}
 
@@ -82,5 +84,15 @@ AreToldBy layout view who (commands.Scrub first last) answer before told after =
 AreToldBy layout view who (commands.Log status addr misc) answer before told after = (told ≡ []) × (after ≡ logged_if_done (Some answer) (raw_event status addr misc) before)
 AreToldBy layout view who command answer before told after = IsUntold told before after
 
-abbrev pub IsRowTold : Layout → View → Who → Command → Banks → Row → Banks → Type 0
-IsRowTold layout view who command before row after = AreToldBy layout view who command row.answer before row.told after
+-- of a command that copies a page first, from this translation: a store
+abbrev pub AreToldCopying : Layout → VSlot → View → Who → Command → Banks → List EventOutcome → Banks → Type 0
+AreToldCopying layout from view who (commands.Store thread to line word) before told after = IsCopyTold layout view who thread from to line word before told after
+AreToldCopying layout from view who command before told after = ⊥
+
+-- and of one that copies from the translation, if from one
+abbrev pub AreToldWith : Layout → Option VSlot → View → Who → Command → Answer → Banks → List EventOutcome → Banks → Type 0
+AreToldWith layout None view who command answer before told after = AreToldBy layout view who command answer before told after
+AreToldWith layout (Some from) view who command answer before told after = AreToldCopying layout from view who command before told after
+
+abbrev pub IsRowTold : Layout → Option VSlot → View → Who → Command → Banks → Row → Banks → Type 0
+IsRowTold layout copied view who command before row after = AreToldWith layout copied view who command row.answer before row.told after

@@ -1,7 +1,9 @@
 -- Each answer of a run rests on what its own command was shown.
 use Rattle.std.proofs.Common.{◌≡◌, ◌⊎◌, ℕ, ◌+◌, ◌<◌, Bool, true, false, cond, nat_le, List, Option, Some, None, map, slice_get, take, option_and_then, sym, ap, ◌∙◌, subst, refl, true≢false}
 use Rattle.std.proofs.lemmas.Option.{none-some, same_Some}
+use Rattle.hwp_law_served.specs.hwp_geom.declared.VSlot.{VSlot}
 use Rattle.hwp_law_served.specs.hwp_geom.declared.Cpu.{Cpu}
+use Rattle.hwp_law_served.specs.hwp_geom.declared.Frame.{Frame}
 use Rattle.hwp_law_served.specs.hwp_geom.declared.Layout.{Layout}
 use Rattle.hwp_law_served.specs.hwp_geom.declared.Proc.{Proc}
 use Rattle.hwp_law_served.specs.hwp_geom.declared.Thread.{Thread}
@@ -43,7 +45,7 @@ use Rattle.hwp_law_served.specs.hwp_law_run.Shown.{AlreadyShown, IsShown, Offlin
 use Rattle.hwp_law_served.proofs.of_hwp_law_run.SeatKnows.{Said}
 use Rattle.hwp_law_served.proofs.of_hwp_law_run.SeatTells.{all-told, told}
 use Rattle.hwp_law_served.specs.hwp_scrub.Visits.{AreBanks}
-use Rattle.hwp_law_served.specs.Causes.{IsAnswerCaused}
+use Rattle.hwp_law_served.specs.Causes.{IsCausedWith}
 use Rattle.hwp_law_served.specs.hwp_cpu_row.Acts.{event_at}
 use Rattle.hwp_law_served.specs.Rows.{offlined_at}
 use Rattle.hwp_law_served.specs.Runs.{IsRunOf, row_at}
@@ -54,8 +56,11 @@ use Rattle.hwp_law_served.proofs.LastBoard.{ended}
 use Rattle.hwp_law_served.proofs.RowLines.{answer-told, events-by-row, events-told, offlined-by-row, offlines_at, told_at}
 use Rattle.hwp_law_served.proofs.lines.OfRows.{row-of}
 use Rattle.hwp_law_sights.proofs.lines.ScrubShown.{bad-shown, looked-at, weak-shown}
-use Rattle.hwp_law_served.proofs.RowTold.{IsToldRight, told-so}
-use Rattle.hwp_law_sights.proofs.Shown.{already-shown, answer-shown, beside-shown, goes-shown, runs-shown, word-shown}
+use Rattle.hwp_law_served.proofs.RowTold.{IsToldRight}
+use Rattle.hwp_law_served.proofs.copied.CopyTells.{told-so}
+use Rattle.hwp_law_served.proofs.copied.Uncopied.{told-uncopied}
+use Rattle.hwp_law_sights.proofs.copied.CopyShown.{answer-with, goes-with}
+use Rattle.hwp_law_sights.proofs.Shown.{already-shown, beside-shown, runs-shown, word-shown}
 use Rattle.hwp_law_sights.proofs.losses.NumbersTold.{number-known}
 
 -- the list of a processor that has such a command
@@ -118,7 +123,7 @@ saw-already layout view who thread t (b, right) already = which (at_once layout 
     which None none done = failed t.found done
     which (Some acted) some done = absurd (true≢false (sym (ap is_already (sym done.0 ∙ already)) ∙ sym (ap is_told_already some) ∙ once-not-already layout b (frame_at t.held.event.addr) t.held.grade.severity))
 
-module _ (script : Script) (seat : Cpu → ℕ) (turns : List Played) (last : State) (report : Report) (run : IsRunOf script seat turns last report) where
+module _ (script : Script) (copies : Who → Option VSlot) (seat : Cpu → ℕ) (turns : List Played) (last : State) (report : Report) (run : IsRunOf script copies seat turns last report) where
   -- a command of the script, with its row and what its seat knows of it
   pub record Serves (who : Who) (command : Command) : Type 0 where
     pub earlier : List (Command × Answer)
@@ -127,15 +132,15 @@ module _ (script : Script) (seat : Cpu → ℕ) (turns : List Played) (last : St
     pub before : Banks
     pub free : AreBanks before
     pub after : Banks
-    pub served : IsRowServed script.layout earlier (view_of last (seat who.cpu)) who command before row after
+    pub served : IsRowServed script.layout earlier (copies who) (view_of last (seat who.cpu)) who command before row after
     pub answered : answer_of report who ≡ Some row.answer
     pub events : events_of report who ≡ map (event_at who.seq) row.told
 
   pub serves : (who : Who) (command : Command) → command_at script who ≡ Some command → Serves who command
   serves who command at =
-      let end = ended script seat turns last report run in
+      let end = ended script copies seat turns last report run in
       let has = has-command script who command at in
-      let of = command-of script seat last report end who has.list command has.list_is has.command_is in
+      let of = command-of script copies seat last report end who has.list command has.list_is has.command_is in
       let same_command : of.command ≡ command = same_Some of.command command (sym of.command_is ∙ ap (λ (l : List Command). slice_get l who.seq) (same_Some of.list has.list (sym of.list_is ∙ has.list_is)) ∙ has.command_is) in
       record {
         earlier = of.earlier;
@@ -144,9 +149,9 @@ module _ (script : Script) (seat : Cpu → ℕ) (turns : List Played) (last : St
         before = of.before;
         free = of.free;
         after = of.after;
-        served = subst (λ (c : Command). IsRowServed script.layout of.earlier (view_of last (seat who.cpu)) who c of.before of.row of.after) same_command of.served;
-        answered = answer-told script seat last report end (view_of last (seat who.cpu)) who of;
-        events = events-told script seat last report end (view_of last (seat who.cpu)) who of;
+        served = subst (λ (c : Command). IsRowServed script.layout of.earlier (copies who) (view_of last (seat who.cpu)) who c of.before of.row of.after) same_command of.served;
+        answered = answer-told script copies seat last report end (view_of last (seat who.cpu)) who of;
+        events = events-told script copies seat last report end (view_of last (seat who.cpu)) who of;
       }
 
   -- and with this answer
@@ -157,7 +162,7 @@ module _ (script : Script) (seat : Cpu → ℕ) (turns : List Played) (last : St
     pub answer_is : row.answer ≡ answer
     pub before : Banks
     pub after : Banks
-    pub served : IsRowServed script.layout earlier (view_of last (seat who.cpu)) who command before row after
+    pub served : IsRowServed script.layout earlier (copies who) (view_of last (seat who.cpu)) who command before row after
 
   pub answers-of : (who : Who) (command : Command) (answer : Answer) → command_at script who ≡ Some command → answer_of report who ≡ Some answer → Answers who command answer
   answers-of who command answer at is =
@@ -165,27 +170,27 @@ module _ (script : Script) (seat : Cpu → ℕ) (turns : List Played) (last : St
       record { earlier = a.earlier; inside = a.inside; row = a.row; answer_is = same_Some a.row.answer answer (sym a.answered ∙ is); before = a.before; after = a.after; served = a.served }
 
   -- its answer has its cause
-  pub caused-so : {who : Who} {command : Command} {answer : Answer} (a : Answers who command answer) → IsAnswerCaused script.layout a.earlier (view_of last (seat who.cpu)) who command a.row.told a.row.own answer
-  caused-so {who} {command} a = subst (IsAnswerCaused script.layout a.earlier (view_of last (seat who.cpu)) who command a.row.told a.row.own) a.answer_is a.served.caused
+  pub caused-so : {who : Who} {command : Command} {answer : Answer} (a : Answers who command answer) → IsCausedWith script.layout a.earlier (copies who) (view_of last (seat who.cpu)) who command a.before a.row.told a.row.own answer
+  caused-so {who} {command} a = subst (IsCausedWith script.layout a.earlier (copies who) (view_of last (seat who.cpu)) who command a.before a.row.told a.row.own) a.answer_is a.served.caused
 
   said : (cpu : Cpu) → cpu.0 < script.layout.cpus → Said (told script.layout turns) (view_of last (seat cpu))
   said cpu inside = all-told script.layout turns last run.rule run.moves (seat cpu) (view_of last (seat cpu)) (run.seated.there cpu inside)
 
-  events-shown : (who : Who) (o : Option Row) → row_at (ended script seat turns last report run).rows who ≡ o → EachMember (AlreadyShown script.layout turns who) (map (event_at who.seq) (told_at o))
+  events-shown : (who : Who) (o : Option Row) → row_at (ended script copies seat turns last report run).rows who ≡ o → EachMember (AlreadyShown script.layout turns who) (map (event_at who.seq) (told_at o))
   events-shown who None none = λ i e there. absurd (none-some e there)
   events-shown who (Some row) some =
-      let r = row-of script seat last report (ended script seat turns last report run) who row some in
+      let r = row-of script copies seat last report (ended script copies seat turns last report run) who row some in
       let view : View = view_of last (seat who.cpu) in
       let right : EachMember (IsToldRight script.layout view who (current_thread r.of.command)) row.told = subst (λ (x : Row). EachMember (IsToldRight script.layout view who (current_thread r.of.command)) x.told) r.same
-      (told-so script.layout view who r.of.command r.of.row.answer r.of.before r.of.row.told r.of.after r.of.served.told) in
+      (told-so script.layout view who (copies who) r.of.command r.of.row.answer r.of.before r.of.row.told r.of.after r.of.served.told) in
       each-map (event_at who.seq) (AlreadyShown script.layout turns who) row.told
       (each-weaken (IsToldRight script.layout view who (current_thread r.of.command)) (λ (t : EventOutcome). AlreadyShown script.layout turns who (event_at who.seq t)) row.told
       (λ t is. already-shown script turns view (said who.cpu r.of.inside) who r.of.earlier t who.seq (saw-already script.layout view who (current_thread r.of.command) t is)) right)
 
-  offlined-shown : (who : Who) (o : Option Row) → row_at (ended script seat turns last report run).rows who ≡ o → EachMember (OfflineShown script turns who) (map (offlined_at who.seq) (offlines_at o))
+  offlined-shown : (who : Who) (o : Option Row) → row_at (ended script copies seat turns last report run).rows who ≡ o → EachMember (OfflineShown script turns who) (map (offlined_at who.seq) (offlines_at o))
   offlined-shown who None none = λ i l there. absurd (none-some l there)
   offlined-shown who (Some row) some =
-      let r = row-of script seat last report (ended script seat turns last report run) who row some in
+      let r = row-of script copies seat last report (ended script copies seat turns last report run) who row some in
       let view : View = view_of last (seat who.cpu) in
       let served : EachMember (IsOffliningServed script.layout view who) row.offlined = subst (λ (x : Row). EachMember (IsOffliningServed script.layout view who) x.offlined) r.same r.of.served.offlined in
       each-map (offlined_at who.seq) (OfflineShown script turns who) row.offlined
@@ -193,38 +198,42 @@ module _ (script : Script) (seat : Cpu → ℕ) (turns : List Played) (last : St
       (λ x is. beside-shown script turns view (said who.cpu r.of.inside) who r.of.earlier x who.seq is) served)
 
   -- each answer, each line of an event and of a frame taken out of use, and each number of a handle rests on what its command was shown
-  pub report-shown : IsShown script report turns
+  pub report-shown : IsShown script copies report turns
   report-shown = record {
     answers = λ who command answer at is.
         let a = answers-of who command answer at is in
-        answer-shown script turns (view_of last (seat who.cpu)) (said who.cpu a.inside) who a.earlier command a.row.told a.row.own answer at (caused-so a);
+        answer-with script copies seat last report (ended script copies seat turns last report run) turns who a.inside (said who.cpu a.inside) a.earlier (copies who) command a.before a.row.told a.row.own answer refl at (caused-so a);
     going = λ who process answer at is.
         let has = process-command script who process at in
         let a = answers-of who has.0 answer has.1 is in
-        goes-shown script turns (view_of last (seat who.cpu)) (said who.cpu a.inside) who a.earlier process has.0 a.row.told a.row.own answer has.1 at (caused-so a);
+        goes-with script copies seat last report (ended script copies seat turns last report run) turns who a.inside (said who.cpu a.inside) a.earlier process (copies who) has.0 a.before a.row.told a.row.own answer has.1 at (caused-so a);
     running = λ who command answer at is.
         let a = answers-of who command answer at is in
         runs-shown script.layout turns (view_of last (seat who.cpu)) (said who.cpu a.inside) who answer (subst (λ (x : Answer). (x ≡ answers.Stopped) ⊎ SawRunning (view_of last (seat who.cpu)) who) a.answer_is a.served.running);
-    events = λ who. subst (EachMember (AlreadyShown script.layout turns who)) (sym (events-by-row script seat last report (ended script seat turns last report run) who)) (events-shown who (row_at (ended script seat turns last report run).rows who) refl);
-    offlined = λ who. subst (EachMember (OfflineShown script turns who)) (sym (offlined-by-row script seat last report (ended script seat turns last report run) who)) (offlined-shown who (row_at (ended script seat turns last report run).rows who) refl);
+    events = λ who. subst (EachMember (AlreadyShown script.layout turns who)) (sym (events-by-row script copies seat last report (ended script copies seat turns last report run) who)) (events-shown who (row_at (ended script copies seat turns last report run).rows who) refl);
+    offlined = λ who. subst (EachMember (OfflineShown script turns who)) (sym (offlined-by-row script copies seat last report (ended script copies seat turns last report run) who)) (offlined-shown who (row_at (ended script copies seat turns last report run).rows who) refl);
     handles = λ cpu list rows list_is rows_is file i p there tells.
-        let known = number-known script seat last report (ended script seat turns last report run) cpu list rows list_is rows_is file i p there tells in
+        let known = number-known script copies seat last report (ended script copies seat turns last report run) cpu list rows list_is rows_is file i p there tells in
         word-shown script.layout turns (view_of last (seat cpu)) (said cpu known.0) (record { cpu = cpu; seq = i }) (λ (word : ℕ). word ≡ numbers_after file 0 (take (i + 1) (answered list rows))) (places.Loss file)
         (numbers_after file 0 (take (i + 1) (answered list rows))) refl known.1.0;
   }
+
+  -- what a scrub told
+  scrub-told : {who : Who} {first last_frame : Frame} (a : Serves who (commands.Scrub first last_frame)) → IsScrubTold script.layout (view_of last (seat who.cpu)) who first last_frame a.row.answer a.before a.row.told a.after
+  scrub-told {who} {first} {last_frame} a = told-uncopied script.layout (copies who) (view_of last (seat who.cpu)) who (commands.Scrub first last_frame) a.row.answer a.before a.row.told a.after refl a.served.told
 
   -- and so does each line of a scrub
   pub scrubs-shown : ScrubsShown script report turns
   scrubs-shown = record {
     bad = λ who first last_frame at.
         let a = serves who (commands.Scrub first last_frame) at in
-        bad-shown script report turns (view_of last (seat who.cpu)) (said who.cpu a.inside) who first last_frame a.before a.free a.row.told a.after a.events a.row.answer a.served.told;
+        bad-shown script report turns (view_of last (seat who.cpu)) (said who.cpu a.inside) who first last_frame a.before a.free a.row.told a.after a.events a.row.answer (scrub-told a);
     weak = λ who first last_frame at.
         let a = serves who (commands.Scrub first last_frame) at in
-        weak-shown script report turns (view_of last (seat who.cpu)) (said who.cpu a.inside) who first last_frame a.before a.free a.row.told a.after a.events a.row.answer a.served.told;
+        weak-shown script report turns (view_of last (seat who.cpu)) (said who.cpu a.inside) who first last_frame a.before a.free a.row.told a.after a.events a.row.answer (scrub-told a);
     whole = λ who first last_frame n at is.
         let a = serves who (commands.Scrub first last_frame) at in
         let answer : a.row.answer ≡ answers.Scrubbed n = same_Some a.row.answer (answers.Scrubbed n) (sym a.answered ∙ is) in
         looked-at script report turns (view_of last (seat who.cpu)) (said who.cpu a.inside) who first last_frame a.before a.free a.row.told a.after a.events
-        (subst (λ (x : Answer). IsScrubTold script.layout (view_of last (seat who.cpu)) who first last_frame x a.before a.row.told a.after) answer a.served.told);
+        (subst (λ (x : Answer). IsScrubTold script.layout (view_of last (seat who.cpu)) who first last_frame x a.before a.row.told a.after) answer (scrub-told a));
   }

@@ -69,7 +69,7 @@ use Rattle.hwp_law_served.proofs.OfflineCames.{came-of}
 use Rattle.hwp_law_served.proofs.deeds.Made.{some-so}
 
 -- a translation is of one page
-one-page : (layout : Layout) (slot : VSlot) (a b : Page) → IsOf layout a slot → IsOf layout b slot → a ≡ b
+pub one-page : (layout : Layout) (slot : VSlot) (a b : Page) → IsOf layout a slot → IsOf layout b slot → a ≡ b
 one-page layout slot a b = which (slice_get layout.trans slot.0)
   where
     which : (o : Option TransDecl) → IsSomeAnd o (λ (t : TransDecl). t.page ≡ a) → IsSomeAnd o (λ (t : TransDecl). t.page ≡ b) → a ≡ b
@@ -138,7 +138,7 @@ module _ (layout : Layout) (turns : List Played) (view : View) (said : Said (tol
         );
       }
 
-  page-shown : (P : Log → Type 0) (page : Page) (place : ℕ) (Such : PageState → Type 0) → (saw : SawState layout view who page place Such) → P saw.log → SawPage layout turns who page P
+  pub page-shown : (P : Log → Type 0) (page : Page) (place : ℕ) (Such : PageState → Type 0) → (saw : SawState layout view who page place Such) → P saw.log → SawPage layout turns who page P
   page-shown P page place Such saw such = subst (λ (p : Page). SawPage layout turns who p P) saw.page_is (log-shown P saw.log such saw.saw)
 
   -- a number of entries after which the command saw the page
@@ -146,7 +146,7 @@ module _ (layout : Layout) (turns : List Played) (view : View) (said : Said (tol
   length-shown {at = at} {Such = Such} saw = page-shown (λ (log : Log). length log.entries ≡ at.entry) at.page at.entry Such saw saw.place_is
 
   -- the machine had stopped, or the command stopped it
-  stopped-shown : SawStop view who ⊎ SomeMember (λ (w : Who). w ≡ who) view.stops → StopShown layout turns who
+  pub stopped-shown : SawStop view who ⊎ SomeMember (λ (w : Who). w ≡ who) view.stops → StopShown layout turns who
   stopped-shown (inl saw) = inl (word-shown (λ (word : ℕ). stopper_of word ≢ 0) places.Stop saw.word (λ none. true≢false (sym saw.stopped ∙ ap not (eq-eqb (stopper_of saw.word) 0 none))) saw.saw)
   stopped-shown (inr own) = inr (subst (λ (by : Who). TurnBy layout turns by (λ (made : Rec) (v : View). (made.step ≡ steps.Stop by.cpu) × (made.found ≡ 0))) own.3 (said.stops own.0 own.1 own.2))
 
@@ -169,14 +169,14 @@ module _ (layout : Layout) (turns : List Played) (view : View) (said : Said (tol
 
 module _ (script : Script) (turns : List Played) (view : View) (said : Said (told script.layout turns) view) (who : Who) (earlier : List (Command × Answer)) where
   -- the process of the command's thread had ended
-  gone-shown : (command : Command) (thread : Thread) (page : Page) → command_at script who ≡ Some command → thread_of command ≡ Some thread → FoundGone script.layout view who thread page → GoneShown script turns who page
+  pub gone-shown : (command : Command) (thread : Thread) (page : Page) → command_at script who ≡ Some command → thread_of command ≡ Some thread → FoundGone script.layout view who thread page → GoneShown script turns who page
   gone-shown command thread page at of gone =
       let process = gone.ended.process in
       let is : process_at script who ≡ Some process = process-is script who command at ∙ ap (λ (o : Option Thread). option_and_then (process_of_thread script.layout) o) of ∙ gone.ended.process_is in
       some-so (λ (p : Proc). ProcessShown script.layout turns who p (page.0 + 1)) (process_at script who) process is (process-shown script.layout turns view said who process gone.ended.process_is gone.ended)
 
   -- no frame was available, and the page was in none
-  no-frame-shown : (command : Command) (thread : Thread) (slot : VSlot) (line : ℕ) → slot_of command ≡ Some slot → FoundNoFrame script.layout view who thread slot line → NoFrameShown script turns who command
+  no-frame-shown : (command : Command) (thread : Thread) (slot : VSlot) (line : ℕ) → slot_of command ≡ Some slot → FoundNoFrame script.layout view who thread slot line → NoFrameShown script turns who (slot_of command)
   no-frame-shown command thread slot line its found = record {
     available = word-shown script.layout turns view said who (λ (word : ℕ). word ≡ 0) places.Available 0 refl found.available;
     out = λ other page other_is of.
@@ -186,7 +186,7 @@ module _ (script : Script) (turns : List Played) (view : View) (said : Said (tol
         (page-shown script.layout turns view said who (λ (log : Log). (state_of script.layout log).cached ≡ false) found.page found.place IsAway found.away found.away.such);
   }
 
-  replied-shown : (thread : Thread) (args : PrctlArgs) (r : Reply) → AnswerShown script turns who (commands.Prctl thread args) (reply_answer r)
+  replied-shown : (thread : Thread) (args : PrctlArgs) (r : Reply) → AnswerShown script turns who None (commands.Prctl thread args) (reply_answer r)
   replied-shown thread args (replies.Set policy) = tt
   replied-shown thread args (replies.Is policy) = tt
   replied-shown thread args replies.Einval = tt
@@ -200,7 +200,7 @@ module _ (script : Script) (turns : List Played) (view : View) (said : Said (tol
   )
 
   -- what the answer rests on, where the command brought no failure about
-  table-shown : (command : Command) (answer : Answer) → command_at script who ≡ Some command → IsTableCaused script.layout earlier view who command answer → AnswerShown script turns who command answer
+  table-shown : (command : Command) (answer : Answer) → command_at script who ≡ Some command → IsTableCaused script.layout earlier view who command answer → AnswerShown script turns who (slot_of command) command answer
   table-shown (commands.Load thread slot line) (answers.Value word entry) at caused = tt
   table-shown (commands.Load thread slot line) (answers.Sigbus entry) at caused = tt
   table-shown (commands.Load thread slot line) answers.NoFrame at caused = no-frame-shown (commands.Load thread slot line) thread slot line refl caused
@@ -236,7 +236,9 @@ module _ (script : Script) (turns : List Played) (view : View) (said : Said (tol
   table-shown (commands.Open file) (answers.Opened word) at caused = tt
   table-shown (commands.Prctl thread args) (answers.Gone page) at caused = gone-shown (commands.Prctl thread args) thread page at refl caused.0
   table-shown (commands.Prctl thread args) answer at caused =
-      subst (AnswerShown script turns who (commands.Prctl thread args)) (sym caused.replied) (replied-shown thread args (reply (last_policy (settings thread earlier)) (arguments args)))
+      subst (AnswerShown script turns who None (commands.Prctl thread args)) (sym caused.replied) (replied-shown thread args (reply (last_policy (settings script.layout thread earlier)) (arguments args)))
+  table-shown (commands.Fork thread process) answers.Done at caused = tt
+  table-shown (commands.Fork thread process) (answers.Gone page) at caused = gone-shown (commands.Fork thread process) thread page at refl caused.0
   table-shown (commands.Log status addr misc) answers.Done at caused = tt
   table-shown (commands.Watch threshold window) answers.Done at caused = tt
   table-shown (commands.Bad frame line) answers.Done at caused = tt
@@ -244,7 +246,7 @@ module _ (script : Script) (turns : List Played) (view : View) (said : Said (tol
   table-shown command answer at caused = absurd caused
 
   -- SIGBUS itself rests on no word
-  sigbus-shown : (command : Command) (at : At) → AnswerShown script turns who command (answers.Sigbus at)
+  sigbus-shown : (command : Command) (at : At) → AnswerShown script turns who (slot_of command) command (answers.Sigbus at)
   sigbus-shown (commands.Inject frame) at = tt
   sigbus-shown (commands.Soft frame) at = tt
   sigbus-shown (commands.Unpoison frame) at = tt
@@ -252,7 +254,7 @@ module _ (script : Script) (turns : List Played) (view : View) (said : Said (tol
   sigbus-shown command at = tt
 
   -- what came of taking a frame out of use rests on this, by the answer of a `soft` that says the same
-  came-shown : (frame : Frame) (change : Option FrameChange) (result : OfflineResult) → IsOfflineServed script.layout view who frame change result → AnswerShown script turns who (commands.Soft frame) (offline_answer result)
+  came-shown : (frame : Frame) (change : Option FrameChange) (result : OfflineResult) → IsOfflineServed script.layout view who frame change result → AnswerShown script turns who None (commands.Soft frame) (offline_answer result)
   came-shown frame change (results.Moved other entry) (users, marked, (word, free)) =
       adopt-shown script.layout turns view said who other word (record { bare = free.bare; uncounted = free.uncounted }) free.saw
   came-shown frame change results.TakenFree came = tt
@@ -266,7 +268,7 @@ module _ (script : Script) (turns : List Played) (view : View) (said : Said (tol
   came-shown frame change results.Stopped (saw, none) = stopped-shown script.layout turns view said who (inl saw)
 
   -- what the answer of a soft offline rests on
-  offline-shown : (frame : Frame) (own : Option FrameChange) (answer : Answer) → IsUsers script.layout frame → IsOfflineCaused script.layout view who frame own answer → AnswerShown script turns who (commands.Soft frame) answer
+  offline-shown : (frame : Frame) (own : Option FrameChange) (answer : Answer) → IsUsers script.layout frame → IsOfflineCaused script.layout view who frame own answer → AnswerShown script turns who None (commands.Soft frame) answer
   offline-shown frame own (answers.Moved other entry) users caused = came-shown frame own (results.Moved other entry) (came-of script.layout view who frame own (results.Moved other entry) users caused)
   offline-shown frame own answers.TakenFree users caused = tt
   offline-shown frame own answers.Already users caused = came-shown frame own results.Already (came-of script.layout view who frame own results.Already users caused)
@@ -274,7 +276,7 @@ module _ (script : Script) (turns : List Played) (view : View) (said : Said (tol
   offline-shown frame own answers.NoFrame users caused = came-shown frame own results.NoFrame (came-of script.layout view who frame own results.NoFrame users caused)
   offline-shown frame own answer users caused = absurd caused
 
-  soft-shown : (frame : Frame) (own : Option FrameChange) (answer : Answer) → IsSoftCaused script.layout view who frame own answer → AnswerShown script turns who (commands.Soft frame) answer
+  soft-shown : (frame : Frame) (own : Option FrameChange) (answer : Answer) → IsSoftCaused script.layout view who frame own answer → AnswerShown script turns who None (commands.Soft frame) answer
   soft-shown frame own answers.Kernel caused =
       word-shown script.layout turns view said who (λ (word : ℕ). is_kernel word ≡ true) (places.Frame frame) caused.0.word caused.0.kernel caused.0.saw
   soft-shown frame own answer caused = offline-shown frame own answer caused.0 caused.1
@@ -288,7 +290,7 @@ module _ (script : Script) (turns : List Played) (view : View) (said : Said (tol
       ran (inr saw) = inr saw
 
   -- what the answer of a command that takes a poison back rests on
-  unpoison-shown : (frame : Frame) (own : Option FrameChange) (answer : Answer) → IsUnpoisonCaused script.layout view who frame own answer → AnswerShown script turns who (commands.Unpoison frame) answer
+  unpoison-shown : (frame : Frame) (own : Option FrameChange) (answer : Answer) → IsUnpoisonCaused script.layout view who frame own answer → AnswerShown script turns who None (commands.Unpoison frame) answer
   unpoison-shown frame own answers.Done caused = record {
     revivable = word-shown script.layout turns view said who (λ (word : ℕ). IsRevivable word × (is_poisoned word ≡ true)) (places.Frame frame) caused.revivable.word (caused.revivable.revivable, caused.revivable.poisoned) caused.revivable.saw;
     counter = word-shown script.layout turns view said who (λ (word : ℕ). hardware_of word ≡ 0) places.Counter caused.counter.word caused.counter.none caused.counter.saw;
@@ -301,7 +303,7 @@ module _ (script : Script) (turns : List Played) (view : View) (said : Said (tol
       word-shown script.layout turns view said who (λ (word : ℕ). (¬ IsRevivable word) × (count_of word ≡ count)) (places.Frame frame) caused.word (caused.used, caused.count_is) caused.saw
   unpoison-shown frame own answer caused = absurd caused
 
-  pub answer-shown : (command : Command) (told : List EventOutcome) (own : Option FrameChange) (answer : Answer) → command_at script who ≡ Some command → IsAnswerCaused script.layout earlier view who command told own answer → AnswerShown script turns who command answer
+  pub answer-shown : (command : Command) (told : List EventOutcome) (own : Option FrameChange) (answer : Answer) → command_at script who ≡ Some command → IsAnswerCaused script.layout earlier view who command told own answer → AnswerShown script turns who (slot_of command) command answer
   answer-shown command told own answers.Stopped at caused = stop-shown script.layout turns view said who command caused
   answer-shown (commands.RaiseUser thread ripv eipv) told own (answers.Raised n) at caused = tt
   answer-shown (commands.RaiseUser thread ripv eipv) told own (answers.Gone page) at caused = gone-shown (commands.RaiseUser thread ripv eipv) thread page at refl caused.0
@@ -343,6 +345,7 @@ module _ (script : Script) (turns : List Played) (view : View) (said : Said (tol
     goes-table (commands.Store thread slot line word) (answers.Sigbus entry) is caused = runs-on (commands.Store thread slot line word) thread refl is caused.going
     goes-table (commands.Store thread slot line word) answers.NoFrame is caused = runs-on (commands.Store thread slot line word) thread refl is caused.going
     goes-table (commands.Prctl thread args) answer is caused = runs-on (commands.Prctl thread args) thread refl is caused.going
+    goes-table (commands.Fork thread child) answers.Done is caused = runs-on (commands.Fork thread child) thread refl is caused.0
     goes-table (commands.Free slot) answer is caused = absurd (none-some process is)
     goes-table (commands.Drop page) answer is caused = absurd (none-some process is)
     goes-table (commands.Sync page) answer is caused = absurd (none-some process is)

@@ -50,6 +50,18 @@ use Rattle.hwp_law_records.specs.hwp_law_commands.Watched.{Watched, due, offlini
 use Rattle.hwp_law_records.specs.hwp_law_commands.hwp_cec.Ages.{Note, live}
 use Rattle.hwp_law_records.specs.hwp_severity.declared.Arrival.{Arrival}
 use Rattle.hwp_law_records.specs.hwp_law.Events.{logged_if_done}
+use Rattle.hwp_law_records.specs.hwp_geom.declared.Page.{Page}
+use Rattle.hwp_law_records.specs.hwp_geom.declared.Proc.{Proc}
+use Rattle.hwp_law_records.specs.hwp_fork.declared.cow.Cow.{Cow}
+use Rattle.hwp_law_records.specs.hwp_fork.declared.cow.CowAt.{CowAt}
+use Rattle.hwp_law_records.specs.hwp_fork.declared.cow.CowAt.TheVariants as cow_at
+use Rattle.hwp_law_records.specs.hwp_fork.declared.cow.Sub.{Sub}
+use Rattle.hwp_law_records.specs.hwp_fork.declared.cow.Sub.TheVariants as subs
+use Rattle.hwp_law_records.specs.hwp_fork.Cows as cows
+use Rattle.hwp_law_records.specs.hwp_cpu_copy.Copyings.{request_by}
+use Rattle.hwp_law_records.specs.hwp_cpu_copy.Runs.{AreRuns, IsRun, Run, checks_by}
+use Rattle.hwp_law_records.specs.hwp_law_served.Copied.{AreChecksOf, IsCopyTold, store_by}
+use Rattle.hwp_law_records.proofs.copied.CopyEvents.{lines-behind}
 use Rattle.hwp_law_records.specs.hwp_banks.Banks.{raw_bank, raw_event}
 use Rattle.hwp_law_records.specs.hwp_claim.declared.Found.{Found}
 use Rattle.hwp_law_records.specs.hwp_cpu_check.declared.Held.{Held}
@@ -61,12 +73,13 @@ use Rattle.hwp_law_records.specs.hwp_scrub.Visits as scrubs
 use Rattle.hwp_law_records.specs.hwp_scrub.Visits.{AreBanks, AreVisits, IsBadMet, IsWeakMet, SawLowest, Visit, left_by_bad, left_by_visit, left_by_weak, lines_of_visit, scrub_bank, scrubbing, with_bad}
 use Rattle.hwp_law_records.proofs.of_hwp_scrub.VisitLaws.{bad-leaves, left-banks}
 use Rattle.hwp_law_records.specs.hwp_law_served.Served.{AreRowsServed, spoiling}
-use Rattle.hwp_law_records.specs.hwp_law_served.Told.{AreToldBy, IsAccessTold, IsCutShort, IsRaiseTold, IsScrubTold, IsUntold, is_raised}
+use Rattle.hwp_law_records.specs.hwp_law_served.Told.{AreToldBy, AreToldWith, IsAccessTold, IsCutShort, IsRaiseTold, IsScrubTold, IsUntold, is_raised}
 use Rattle.hwp_law_records.proofs.of_hwp_law_served.Picked.{picked-is}
-use Rattle.hwp_law_records.proofs.of_hwp_law_served.lines.ScrubBank.{empty-free, kept-so, row-free}
+use Rattle.hwp_law_records.proofs.of_hwp_law_served.lines.ScrubBank.{empty-free, kept-so, with-free}
 use Rattle.hwp_law_records.proofs.lines.SpoiledLines.{set-at, spoiled-at-end, spoiled-so}
 use Rattle.hwp_law_records.proofs.marks.RowNotes.{each-cons}
 use Rattle.std.proofs.lemmas.Option.{option_and_then_some}
+use Rattle.hwp_law_records.specs.hwp_geom.declared.VSlot.{VSlot}
 
 -- ---- named frames
 
@@ -250,19 +263,62 @@ module _ (P : ℕ → Type 0) (weak : Bool) where
         (subst (AreSuch P weak) (sym none) (λ i t there. absurd (none-some t there)), subst (HoldSuch P) (sym left) (raw-such answer (raw_event status addr misc) before (raw status addr misc refl) each))
     row-such command answer before told after own own_weak raw are is each = untold-such before told after is each
 
+    -- ---- of a store that copied a page first
+
+    module _ (own : (line mask : ℕ) (frame : Frame) → bit_at mask line ≡ 1 → Saw view who (places.Bad frame) mask → P (line_address frame line)) where
+      line-such : (thread : Thread) (line : ℕ) (banks : Banks) (checks : List Check) → AreChecks layout view who thread line origins.Access modes.User banks checks → HoldSuch P banks → AreSuch P weak (lines_of checks)
+      line-such thread line banks checks are each = checks-such thread line origins.Access modes.User banks checks (λ frame saw. own line saw.mask frame (set-at saw.mask line saw.bad) saw.saw) are each
+
+      none-such : (checks : List Check) → checks ≡ [] → AreSuch P weak (lines_of checks)
+      none-such checks none = subst (λ (l : List Check). AreSuch P weak (lines_of l)) (sym none) (λ i t there. absurd (none-some t there))
+
+      module _ (thread : Thread) (to : VSlot) (line word : ℕ) (of_to : Page) (process : Proc) (page : Page) where
+        run-such : (c : Cow) (x : CowAt) (banks : Banks) (r : Run) → IsRun layout view (store_by who thread to line word of_to process) page banks r (cows.sub_at c x) → HoldSuch P banks → AreSuch P weak (lines_of r.checks)
+        run-such c (cow_at.Load n) banks r run each = line-such thread n banks r.checks run.checked each
+        run-such c (cow_at.Store n w) banks r run each = line-such thread n banks r.checks run.checked each
+        run-such c cow_at.Last banks r run each = line-such thread c.line banks r.checks run.checked each
+        run-such c cow_at.Free banks r run each = none-such r.checks run.unchecked
+        run-such c cow_at.Switched banks r run each = absurd run
+
+        runs-such : (c : Cow) (banks : Banks) (runs : List Run) → AreRuns layout view (store_by who thread to line word of_to process) page c banks runs → HoldSuch P banks → AreSuch P weak (lines_of (checks_by runs))
+        runs-such c banks [] are each = λ i t there. absurd (none-some t there)
+        runs-such c banks (r ∷ rs) are each = subst (AreSuch P weak) (sym (lines-behind r.checks (checks_by rs)))
+            (each-append (IsSuch P weak) (lines_of r.checks) (lines_of (checks_by rs)) (run-such c c.at banks r are.0 each) (runs-such (cows.told_by c r.word) (left_by banks r.checks) rs are.1 (left-such banks r.checks each)))
+
+        next-such : (sub : Sub) (banks : Banks) (checks : List Check) → AreChecksOf layout view (request_by (store_by who thread to line word of_to process) page sub) banks checks → HoldSuch P banks → AreSuch P weak (lines_of checks)
+        next-such (subs.Load slot n) banks checks are each = line-such thread n banks checks are each
+        next-such (subs.Store slot n w) banks checks are each = line-such thread n banks checks are each
+        next-such (subs.Free slot) banks checks none each = none-such checks none
+        next-such subs.Switched banks checks none each = none-such checks none
+
+      copy-such : (thread : Thread) (from to : VSlot) (line word : ℕ) (before : Banks) (told : List EventOutcome) (after : Banks) → IsCopyTold layout view who thread from to line word before told after → HoldSuch P before → AreSuch P weak told × HoldSuch P after
+      copy-such thread from to line word before told after is each = (
+        subst (AreSuch P weak) (sym (is.told_is ∙ lines-behind (checks_by is.has.runs) is.last)) (each-append (IsSuch P weak) (lines_of (checks_by is.has.runs)) (lines_of is.last)
+            (runs-such thread to line word is.page is.process is.has.page (cows.begin from to line word) before is.has.runs is.has.are each)
+            (next-such thread to line word is.page is.process is.has.page _ (left_by before (checks_by is.has.runs)) is.last is.are (left-such before (checks_by is.has.runs) each))),
+        subst (HoldSuch P) (sym is.after_is) (left-such before (checks_by is.has.runs ++ is.last) each),
+      )
+
+    with-such : (copied : Option VSlot) (command : Command) (answer : Answer) (before : Banks) (told : List EventOutcome) (after : Banks) → ((line mask : ℕ) (frame : Frame) → bit_at mask line ≡ 1 → Saw view who (places.Bad frame) mask → P (line_address frame line))
+        → (weak ≡ true → (line mask : ℕ) (frame : Frame) → bit_at mask line ≡ 1 → Saw view who (places.Weak frame) mask → P (line_address frame line))
+        → ((status addr misc : ℕ) → command ≡ commands.Log status addr misc → P addr) → AreBanks before → AreToldWith layout copied view who command answer before told after → HoldSuch P before → AreSuch P weak told × HoldSuch P after
+    with-such None command answer before told after own own_weak raw are is each = row-such command answer before told after own own_weak raw are is each
+    with-such (Some from) (commands.Store thread to line word) answer before told after own own_weak raw are is each = copy-such own thread from to line word before told after is each
+    with-such (Some from) command answer before told after own own_weak raw are is each = absurd is
+
   -- of all commands of a processor
-  rows-such : (layout : Layout) (earlier : List (Command × Answer)) (view : View) (cpu : Cpu) (n : ℕ) (before : Banks) (cs : List Command) (rows : List Row) (after : Banks) → ((who : Who) (line mask : ℕ) (frame : Frame) → bit_at mask line ≡ 1 → Saw view who (places.Bad frame) mask → P (line_address frame line))
+  rows-such : (layout : Layout) (copies : Who → Option VSlot) (earlier : List (Command × Answer)) (view : View) (cpu : Cpu) (n : ℕ) (before : Banks) (cs : List Command) (rows : List Row) (after : Banks) → ((who : Who) (line mask : ℕ) (frame : Frame) → bit_at mask line ≡ 1 → Saw view who (places.Bad frame) mask → P (line_address frame line))
       → (weak ≡ true → (who : Who) (line mask : ℕ) (frame : Frame) → bit_at mask line ≡ 1 → Saw view who (places.Weak frame) mask → P (line_address frame line))
-      → ((k status addr misc : ℕ) → slice_get cs k ≡ Some (commands.Log status addr misc) → P addr) → AreBanks before → AreRowsServed layout earlier view cpu n before cs rows after → HoldSuch P before → EachMember (λ (row : Row). AreSuch P weak row.told) rows
-  rows-such layout earlier view cpu n before cs [] after own own_weak raw free are each = λ i row there. absurd (none-some row there)
-  rows-such layout earlier view cpu n before [] (row ∷ rows) after own own_weak raw free are each = absurd are
-  rows-such layout earlier view cpu n before (c ∷ cs) (row ∷ rows) after own own_weak raw free (between, served, rest) each =
-      let such = row-such layout view (record { cpu = cpu; seq = n }) c row.answer before row.told between (own (record { cpu = cpu; seq = n })) (λ yes_. own_weak yes_ (record { cpu = cpu; seq = n })) (λ status addr misc is. raw 0 status addr misc (ap (λ (x : Command). Some x) is)) free served.told each in
-      each-cons (λ (r : Row). AreSuch P weak r.told) row rows such.0 (rows-such layout (earlier ++ (c, row.answer) ∷ []) view cpu (n + 1) between cs rows after own own_weak (λ k status addr misc there. raw (suc k) status addr misc there) (row-free layout view (record { cpu = cpu; seq = n }) c row.answer before row.told between served.told free) rest such.1)
+      → ((k status addr misc : ℕ) → slice_get cs k ≡ Some (commands.Log status addr misc) → P addr) → AreBanks before → AreRowsServed layout copies earlier view cpu n before cs rows after → HoldSuch P before → EachMember (λ (row : Row). AreSuch P weak row.told) rows
+  rows-such layout copies earlier view cpu n before cs [] after own own_weak raw free are each = λ i row there. absurd (none-some row there)
+  rows-such layout copies earlier view cpu n before [] (row ∷ rows) after own own_weak raw free are each = absurd are
+  rows-such layout copies earlier view cpu n before (c ∷ cs) (row ∷ rows) after own own_weak raw free (between, served, rest) each =
+      let such = with-such layout view (record { cpu = cpu; seq = n }) (copies (record { cpu = cpu; seq = n })) c row.answer before row.told between (own (record { cpu = cpu; seq = n })) (λ yes_. own_weak yes_ (record { cpu = cpu; seq = n })) (λ status addr misc is. raw 0 status addr misc (ap (λ (x : Command). Some x) is)) free served.told each in
+      each-cons (λ (r : Row). AreSuch P weak r.told) row rows such.0 (rows-such layout copies (earlier ++ (c, row.answer) ∷ []) view cpu (n + 1) between cs rows after own own_weak (λ k status addr misc there. raw (suc k) status addr misc there) (with-free layout view (record { cpu = cpu; seq = n }) (copies (record { cpu = cpu; seq = n })) c row.answer before row.told between served.told free) rest such.1)
 
 -- ---- at the end
 
-module _ (script : Script) (seat : Cpu → ℕ) (last : State) (report : Report) (end : IsEnd script seat last report) where
+module _ (script : Script) (copies : Who → Option VSlot) (seat : Cpu → ℕ) (last : State) (report : Report) (end : IsEnd script copies seat last report) where
   -- the script names the frame of the address
   abbrev pub IsNamed : ℕ → Type 0
   IsNamed addr = list_any (λ n. n == frame_at addr) (named_frames script) ≡ true
@@ -271,8 +327,8 @@ module _ (script : Script) (seat : Cpu → ℕ) (last : State) (report : Report)
   spoil-named : (damage : Damage) → ((frame : Frame) (line : ℕ) → frame_named (has_watch script) (spoiling damage frame line) ≡ Some frame.0) → (cpu : Cpu) → cpu.0 < script.layout.cpus → (who : Who) (line mask : ℕ) (frame : Frame) → bit_at mask line ≡ 1
       → Saw (view_of last (seat cpu)) who (damage_place frame damage) mask → IsNamed (line_address frame line)
   spoil-named damage names cpu inside who line mask frame one saw =
-      let is = spoiled-at-end script seat last report end cpu inside who frame damage line mask one saw in
-      let was = (spoiled-so script seat last report end frame damage line is.word is.there).0 is.set in
+      let is = spoiled-at-end script copies seat last report end cpu inside who frame damage line mask one saw in
+      let was = (spoiled-so script copies seat last report end frame damage line is.word is.there).0 is.set in
       let few : line < 64 = is.few in
       let at : (frame.0 * 4096 + line * 64) / 4096 ≡ frame.0 = omega (arith, few) in
       subst (λ (f : ℕ). list_any (λ n. n == f) (named_frames script) ≡ true) (sym at) (named-at script was.who (spoiling damage frame line) frame.0 was.made (names frame line))
@@ -283,8 +339,8 @@ module _ (script : Script) (seat : Cpu → ℕ) (last : State) (report : Report)
   -- each failure that a row tells is of a named frame; in a script with a `watch` each event is
   pub events-named : (cpu : Cpu) (list : List Command) (own : List Row) → cpu.0 < script.layout.cpus → slice_get script.lists cpu.0 ≡ Some list → slice_get end.rows cpu.0 ≡ Some own → EachMember (λ (row : Row). AreSuch IsNamed (has_watch script) row.told) own
   events-named cpu list own inside list_is own_is =
-      let served = (served-of script seat last report end cpu list own list_is own_is).0 in
-      rows-such IsNamed (has_watch script) script.layout [] (view_of last (seat cpu)) cpu 0 empty_banks list own served.banks (spoil-named damages.Bad (λ frame line. refl) cpu inside) (λ watches. spoil-named damages.Weak (weak-names watches) cpu inside)
+      let served = (served-of script copies seat last report end cpu list own list_is own_is).0 in
+      rows-such IsNamed (has_watch script) script.layout copies [] (view_of last (seat cpu)) cpu 0 empty_banks list own served.banks (spoil-named damages.Bad (λ frame line. refl) cpu inside) (λ watches. spoil-named damages.Weak (weak-names watches) cpu inside)
       (λ k status addr misc there. named-of (has_watch script) (frame_at addr) script.lists cpu.0 k list (commands.Log status addr misc) list_is there refl) empty-free served.rows_are (empty-such IsNamed (has_watch script) bank_count)
 
 -- ---- noted frames

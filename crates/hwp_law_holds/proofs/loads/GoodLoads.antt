@@ -1,7 +1,9 @@
 -- No load of a report got bad bytes.
-use Rattle.std.proofs.Common.{◌≡◌, ℕ, List, [], Some, ap, ◌∙◌, subst}
+use Rattle.std.proofs.Common.{◌≡◌, ℕ, List, [], Option, Some, slice_get, ap, ◌∙◌, subst}
 use Rattle.std.specs.Prelude.{IsTrue, slice_index}
 use Rattle.std.specs.FinSet as set
+use Rattle.hwp_law_records.specs.hwp_geom.declared.Who.{Who}
+use Rattle.hwp_law_records.specs.hwp_geom.declared.VSlot.{VSlot}
 use Rattle.hwp_law_records.specs.hwp_geom.declared.Cpu.{Cpu}
 use Rattle.hwp_law_records.specs.hwp_geom.declared.Frame.{Frame}
 use Rattle.hwp_law_records.specs.hwp_geom.declared.Page.{Page}
@@ -22,7 +24,8 @@ use Rattle.hwp_law_records.specs.hwp_core_task.Boards.{Played}
 use Rattle.hwp_law_records.specs.hwp_core_task.Turns.{Member}
 use Rattle.hwp_law_records.specs.hwp_script_read.declared.Script.{Script}
 use Rattle.hwp_law_records.specs.hwp_report_text.declared.Report.{Report}
-use Rattle.hwp_law_records.specs.hwp_law.Law.{IsLawful}
+use Rattle.hwp_law_records.specs.hwp_law.PageHistory.{IsHistory}
+use Rattle.hwp_law_records.specs.hwp_law.Law.{HasShape, IsLawful}
 use Rattle.hwp_law_records.specs.hwp_law.Places.{entry_at}
 use Rattle.hwp_law_records.specs.hwp_law.States.{HadState}
 use Rattle.hwp_law_records.specs.hwp_law_run.Ends.{EndsWith}
@@ -37,11 +40,11 @@ use Rattle.hwp_law_records.specs.hwp_law_served.Runs.{IsRunOf}
 use Rattle.hwp_law_holds.proofs.AllowedThere.{allowed-there, had-so}
 use Rattle.hwp_law_records.proofs.of_hwp_law_served.LastBoard.{nothing}
 use Rattle.hwp_law_holds.proofs.loads.Inspected.{all-inspected, mask_of}
-use Rattle.hwp_law_holds.proofs.Lawful.{law-holds}
+use Rattle.hwp_law_holds.proofs.Lawful.{histories-fit, shape-fits}
 
 -- A run whose last board is the report's, where nothing is held, and whose report keeps the law.
 module _ (script : Script) (turns : List Played) (last : State) (report : Report) (rule : Holds script.layout (opening script.layout)) (moves : Leads script.layout (opening script.layout) turns last) (ends : EndsWith script.layout last report)
-    (nothing : EachMember HoldsNothing last.views) (lawful : IsLawful script report) where
+    (nothing : EachMember HoldsNothing last.views) (shape : HasShape script report) (legal : (page : Page) (list : List Entry) → slice_get report.pages page.0 ≡ Some list → IsHistory script.layout report.frames page list) where
   board : IsLast script.layout last report
   board = record {
     holds = leads-hold script.layout (opening script.layout) last turns rule moves;
@@ -50,8 +53,8 @@ module _ (script : Script) (turns : List Played) (last : State) (report : Report
     empty = each-weaken HoldsNothing (λ (v : View). v.bodies ≡ []) last.views (λ v none. none.bodies) nothing;
     unlocked = each-weaken HoldsNothing (λ (v : View). v.locks ≡ []) last.views (λ v none. none.locks) nothing;
     ends = ends;
-    frames_fit = lawful.shape.frames;
-    pages_fit = lawful.shape.pages;
+    frames_fit = shape.frames;
+    pages_fit = shape.pages;
   }
 
   -- the bad lines that an entry rests on were shown to its command, under the lock of the page's frame
@@ -69,7 +72,7 @@ module _ (script : Script) (turns : List Played) (last : State) (report : Report
   -- its command had been shown the frame's bad lines, of which the line is none.
   pub no-bad-bytes : AreGoodLoads script.layout report turns
   no-bad-bytes at e slot line mask word is what =
-      let there : HadState script.layout report.pages at (λ (s : PageState). Allowed script.layout at.page s (Load slot line (Word mask word))) = allowed-there script.layout report lawful.histories.legal at e (Load slot line (Word mask word)) is what in
+      let there : HadState script.layout report.pages at (λ (s : PageState). Allowed script.layout at.page s (Load slot line (Word mask word))) = allowed-there script.layout report legal at e (Load slot line (Word mask word)) is what in
       let shown = entry-inspected at e mask.0 is (ap mask_of what) in
       record {
         mapped = had-so (λ (s : PageState). Allowed script.layout at.page s (Load slot line (Word mask word))) (λ (s : PageState). IsTrue (set.contains s.maps slot.0)) (λ s so. so.0) there;
@@ -80,10 +83,10 @@ module _ (script : Script) (turns : List Played) (last : State) (report : Report
       }
 
 -- the same of a run on whose last board each processor has served its commands
-pub run-no-bad-bytes : (script : Script) (seat : Cpu → ℕ) (turns : List Played) (last : State) (report : Report) → IsRunOf script seat turns last report → AreGoodLoads script.layout report turns
-run-no-bad-bytes script seat turns last report run =
-    no-bad-bytes script turns last report run.rule run.moves run.ends (nothing script seat turns last report run) (law-holds script seat turns last report run)
+pub run-no-bad-bytes : (script : Script) (copies : Who → Option VSlot) (seat : Cpu → ℕ) (turns : List Played) (last : State) (report : Report) → IsRunOf script copies seat turns last report → AreGoodLoads script.layout report turns
+run-no-bad-bytes script copies seat turns last report run =
+    no-bad-bytes script turns last report run.rule run.moves run.ends (nothing script copies seat turns last report run) (shape-fits script copies seat turns last report run) (histories-fit script copies seat turns last report run).legal
 
 -- the same of the run that a report is of, where nothing is held at its end
 pub core-no-bad-bytes : {S : Type 0} {m : Member S} {tasks : List S} {seat : Cpu → ℕ} {script : Script} {report : Report} (run : CoreRun m tasks seat script report) → EachMember HoldsNothing run.last.state.views → IsLawful script report → AreGoodLoads script.layout report run.turns
-core-no-bad-bytes {script = script} {report = report} run none lawful = no-bad-bytes script run.turns run.last.state report run.rule run.moves run.ends none lawful
+core-no-bad-bytes {script = script} {report = report} run none lawful = no-bad-bytes script run.turns run.last.state report run.rule run.moves run.ends none lawful.shape lawful.histories.legal

@@ -1,8 +1,9 @@
 -- How many entries of the histories are of a command: as many as its processor lists as made by it.
-use Rattle.std.proofs.Common.{◌≡◌, ℕ, suc, ◌+◌, ◌<◌, ◌&&◌, Bool, true, false, cond, List, [], ◌∷◌, Some, filter, slice_get, refl, sym, ap, ◌∙◌, subst, arith}
+use Rattle.std.proofs.Common.{◌≡◌, ℕ, suc, ◌+◌, ◌<◌, ◌&&◌, Bool, true, false, cond, List, [], ◌∷◌, Some, filter, slice_get, refl, sym, ap, ◌∙◌, subst, arith, Option}
 use Rattle.std.specs.List.{count_by, sum_by}
 use Rattle.std.proofs.lemmas.Bool.{and_left, false_from_ne_true}
 use Rattle.std.proofs.lemmas.List.Sums.{sum_by-cons}
+use Rattle.hwp_law_served.specs.hwp_geom.declared.VSlot.{VSlot}
 use Rattle.hwp_law_served.specs.hwp_geom.declared.Cpu.{Cpu}
 use Rattle.hwp_law_served.specs.hwp_geom.declared.Page.{Page}
 use Rattle.hwp_law_served.specs.hwp_geom.declared.Who.{Who}
@@ -59,7 +60,7 @@ made-counts who test (m ∷ ms) =
     which true = sym (sum_by-cons (λ (x : Made). cond (test x.entry.what) 1 0) m left)
     which false = omega arith
 
-module _ (script : Script) (seat : Cpu → ℕ) (last : State) (report : Report) (end : IsEnd script seat last report) where
+module _ (script : Script) (copies : Who → Option VSlot) (seat : Cpu → ℕ) (last : State) (report : Report) (end : IsEnd script copies seat last report) where
   entries-listed : (who : Who) (test : What → Bool) → entries_of report who test ≡ sum_by (λ (v : View). sum_by (λ (m : Made). cond (is_such who test m.entry) 1 0) v.made) last.views
   entries-listed who test =
       sym (home-pages script.layout last report end.board (weigh (such who test)) (count_by (is_such who test)) (λ q es there. weigh-counts who test (record { 0 = q }) 0 es))

@@ -25,7 +25,9 @@ use Rattle.hwp_law_served.specs.hwp_cpu_row.declared.Offlining.{Offlining}
 use Rattle.hwp_law_served.specs.hwp_cpu_row.declared.Row.{Row}
 use Rattle.hwp_law_served.specs.hwp_cpu_check.declared.EventOutcome.{EventOutcome}
 use Rattle.hwp_law_served.specs.Accounts.{IsOwn}
-use Rattle.hwp_law_served.specs.Causes.{IsAnswerCaused}
+use Rattle.hwp_law_served.specs.hwp_geom.declared.VSlot.{VSlot}
+use Rattle.hwp_law_served.specs.Causes.{IsAnswerCaused, IsCausedWith}
+use Rattle.hwp_law_served.proofs.copied.Uncopied.{uncopied}
 use Rattle.hwp_law_served.specs.Offlinings.{IsOfflineServed, left_at, left_beside, left_by, left_itself, place_of}
 use Rattle.hwp_law_served.specs.Served.{IsOffliningServed, IsRowServed}
 use Rattle.hwp_law_served.specs.hwp_banks.Banks.{Banks}
@@ -78,6 +80,11 @@ module _ (layout : Layout) (earlier : List (Command × Answer)) (view : View) (w
   own-left (commands.Soft frame) told own answer caused is = absurd caused.1
   own-left command told own answer caused is = other-still command answer own refl is
 
+  -- nor does a store that copies a page first
+  own-with : (copied : Option VSlot) (command : Command) (before : Banks) (told : List EventOutcome) (own : Option FrameChange) (answer : Answer) → IsCausedWith layout earlier copied view who command before told own answer → IsOwn command answer own → moves_by own ≡ one_if (left_itself command answer)
+  own-with copied (commands.Soft frame) before told own answer caused is = own-left (commands.Soft frame) told own answer (uncopied layout earlier copied view who (commands.Soft frame) before told own answer refl caused) is
+  own-with copied command before told own answer caused is = other-still command answer own refl is
+
   -- ---- beside it
 
   came-left : (frame : Frame) (change : Option FrameChange) (result : OfflineResult) → IsOfflineServed layout view who frame change result → moves_by change ≡ one_if (left_at result)
@@ -101,12 +108,12 @@ module _ (layout : Layout) (earlier : List (Command × Answer)) (view : View) (w
       let all : moves_beside (o ∷ os) ≡ moves_by o.change + moves_beside os = sum_by-cons (λ (x : Offlining). moves_by x.change) o os in
       omega (arith, one, rest, here, all)
 
-  pub softs-counted : (command : Command) (before : Banks) (row : Row) (after : Banks) → IsRowServed layout earlier view who command before row after → count_by (λ (m : Made). is_soft m.entry.what) (deeds who view) ≡ moves_by row.own + moves_beside row.offlined
-  softs-counted command before row after served =
+  pub softs-counted : (copied : Option VSlot) (command : Command) (before : Banks) (row : Row) (after : Banks) → IsRowServed layout earlier copied view who command before row after → count_by (λ (m : Made). is_soft m.entry.what) (deeds who view) ≡ moves_by row.own + moves_beside row.offlined
+  softs-counted copied command before row after served =
       let list : List Made = filter (λ (m : Made). is_soft m.entry.what) (deeds who view) in
       let counted : length list ≡ count_by (λ (m : Made). is_soft m.entry.what) (deeds who view) = length-filter (λ (m : Made). is_soft m.entry.what) (deeds who view) in
       let placed : length (left_by who view) ≡ length list = length-map list place_of in
       let told : length (left_by who view) ≡ one_if (left_itself command row.answer) + length (left_beside row.offlined) = ap length served.beside ∙ with-one (left_itself command row.answer) (left_beside row.offlined) in
-      let own : moves_by row.own ≡ one_if (left_itself command row.answer) = own-left command row.told row.own row.answer served.caused served.accounted.own in
+      let own : moves_by row.own ≡ one_if (left_itself command row.answer) = own-with copied command before row.told row.own row.answer served.caused served.accounted.own in
       let beside : length (left_beside row.offlined) ≡ moves_beside row.offlined = beside-left row.offlined served.offlined in
       omega (arith, counted, placed, told, own, beside)

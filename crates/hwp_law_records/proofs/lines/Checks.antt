@@ -1,7 +1,8 @@
 -- The event lines of a machine check are those of what was told of it.
-use Rattle.std.proofs.Common.{◌≡◌, ◌⊎◌, ℕ, suc, ◌||◌, ◌<◌, Bool, true, false, cond, not, nat_le, List, [], ◌∷◌, ◌++◌, Option, None, Some, MatchBool, drop, length, map, slice_get, refl, sym, ap, subst, inl, inr}
+use Rattle.std.proofs.Common.{◌≡◌, ◌⊎◌, ℕ, suc, ◌||◌, ◌<◌, Bool, true, false, cond, not, nat_le, List, [], ◌∷◌, ◌++◌, Option, None, Some, MatchBool, drop, length, map, replicate, slice_get, refl, sym, ap, subst, inl, inr}
 use Rattle.std.proofs.lemmas.List.{map-append}
 use Rattle.std.proofs.lemmas.Option.{none-some, same_Some}
+use Rattle.hwp_law_served.specs.hwp_geom.declared.VSlot.{VSlot}
 use Rattle.hwp_law_served.specs.hwp_geom.declared.Cpu.{Cpu}
 use Rattle.hwp_law_served.specs.hwp_geom.declared.Frame.{Frame}
 use Rattle.hwp_law_served.specs.hwp_geom.declared.Mode.{Mode}
@@ -53,7 +54,7 @@ left-empty : (checks : List Check) → left_by empty_banks checks ≡ empty_bank
 left-empty [] = refl
 left-empty (c ∷ cs) = refl
 
-module _ (script : Script) (seat : Cpu → ℕ) (last : State) (report : Report) (end : IsEnd script seat last report) (who : Who) (inside : who.cpu.0 < script.layout.cpus) where
+module _ (script : Script) (copies : Who → Option VSlot) (seat : Cpu → ℕ) (last : State) (report : Report) (end : IsEnd script copies seat last report) (who : Who) (inside : who.cpu.0 < script.layout.cpus) where
   abbrev view : View
   view = view_of last (seat who.cpu)
 
@@ -71,7 +72,7 @@ module _ (script : Script) (seat : Cpu → ℕ) (last : State) (report : Report)
     frame = frame_at t.held.event.addr
 
     failed-so : (o : Option Found) → t.found ≡ o → IsFailed script.layout view who (frame_of t.held) required t.acted o → ((t.acted ≡ acts.Already) × WasPoisoned (marks_of report frame) who true) ⊎ IsResult (marks_of report frame) who t.acted
-    failed-so None none failed = inl (failed.0, was-poisoned script seat last report end who.cpu inside who (frame_of t.held) failed.1.word true failed.1.poisoned failed.1.saw)
+    failed-so None none failed = inl (failed.0, was-poisoned script copies seat last report end who.cpu inside who (frame_of t.held) failed.1.word true failed.1.poisoned failed.1.saw)
     failed-so (Some found) some failed = inr (result found some)
 
     failure-so : (x y z : Bool) → IsDone script.layout view who required t (cond x (Some acts.Held) (cond y (Some acts.Outside) (cond z None (Some acts.Panic))))
@@ -117,7 +118,7 @@ module _ (script : Script) (seat : Cpu → ℕ) (last : State) (report : Report)
 
   -- the machine checks of an access, one after another
   pub checks-so : (thread : Thread) (line : ℕ) (origin : Origin) (mode : Mode) → ((frame : Frame) → SawBad script.layout view who line frame → IsDamaged report origin frame.0 line) → (banks : Banks) (checks : List Check)
-      → AreChecks script.layout view who thread line origin mode banks checks → EachMember HasResult (lines_of checks) → AreAccessChecks script report who (restarting mode) origin line (length checks) banks (map (event_at who.seq) (lines_of checks)) (left_by banks checks)
+      → AreChecks script.layout view who thread line origin mode banks checks → EachMember HasResult (lines_of checks) → AreAccessChecks script report who (restarting mode) origin (replicate (length checks) line) banks (map (event_at who.seq) (lines_of checks)) (left_by banks checks)
   checks-so thread line origin mode damaged banks [] are results = (refl, refl)
   checks-so thread line origin mode damaged banks (c ∷ cs) are results = (
     c.frame,
@@ -126,6 +127,6 @@ module _ (script : Script) (seat : Cpu → ℕ) (last : State) (report : Report)
     map-append (event_at who.seq) c.lines (lines_of cs),
     damaged c.frame are.0.bad,
     check-so (Some thread) (restarting mode) _ c.lines are.0.acted_on (each-first HasResult c.lines (lines_of cs) results),
-    subst (AreAccessChecks script report who (restarting mode) origin line (length cs) empty_banks (map (event_at who.seq) (lines_of cs))) (left-empty cs)
+    subst (AreAccessChecks script report who (restarting mode) origin (replicate (length cs) line) empty_banks (map (event_at who.seq) (lines_of cs))) (left-empty cs)
         (checks-so thread line origin mode damaged empty_banks cs are.1 (each-second HasResult c.lines (lines_of cs) results)),
   )

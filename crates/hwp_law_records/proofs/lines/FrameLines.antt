@@ -2,6 +2,8 @@
 use Rattle.std.proofs.Common.{◌≡◌, ◌≢◌, ℕ, zero, suc, ◌+◌, ◌-◌, ◌%◌, ◌^◌, ◌<◌, ◌≤◌, Bool, true, false, cond, List, Option, Some, None, length, slice_get, slice_index, refl, sym, ap, ◌∙◌, subst, arith}
 use Rattle.std.proofs.lemmas.Bool.{eq-eqb, eqb-false, eqb-true, ne_eqb}
 use Rattle.std.proofs.lemmas.Option.{get_or_from_slice_get, slice_get_within}
+use Rattle.hwp_law_served.specs.hwp_geom.declared.Who.{Who}
+use Rattle.hwp_law_served.specs.hwp_geom.declared.VSlot.{VSlot}
 use Rattle.hwp_law_served.specs.hwp_geom.declared.Cpu.{Cpu}
 use Rattle.hwp_law_served.specs.hwp_geom.declared.Damage.TheVariants as damages
 use Rattle.hwp_law_served.specs.hwp_geom.declared.Frame.{Frame}
@@ -29,9 +31,9 @@ use Rattle.hwp_law_records.proofs.marks.RecordPlaces.{ends-are}
 use Rattle.hwp_law_records.proofs.lines.Records.{record-so}
 use Rattle.hwp_law_served.proofs.Sums.{list-below}
 
-module _ (script : Script) (seat : Cpu → ℕ) (turns : List Played) (last : State) (report : Report) (run : IsRunOf script seat turns last report) where
-  abbrev end : IsEnd script seat last report
-  end = ended script seat turns last report run
+module _ (script : Script) (copies : Who → Option VSlot) (seat : Cpu → ℕ) (turns : List Played) (last : State) (report : Report) (run : IsRunOf script copies seat turns last report) where
+  abbrev end : IsEnd script copies seat last report
+  end = ended script copies seat turns last report run
 
   abbrev words : Words
   words = words_of script.layout last.words
@@ -82,12 +84,12 @@ module _ (script : Script) (seat : Cpu → ℕ) (turns : List Played) (last : St
       let o = on frame line line_is in
       let own : is_kernel o.word ≡ kernel = end.board.holds.rule.frames.places.declared frame.0 o.word kernel o.there kernel_is in
       record {
-        place = subst (λ (b : Bool). IsPlaced script.layout kernel b line.place) (sym (ends-are script seat last report end frame line line_is))
+        place = subst (λ (b : Bool). IsPlaced script.layout kernel b line.place) (sym (ends-are script copies seat last report end frame line line_is))
             (subst (IsPlaced script.layout kernel (is_poisoned o.word)) (sym o.place)
             (subst (λ (k : Bool). IsPlaced script.layout k (is_poisoned o.word) (place_in o.word)) own (placed-so frame line line_is (is_kernel o.word) (is_handled o.word) refl refl)));
-        bad = λ n. spoiled-so script seat last report end frame damages.Bad n line.bad.0 o.bad;
-        weak = λ n. spoiled-so script seat last report end frame damages.Weak n line.weak.0 o.weak;
-        kept = record-so script seat last report end frame kernel kernel_is line line_is;
+        bad = λ n. spoiled-so script copies seat last report end frame damages.Bad n line.bad.0 o.bad;
+        weak = λ n. spoiled-so script copies seat last report end frame damages.Weak n line.weak.0 o.weak;
+        kept = record-so script copies seat last report end frame kernel kernel_is line line_is;
       }
 
   -- the count is that of the frames whose record ends poisoned
@@ -107,4 +109,4 @@ module _ (script : Script) (seat : Cpu → ℕ) (turns : List Played) (last : St
       counts : (i : ℕ) (l : FrameLine) → slice_get report.frames i ≡ Some l → cond (ends_poisoned l.marks) 1 0 ≡ poison_of (slice_index words.frames i)
       counts i l there =
           let o = on (record { 0 = i }) l there in
-          ap (λ (b : Bool). cond b 1 0) (ends-are script seat last report end (record { 0 = i }) l there) ∙ bit-is o.word (is_poisoned o.word) refl ∙ ap poison_of (sym (get_or_from_slice_get words.frames i o.word 0 o.there))
+          ap (λ (b : Bool). cond b 1 0) (ends-are script copies seat last report end (record { 0 = i }) l there) ∙ bit-is o.word (is_poisoned o.word) refl ∙ ap poison_of (sym (get_or_from_slice_get words.frames i o.word 0 o.there))

@@ -2,6 +2,7 @@
 use Rattle.std.proofs.Common.{◌≡◌, ℕ, ◌+◌, ◌<◌, ◌==◌, ◌&&◌, Bool, List, [], Option, Some, None, filter, option_and_then, slice_get, refl, sym, ap, ◌∙◌, subst, arith}
 use Rattle.std.proofs.lemmas.Bool.{eqb-true}
 use Rattle.std.proofs.lemmas.Option.{none-some, slice_get_within}
+use Rattle.hwp_law_served.specs.hwp_geom.declared.VSlot.{VSlot}
 use Rattle.hwp_law_served.specs.hwp_geom.declared.Cpu.{Cpu}
 use Rattle.hwp_law_served.specs.hwp_geom.declared.Frame.{Frame}
 use Rattle.hwp_law_served.specs.hwp_geom.declared.Who.{Who}
@@ -63,7 +64,7 @@ filter-into {A} test l m into k x there =
     let has = filter-has test m some.0 x (some.2 ∙ ap (λ (y : A). Some y) some.3) was.2 in
     (has.0, x, has.1, refl)
 
-module _ (script : Script) (seat : Cpu → ℕ) (last : State) (report : Report) (end : IsEnd script seat last report) where
+module _ (script : Script) (copies : Who → Option VSlot) (seat : Cpu → ℕ) (last : State) (report : Report) (end : IsEnd script copies seat last report) where
   -- the lines of a command
   command-rises : (who : Who) (frame : Frame) → IsRising place_in (lines_of frame (notes_at who (row_at end.rows who)))
   command-rises who frame = which (slice_get end.rows who.cpu.0) refl
@@ -78,8 +79,8 @@ module _ (script : Script) (seat : Cpu → ℕ) (last : State) (report : Report)
       which None is = none
       which (Some own) is =
           let inside : who.cpu.0 < script.layout.cpus = subst (λ (n : ℕ). who.cpu.0 < n) end.rows_fit (slice_get_within end.rows who.cpu.0 own is) in
-          let list = list-of script seat last report end who.cpu inside in
-          let served = (served-of script seat last report end who.cpu list.0 own list.1 is).0 in
+          let list = list-of script copies seat last report end who.cpu inside in
+          let served = (served-of script copies seat last report end who.cpu list.0 own list.1 is).0 in
           let notes : List Note = notes_from who.cpu 0 own in
           let rising : IsOrdered IsLaterNote notes = notes-rise notes view.marks served.noted (end.marks_rise (seat who.cpu) view (end.seated.there who.cpu inside)) in
           subst (λ (l : List Note). IsRising place_in (lines_of frame l)) (notes-by who 0 own who.seq (let same : who.seq ≡ 0 + who.seq = omega arith in same))
@@ -93,5 +94,5 @@ module _ (script : Script) (seat : Cpu → ℕ) (last : State) (report : Report)
       rising-one place_in (hardware_marks who line.marks) (hardware_marks who gathered)
       (ordered-filter (λ (a b : MarkLine). place_in a < place_in b) test line.marks (ordered-from (λ (a b : MarkLine). place_in a < place_in b) line.marks (end.records frame line line_is).rising))
       (subst (IsRising place_in) (sym (hardware-of frame who end.rows)) (ordered-filter (λ (a b : MarkLine). place_in a < place_in b) is_by_hardware (lines_of frame (notes_at who (row_at end.rows who))) (command-rises who frame)))
-      (filter-into test line.marks gathered (in-gathered script seat last report end frame line line_is))
-      (filter-into test gathered line.marks (in-record script seat last report end frame line line_is))
+      (filter-into test line.marks gathered (in-gathered script copies seat last report end frame line line_is))
+      (filter-into test gathered line.marks (in-record script copies seat last report end frame line line_is))

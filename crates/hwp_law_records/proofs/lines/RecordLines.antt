@@ -4,6 +4,7 @@ use Rattle.std.proofs.Common.{◌≡◌, ◌⊎◌, inl, inr, ℕ, zero, suc, �
 use Rattle.std.proofs.lemmas.Bool.{and_from, eq-eqb, eqb-true}
 use Rattle.std.proofs.lemmas.List.Sorted.{IsPermutation-sym}
 use Rattle.std.proofs.lemmas.Option.{none-some, slice_get_within}
+use Rattle.hwp_law_served.specs.hwp_geom.declared.VSlot.{VSlot}
 use Rattle.hwp_law_served.specs.hwp_geom.declared.Cpu.{Cpu}
 use Rattle.hwp_law_served.specs.hwp_geom.declared.Frame.{Frame}
 use Rattle.hwp_law_served.specs.hwp_geom.declared.Who.{Who}
@@ -133,7 +134,7 @@ line-row rows frame k x there =
     let frame_is : note.0 ≡ frame = ap (λ (f : ℕ). record { 0 = f }) (eqb-true note.0.0 frame.0 found.2) in
     subst (OfItsRow rows frame) of.2 (subst (λ (f : Frame). OfItsRow rows f note.1) frame_is (note-row rows found.0 note found.1))
 
-module _ (script : Script) (seat : Cpu → ℕ) (last : State) (report : Report) (end : IsEnd script seat last report) where
+module _ (script : Script) (copies : Who → Option VSlot) (seat : Cpu → ℕ) (last : State) (report : Report) (end : IsEnd script copies seat last report) where
   -- the notes of each processor are of its marks
   pub all-noted : AreNoted script.layout seat last (notes_of 0 end.rows)
   all-noted = record {
@@ -141,13 +142,13 @@ module _ (script : Script) (seat : Cpu → ℕ) (last : State) (report : Report)
     noted = λ c own there. (let by = notes-at 0 end.rows c own there in
         let inside : c < script.layout.cpus = subst (λ (n : ℕ). c < n) end.rows_fit (slice_get_within end.rows c by.0 by.1) in
         let cpu : Cpu = record { 0 = c } in
-        let list = list-of script seat last report end cpu inside in
-        let served = (served-of script seat last report end cpu list.0 by.0 list.1 by.1).0 in
+        let list = list-of script copies seat last report end cpu inside in
+        let served = (served-of script copies seat last report end cpu list.0 by.0 list.1 by.1).0 in
         subst (λ (l : List Note). Pairs IsNote l (view_of last (seat cpu)).marks) (sym (by.2 ∙ ap (λ (n : ℕ). notes_from (record { 0 = n }) 0 by.0) (let same : 0 + c ≡ c = omega arith in same))) served.noted);
     marked = λ c inside. (let cpu : Cpu = record { 0 = c } in
-        let list = list-of script seat last report end cpu inside in
-        let own = rows-of script seat last report end cpu inside in
-        let served = (served-of script seat last report end cpu list.0 own.0 list.1 own.1).0 in
+        let list = list-of script copies seat last report end cpu inside in
+        let own = rows-of script copies seat last report end cpu inside in
+        let served = (served-of script copies seat last report end cpu list.0 own.0 list.1 own.1).0 in
         λ j m there. (served.marked j m there).0);
   }
 

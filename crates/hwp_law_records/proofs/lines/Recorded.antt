@@ -6,6 +6,7 @@ use Rattle.std.specs.List.{cons_option, count_by, sum_by, zip}
 use Rattle.std.proofs.lemmas.Bool.{and_left, and_right, cases_lt, false_from_ne_true}
 use Rattle.std.proofs.lemmas.List.Sums.{sum_by-append, sum_by-cons}
 use Rattle.std.proofs.lemmas.Option.{none-some, slice_get_within}
+use Rattle.hwp_law_served.specs.hwp_geom.declared.VSlot.{VSlot}
 use Rattle.hwp_law_served.specs.hwp_banks.Addresses.{frame_at}
 use Rattle.hwp_law_served.specs.hwp_geom.declared.Cpu.{Cpu}
 use Rattle.hwp_law_served.specs.hwp_geom.declared.Frame.{Frame}
@@ -287,7 +288,7 @@ urgent-below report who situation g n (l ∷ ls) each =
     let all : sum_below (λ i. g (n + i)) (suc (length ls)) ≡ g (n + 0) + sum_below (λ i. g (n + suc i)) (length ls) = below-front (λ i. g (n + i)) (length ls) in
     omega (arith, first, rest, shifted, all)
 
-module _ (script : Script) (seat : Cpu → ℕ) (last : State) (report : Report) (end : IsEnd script seat last report) (who : Who) where
+module _ (script : Script) (copies : Who → Option VSlot) (seat : Cpu → ℕ) (last : State) (report : Report) (end : IsEnd script copies seat last report) (who : Who) where
   abbrev view : View
   view = view_of last (seat who.cpu)
 
@@ -300,15 +301,15 @@ module _ (script : Script) (seat : Cpu → ℕ) (last : State) (report : Report)
   -- a command without a row made no entry
   entries-without : (test : What → Bool) → row_at end.rows who ≡ None → entries_of report who test ≡ 0
   entries-without test none = elim (cases_lt who.cpu.0 script.layout.cpus) [
-    | inr outside ↦ entries-outside script seat last report end who test (λ inside. omega (arith, inside, outside))
-    | inl inside ↦ entries-inside script seat last report end who test inside ∙ ap (count_by (λ (m : Made). test m.entry.what)) (undone inside)
+    | inr outside ↦ entries-outside script copies seat last report end who test (λ inside. omega (arith, inside, outside))
+    | inl inside ↦ entries-inside script copies seat last report end who test inside ∙ ap (count_by (λ (m : Made). test m.entry.what)) (undone inside)
   ]
     where
       undone : who.cpu.0 < script.layout.cpus → deeds who view ≡ []
       undone inside =
-          let list = list-of script seat last report end who.cpu inside in
-          let own = rows-of script seat last report end who.cpu inside in
-          let served = (served-of script seat last report end who.cpu list.0 own.0 list.1 own.1).0 in
+          let list = list-of script copies seat last report end who.cpu inside in
+          let own = rows-of script copies seat last report end who.cpu inside in
+          let served = (served-of script copies seat last report end who.cpu list.0 own.0 list.1 own.1).0 in
           empty-all (deeds who view) (λ k m there. (
           let of = filter-is (is_by who) view.made k m there in
           let begun : m.entry.who.seq < length list.0 = (served.made of.0 m of.1).1 in
@@ -317,19 +318,19 @@ module _ (script : Script) (seat : Cpu → ℕ) (last : State) (report : Report)
           none-some row.0 (sym none ∙ ap (λ (o : Option (List Row)). option_and_then (λ (l : List Row). slice_get l who.seq) o) own.1 ∙ row.1)))
 
   marks-without : (test : MarkLine → Bool) → row_at end.rows who ≡ None → marks_in report (λ (x : MarkLine). is_same_command who (who_in x) && test x) ≡ 0
-  marks-without test none = marks-of-command script seat last report end who test ∙ ap (λ (o : Option Row). count_by (λ (n : Note). test n.1) (notes_at who o)) none
+  marks-without test none = marks-of-command script copies seat last report end who test ∙ ap (λ (o : Option Row). count_by (λ (n : Note). test n.1) (notes_at who o)) none
 
   -- and its lines, of which there are none, say nothing
   softs-without : (frame : Frame) (moved : Bool) → row_at end.rows who ≡ None → count_by (is_soft_mark who moved) (marks_of report frame.0) ≡ soft_lines script report who frame moved
   softs-without frame moved none =
-      marks-on-frame script seat last report end who frame (is_soft_line moved) ∙ ap (λ (o : Option Row). count_by (on_frame frame moved) (notes_at who o)) none
+      marks-on-frame script copies seat last report end who frame (is_soft_line moved) ∙ ap (λ (o : Option Row). count_by (on_frame frame moved) (notes_at who o)) none
       ∙ sym (ap (λ (o : Option Command). by_lines frame moved o (answer_of report who) (offlined_of report who)) (no-command (command_at script who) refl)
-      ∙ ap (by_lines frame moved None (answer_of report who)) (offlined-by-row script seat last report end who ∙ ap (λ (o : Option Row). map (offlined_at who.seq) (offlines_at o)) none))
+      ∙ ap (by_lines frame moved None (answer_of report who)) (offlined-by-row script copies seat last report end who ∙ ap (λ (o : Option Row). map (offlined_at who.seq) (offlines_at o)) none))
     where
       listed : (command : Command) (o : Option (List Command)) → slice_get script.lists who.cpu.0 ≡ o → option_and_then (λ (l : List Command). slice_get l who.seq) o ≡ Some command → ⊥
       listed command None list_is is = none-some command is
       listed command (Some list) list_is is =
-          let has = command-of script seat last report end who list command list_is is in
+          let has = command-of script copies seat last report end who list command list_is is in
           none-some has.row (sym none ∙ ap (λ (o : Option (List Row)). option_and_then (λ (l : List Row). slice_get l who.seq) o) has.own_is ∙ has.row_is)
 
       no-command : (o : Option Command) → command_at script who ≡ o → command_at script who ≡ None
@@ -339,31 +340,31 @@ module _ (script : Script) (seat : Cpu → ℕ) (last : State) (report : Report)
   -- ---- with one
 
   module _ (row : Row) (row_is : row_at end.rows who ≡ Some row) where
-    of : OfRow script seat last report end who row
-    of = row-of script seat last report end who row row_is
+    of : OfRow script copies seat last report end who row
+    of = row-of script copies seat last report end who row row_is
 
     entries-are : (test : What → Bool) (by : Failed → Bool) → ((page : Page) (place : ℕ) (what : What) → flag (test what) ≡ counts by (abandoned.failed_of page place what))
         → entries_of report who test ≡ sum_by (λ (t : EventOutcome). counts by (failed_in (current_thread of.of.command) t)) row.told + counts by (own_failure row.own)
     entries-are test by same =
-        entries-inside script seat last report end who test of.of.inside ∙ deeds-count test by same (deeds who view)
+        entries-inside script copies seat last report end who test of.of.inside ∙ deeds-count test by same (deeds who view)
         ∙ ap (count_by by) (of.of.served.accounted.failed ∙ ap (failures_in of.of.command) of.same)
         ∙ count-more (failed_in (current_thread of.of.command)) by row.told (own_failure row.own)
 
     marks-are : (test : MarkLine → Bool) → marks_in report (λ (x : MarkLine). is_same_command who (who_in x) && test x)
         ≡ sum_by (λ (t : EventOutcome). counts (λ (n : Note). test n.1) (told_note who t)) row.told + sum_by (λ (o : Offlining). counts (λ (n : Note). test n.1) (own_note who o.change)) row.offlined + counts (λ (n : Note). test n.1) (own_note who row.own)
     marks-are test =
-        marks-of-command script seat last report end who test ∙ ap (λ (o : Option Row). count_by (λ (n : Note). test n.1) (notes_at who o)) row_is
+        marks-of-command script copies seat last report end who test ∙ ap (λ (o : Option Row). count_by (λ (n : Note). test n.1) (notes_at who o)) row_is
         ∙ count-acts (act_note who) (λ (n : Note). test n.1) row.told row.offlined (own_note who row.own)
 
     taken : EachMember (λ (o : Offlining). IsTaken o.frame o.result o.change) row.offlined
-    taken i o there = is-taken script.layout view who o.frame o.change o.result (offlined-of script seat last report end who row of i o there).came
+    taken i o there = is-taken script.layout view who o.frame o.change o.result (offlined-of script copies seat last report end who row of i o there).came
 
     -- no mark of such a frame passes
     none-beside : (test : MarkLine → Bool) → ((cycle : ℕ) (by : Who) (moved : Bool) → test (marks.Poisoned cycle by (offlined moved)) ≡ false) → sum_by (λ (o : Offlining). counts (λ (n : Note). test n.1) (own_note who o.change)) row.offlined ≡ 0
     none-beside test still = sum-zero (λ (o : Offlining). counts (λ (n : Note). test n.1) (own_note who o.change)) row.offlined (λ i o there. beside-still test still who o.frame o.result o.change (taken i o there))
 
     own-entered : (frame : Frame) (found : Found) → row.own ≡ Some (owns.Failed frame found) → IsEntered script.layout view who frame None found found.at
-    own-entered frame found is = (own-of script seat last report end who row of (owns.Failed frame found) is).failed.entered
+    own-entered frame found is = (own-of script copies seat last report end who row of (owns.Failed frame found) is).failed.entered
 
     failures-with : (situation : Situation) → has_page situation ≡ true → entries_of report who (is_failure situation) ≡ marks_in report (is_failure_mark who situation)
     failures-with situation page =
@@ -371,7 +372,7 @@ module _ (script : Script) (seat : Cpu → ℕ) (last : State) (report : Report)
         = entries-are (is_failure situation) (is_in situation) (failure-counts situation) in
         let told : sum_by (λ (t : EventOutcome). counts (is_in situation) (failed_in (current_thread of.of.command) t)) row.told ≡ sum_by (λ (t : EventOutcome). counts (λ (n : Note). finds situation (how_in n.1)) (told_note who t)) row.told
         = sum-same (λ (t : EventOutcome). counts (is_in situation) (failed_in (current_thread of.of.command) t)) (λ (t : EventOutcome). counts (λ (n : Note). finds situation (how_in n.1)) (told_note who t)) row.told
-        (λ i t there. told-counts script.layout view who situation page (current_thread of.of.command) t (right-of script seat last report end who row of i t there)) in
+        (λ i t there. told-counts script.layout view who situation page (current_thread of.of.command) t (right-of script copies seat last report end who row of i t there)) in
         let own : counts (is_in situation) (own_failure row.own) ≡ counts (λ (n : Note). finds situation (how_in n.1)) (own_note who row.own) = own-counts script.layout view who situation page row.own own-entered in
         let beside : sum_by (λ (o : Offlining). counts (λ (n : Note). finds situation (how_in n.1)) (own_note who o.change)) row.offlined ≡ 0 = none-beside (λ (x : MarkLine). finds situation (how_in x)) not-found in
         let all : marks_in report (is_failure_mark who situation)
@@ -390,14 +391,14 @@ module _ (script : Script) (seat : Cpu → ℕ) (last : State) (report : Report)
         = entries-are (is_required situation) (is_needed situation) (needed-counts situation) in
         let told : sum_by (λ (t : EventOutcome). counts (is_needed situation) (failed_in (current_thread of.of.command) t)) row.told ≡ sum_by (λ (t : EventOutcome). weigh (urgent_weight situation) t t.found) row.told
         = sum-same (λ (t : EventOutcome). counts (is_needed situation) (failed_in (current_thread of.of.command) t)) (λ (t : EventOutcome). weigh (urgent_weight situation) t t.found) row.told
-        (λ i t there. told-needed script.layout view who situation page (current_thread of.of.command) t (right-of script seat last report end who row of i t there)) in
+        (λ i t there. told-needed script.layout view who situation page (current_thread of.of.command) t (right-of script copies seat last report end who row of i t there)) in
         let own : counts (is_needed situation) (own_failure row.own) ≡ 0 = own-needed script.layout view who situation page row.own own-entered in
         omega (arith, entries, told, own)
 
     moves-with : entries_of report who is_soft ≡ marks_in report (is_move_mark who)
     moves-with =
         let entries : entries_of report who is_soft ≡ moves_by of.of.row.own + moves_beside of.of.row.offlined
-        = entries-inside script seat last report end who is_soft of.of.inside ∙ softs-counted script.layout of.of.earlier view who of.of.command of.of.before of.of.row of.of.after of.of.served in
+        = entries-inside script copies seat last report end who is_soft of.of.inside ∙ softs-counted script.layout of.of.earlier view who (copies who) of.of.command of.of.before of.of.row of.of.after of.of.served in
         let same : moves_by of.of.row.own + moves_beside of.of.row.offlined ≡ moves_by row.own + moves_beside row.offlined = ap (λ (r : Row). moves_by r.own + moves_beside r.offlined) of.same in
         let all : marks_in report (is_move_mark who)
         ≡ sum_by (λ (t : EventOutcome). counts (λ (n : Note). is_move (how_in n.1)) (told_note who t)) row.told + sum_by (λ (o : Offlining). counts (λ (n : Note). is_move (how_in n.1)) (own_note who o.change)) row.offlined + counts (λ (n : Note). is_move (how_in n.1)) (own_note who row.own)
@@ -450,11 +451,11 @@ module _ (script : Script) (seat : Cpu → ℕ) (last : State) (report : Report)
     softs-with frame moved =
         let all : count_by (is_soft_mark who moved) (marks_of report frame.0)
         ≡ sum_by (λ (t : EventOutcome). counts (on_frame frame moved) (told_note who t)) row.told + sum_by (λ (o : Offlining). counts (on_frame frame moved) (own_note who o.change)) row.offlined + counts (on_frame frame moved) (own_note who row.own)
-        = marks-on-frame script seat last report end who frame (is_soft_line moved) ∙ ap (λ (o : Option Row). count_by (on_frame frame moved) (notes_at who o)) row_is ∙ count-acts (act_note who) (on_frame frame moved) row.told row.offlined (own_note who row.own) in
+        = marks-on-frame script copies seat last report end who frame (is_soft_line moved) ∙ ap (λ (o : Option Row). count_by (on_frame frame moved) (notes_at who o)) row_is ∙ count-acts (act_note who) (on_frame frame moved) row.told row.offlined (own_note who row.own) in
         let told : sum_by (λ (t : EventOutcome). counts (on_frame frame moved) (told_note who t)) row.told ≡ 0 = sum-zero (λ (t : EventOutcome). counts (on_frame frame moved) (told_note who t)) row.told (λ i t there. still t.found t) in
         let own : counts (on_frame frame moved) (own_note who row.own) ≡ soft_by frame moved row.own = softs row.own in
         let said : soft_by frame moved row.own ≡ cond (is_soft_of frame (Some of.of.command) && says_soft moved (Some of.of.row.answer)) 1 0
-        = ap (λ (r : Row). soft_by frame moved r.own) (sym of.same) ∙ soft-said frame moved script.layout of.of.earlier view who of.of.command of.of.row.told of.of.row.own of.of.row.answer of.of.served.caused of.of.served.accounted.own in
+        = ap (λ (r : Row). soft_by frame moved r.own) (sym of.same) ∙ soft-said frame moved script.layout of.of.earlier view who (copies who) of.of.command of.of.before of.of.row.told of.of.row.own of.of.row.answer of.of.served.caused of.of.served.accounted.own in
         let beside : sum_by (λ (o : Offlining). counts (on_frame frame moved) (own_note who o.change)) row.offlined ≡ sum_by (λ (o : Offlining). flag (says o)) row.offlined
         = sum-same (λ (o : Offlining). counts (on_frame frame moved) (own_note who o.change)) (λ (o : Offlining). flag (says o)) row.offlined (λ i o there. beside-says frame moved who o.frame o.result o.change (taken i o there)) in
         let listed : count_by (λ (l : OfflinedLine). (l.frame.0 == frame.0) && says_soft moved (Some (offline_answer l.result))) (map (offlined_at who.seq) row.offlined) ≡ sum_by (λ (o : Offlining). flag (says o)) row.offlined
@@ -462,8 +463,8 @@ module _ (script : Script) (seat : Cpu → ℕ) (last : State) (report : Report)
         let lines : soft_lines script report who frame moved
         ≡ cond (is_soft_of frame (Some of.of.command) && says_soft moved (Some of.of.row.answer)) 1 0 + count_by (λ (l : OfflinedLine). (l.frame.0 == frame.0) && says_soft moved (Some (offline_answer l.result))) (map (offlined_at who.seq) row.offlined)
         = ap (λ (o : Option Command). by_lines frame moved o (answer_of report who) (offlined_of report who)) (command-is script who of.of.list of.of.command of.of.list_is of.of.command_is)
-        ∙ ap (λ (o : Option Answer). by_lines frame moved (Some of.of.command) o (offlined_of report who)) (answer-told script seat last report end view who of.of)
-        ∙ ap (by_lines frame moved (Some of.of.command) (Some of.of.row.answer)) (offlined-by-row script seat last report end who ∙ ap (λ (o : Option Row). map (offlined_at who.seq) (offlines_at o)) row_is) in
+        ∙ ap (λ (o : Option Answer). by_lines frame moved (Some of.of.command) o (offlined_of report who)) (answer-told script copies seat last report end view who of.of)
+        ∙ ap (by_lines frame moved (Some of.of.command) (Some of.of.row.answer)) (offlined-by-row script copies seat last report end who ∙ ap (λ (o : Option Row). map (offlined_at who.seq) (offlines_at o)) row_is) in
         omega (arith, all, told, own, said, beside, listed, lines)
       where
         says : Offlining → Bool
@@ -481,7 +482,7 @@ module _ (script : Script) (seat : Cpu → ℕ) (last : State) (report : Report)
         softs (Some (owns.Revived f cycle)) = no-soft (f.0 == frame.0) moved
 
     within : EachMember (λ (t : EventOutcome). (found : Found) → t.found ≡ Some found → frame_at t.held.event.addr < length report.frames) row.told
-    within i t there found some = let line = told-line script seat last report end who row row_is i t found there some in slice_get_within report.frames (frame_at t.held.event.addr) line.0 line.1
+    within i t there found some = let line = told-line script copies seat last report end who row row_is i t found there some in slice_get_within report.frames (frame_at t.held.event.addr) line.0 line.1
 
   -- ---- the law
 
@@ -489,8 +490,8 @@ module _ (script : Script) (seat : Cpu → ℕ) (last : State) (report : Report)
   urgent-is : (situation : Situation) (i : ℕ) (l : FrameLine) → slice_get report.frames i ≡ Some l
       → count_by (is_urgent situation) (zip (hardware_marks who l.marks) (result_lines report who i)) ≡ sum_by (urgent_weight situation) (found_on i (told_at (row_at end.rows who)))
   urgent-is situation i l there =
-      ap (λ (ms : List MarkLine). count_by (is_urgent situation) (zip ms (result_lines report who i))) (hardware-are script seat last report end who (record { 0 = i }) l there)
-      ∙ ap (λ (es : List EventLine). count_by (is_urgent situation) (zip (map (hardware_line who) (found_on i (told_at (row_at end.rows who)))) es)) (results-of script seat last report end who i)
+      ap (λ (ms : List MarkLine). count_by (is_urgent situation) (zip ms (result_lines report who i))) (hardware-are script copies seat last report end who (record { 0 = i }) l there)
+      ∙ ap (λ (es : List EventLine). count_by (is_urgent situation) (zip (map (hardware_line who) (found_on i (told_at (row_at end.rows who)))) es)) (results-of script copies seat last report end who i)
       ∙ urgent-counts who who.seq situation (found_on i (told_at (row_at end.rows who)))
 
   all-urgent : (situation : Situation) → urgent_from report who situation 0 report.frames ≡ sum_below (λ i. sum_by (urgent_weight situation) (found_on i (told_at (row_at end.rows who)))) (length report.frames)

@@ -4,6 +4,7 @@ use Rattle.std.proofs.Common.{◌≡◌, inl, inr, ℕ, zero, suc, ◌==◌, ◌
 use Rattle.std.specs.List.{cons_option}
 use Rattle.std.proofs.lemmas.Bool.{eq-eqb}
 use Rattle.std.proofs.lemmas.Option.{get_or_from_slice_get, none-some, same_Some, slice_get_within}
+use Rattle.hwp_law_served.specs.hwp_geom.declared.VSlot.{VSlot}
 use Rattle.hwp_law_served.specs.hwp_banks.Addresses.{frame_at}
 use Rattle.hwp_law_served.specs.hwp_geom.declared.Cpu.{Cpu}
 use Rattle.hwp_law_served.specs.hwp_geom.declared.Frame.{Frame}
@@ -87,7 +88,7 @@ came-has f (x ∷ xs) (suc i) t found there some at = which x.found (frame_at x.
     which (Some other) true rest = (suc rest.0, rest.1)
     which (Some other) false rest = rest
 
-module _ (script : Script) (seat : Cpu → ℕ) (last : State) (report : Report) (end : IsEnd script seat last report) where
+module _ (script : Script) (copies : Who → Option VSlot) (seat : Cpu → ℕ) (last : State) (report : Report) (end : IsEnd script copies seat last report) where
   -- ---- of any command
 
   tells-at : (who : Who) → EachMember TellsResult (told_at (row_at end.rows who))
@@ -95,11 +96,11 @@ module _ (script : Script) (seat : Cpu → ℕ) (last : State) (report : Report)
     where
       which : (o : Option Row) → row_at end.rows who ≡ o → EachMember TellsResult (told_at o)
       which None is = λ i t there. absurd (none-some t there)
-      which (Some row) is = λ i t there. (right-of script seat last report end who row (row-of script seat last report end who row is) i t there).result
+      which (Some row) is = λ i t there. (right-of script copies seat last report end who row (row-of script copies seat last report end who row is) i t there).result
 
   -- its lines in a record that its events caused, and its event lines that tell a result
   pub hardware-are : (who : Who) (frame : Frame) (line : FrameLine) → slice_get report.frames frame.0 ≡ Some line → hardware_marks who line.marks ≡ map (hardware_line who) (found_on frame.0 (told_at (row_at end.rows who)))
-  hardware-are who frame line line_is = hardware-same script seat last report end who frame line line_is ∙ hardware-of frame who end.rows ∙ which (row_at end.rows who)
+  hardware-are who frame line line_is = hardware-same script copies seat last report end who frame line line_is ∙ hardware-of frame who end.rows ∙ which (row_at end.rows who)
     where
       which : (o : Option Row) → filter is_by_hardware (lines_of frame (notes_at who o)) ≡ map (hardware_line who) (found_on frame.0 (told_at o))
       which None = refl
@@ -107,7 +108,7 @@ module _ (script : Script) (seat : Cpu → ℕ) (last : State) (report : Report)
 
   pub results-of : (who : Who) (f : ℕ) → result_lines report who f ≡ map (came_line who.seq) (found_on f (told_at (row_at end.rows who)))
   results-of who f =
-      ap (filter (λ (l : EventLine). (f == frame_at l.addr) && is_some (result_of l.acted))) (events-by-row script seat last report end who)
+      ap (filter (λ (l : EventLine). (f == frame_at l.addr) && is_some (result_of l.acted))) (events-by-row script copies seat last report end who)
       ∙ row-results f who.seq (told_at (row_at end.rows who)) (tells-at who)
 
   -- ---- of a frame
@@ -121,7 +122,7 @@ module _ (script : Script) (seat : Cpu → ℕ) (last : State) (report : Report)
     at-line k x there = ap (λ (l : List MarkLine). slice_get l k) (sym (marks-are frame line line_is)) ∙ there
 
     of : (k : ℕ) (x : MarkLine) → slice_get (marks_of report frame.0) k ≡ Some x → OfItsRow end.rows frame x
-    of k x there = of-row script seat last report end frame line line_is k x (at-line k x there)
+    of k x there = of-row script copies seat last report end frame line line_is k x (at-line k x there)
 
     -- what it found is right, by its row
     line-found : (who : Who) (hardware : Bool) (found : Found) (x : MarkLine) (how : How) → x ≡ failure_line who hardware found → is_kernel_found found.situation ≡ kernel → how_in x ≡ Some how → IsFound kernel how
@@ -154,18 +155,18 @@ module _ (script : Script) (seat : Cpu → ℕ) (last : State) (report : Report)
       where
         which : (row : Row) → row_at end.rows (who_in x) ≡ Some row → IsOfRow (who_in x) row frame x → IsFound kernel how
         which row row_is (inl o) =
-            let r = row-of script seat last report end (who_in x) row row_is in
-            let right = right-of script seat last report end (who_in x) row r o.i o.t o.there in
+            let r = row-of script copies seat last report end (who_in x) row row_is in
+            let right = right-of script copies seat last report end (who_in x) row r o.i o.t o.there in
             let required = required_by (current_thread r.of.command) o.t.held.grade.severity in
             let entered = subst (λ (f : Frame). IsEntered script.layout (view_of last (seat (who_in x).cpu)) (who_in x) f required o.found o.found.at) o.frame_is (right.found o.found o.found_is).1 in
             line-found (who_in x) true o.found x how o.line_is (kernel-found script.layout (view_of last (seat (who_in x).cpu)) (who_in x) frame required kernel o.found kernel_is entered) is
         which row row_is (inr (inl o)) =
-            let r = row-of script seat last report end (who_in x) row row_is in
-            let served = offlined-of script seat last report end (who_in x) row r o.i o.o o.there in
+            let r = row-of script copies seat last report end (who_in x) row row_is in
+            let served = offlined-of script copies seat last report end (who_in x) row r o.i o.o o.there in
             beside-found (who_in x) o.o o.change x how (taken-so script.layout (view_of last (seat (who_in x).cpu)) (who_in x) o.o.frame o.o.result o.o.change o.change served.came o.change_is) o.frame_is o.line_is is
         which row row_is (inr (inr o)) =
-            let r = row-of script seat last report end (who_in x) row row_is in
-            own-found (who_in x) r.of.command r.of.row.answer x how o.own (own-of script seat last report end (who_in x) row r o.own o.own_is) o.frame_is o.line_is is
+            let r = row-of script copies seat last report end (who_in x) row row_is in
+            own-found (who_in x) r.of.command r.of.row.answer x how o.own (own-of script copies seat last report end (who_in x) row r o.own o.own_is) o.frame_is o.line_is is
 
     own-answered : (who : Who) (command : Command) (answer : Answer) (own : FrameChange) → IsOwnRight script.layout (view_of last (seat who.cpu)) who command answer own → (note_by who own).0 ≡ frame → command_at script who ≡ Some command → answer_of report who ≡ Some answer
         → IsAnswered script report frame (note_by who own).1
@@ -187,19 +188,19 @@ module _ (script : Script) (seat : Cpu → ℕ) (last : State) (report : Report)
         which row row_is (inl o) = subst (IsAnswered script report frame) (sym o.line_is) tt
         which row row_is (inr (inl o)) =
             let who : Who = who_in x in
-            let r = row-of script seat last report end who row row_is in
-            let served = offlined-of script seat last report end who row r o.i o.o o.there in
+            let r = row-of script copies seat last report end who row row_is in
+            let served = offlined-of script copies seat last report end who row r o.i o.o o.there in
             let taken = taken-so script.layout (view_of last (seat who.cpu)) who o.o.frame o.o.result o.o.change o.change served.came o.change_is in
             subst (IsAnswered script report frame) (sym (o.line_is ∙ ap (λ (c : FrameChange). (note_by who c).1) taken.change_is)) (offlined-answered who taken.cycle taken.moved)
         which row row_is (inr (inr o)) =
             let who : Who = who_in x in
-            let r = row-of script seat last report end who row row_is in
+            let r = row-of script copies seat last report end who row row_is in
             subst (IsAnswered script report frame) (sym o.line_is)
-            (own-answered who r.of.command r.of.row.answer o.own (own-of script seat last report end who row r o.own o.own_is) o.frame_is (command-is script who r.of.list r.of.command r.of.list_is r.of.command_is)
-            (answer-told script seat last report end (view_of last (seat who.cpu)) who r.of))
+            (own-answered who r.of.command r.of.row.answer o.own (own-of script copies seat last report end who row r o.own o.own_is) o.frame_is (command-is script who r.of.list r.of.command r.of.list_is r.of.command_is)
+            (answer-told script copies seat last report end (view_of last (seat who.cpu)) who r.of))
 
     mark-at : (k : ℕ) (x : MarkLine) → slice_get (marks_of report frame.0) k ≡ Some x → IsMarkAt k x
-    mark-at k x there = marks-at script seat last report end frame line line_is k x (at-line k x there)
+    mark-at k x there = marks-at script copies seat last report end frame line line_is k x (at-line k x there)
 
     have-events : (who : Who) → HaveEvents report frame who
     have-events who =
@@ -216,18 +217,18 @@ module _ (script : Script) (seat : Cpu → ℕ) (last : State) (report : Report)
   pub told-line : (who : Who) (row : Row) → row_at end.rows who ≡ Some row → (i : ℕ) (t : EventOutcome) (found : Found) → slice_get row.told i ≡ Some t → t.found ≡ Some found → (line : FrameLine) × (slice_get report.frames (frame_at t.held.event.addr) ≡ Some line)
   told-line who row row_is i t found there some =
       let view : View = view_of last (seat who.cpu) in
-      let r = row-of script seat last report end who row row_is in
-      let poisoned = ((right-of script seat last report end who row r i t there).found found some).0 in
+      let r = row-of script copies seat last report end who row row_is in
+      let poisoned = ((right-of script copies seat last report end who row r i t there).found found some).0 in
       let m : Mark = poisoned.1 in
       let listed = filter-is (λ (x : Mark). is_own who x) view.marks poisoned.0 m poisoned.2 in
-      let line = line-of script seat last report end (seat who.cpu) listed.0 view m (end.seated.there who.cpu r.of.inside) listed.1 in
+      let line = line-of script copies seat last report end (seat who.cpu) listed.0 view m (end.seated.there who.cpu r.of.inside) listed.1 in
       (line.0, ap (λ (x : Frame). slice_get report.frames x.0) (sym poisoned.3.0) ∙ line.1)
 
   -- a failure by an event, which came to a result, is in the frame's record
   pub result-told : (who : Who) (row : Row) → row_at end.rows who ≡ Some row → (i : ℕ) (t : EventOutcome) (found : Found) → slice_get row.told i ≡ Some t → t.found ≡ Some found → IsResult (marks_of report (frame_at t.held.event.addr)) who t.acted
   result-told who row row_is i t found there some =
       let f : ℕ = frame_at t.held.event.addr in
-      let right = right-of script seat last report end who row (row-of script seat last report end who row row_is) i t there in
+      let right = right-of script copies seat last report end who row (row-of script copies seat last report end who row row_is) i t there in
       let line = told-line who row row_is i t found there some in
       let told_is : told_at (row_at end.rows who) ≡ row.told = ap told_at row_is in
       let all : mark_results (hardware_marks who (marks_of report f)) ≡ map (λ (c : Came). found_act c.1) (found_on f row.told)
@@ -244,13 +245,13 @@ module _ (script : Script) (seat : Cpu → ℕ) (last : State) (report : Report)
       → HasMark report who (marking_by change).frame Such
   change-mark who row row_is change i j marked noted Such such =
       let view : View = view_of last (seat who.cpu) in
-      let r = row-of script seat last report end who row row_is in
+      let r = row-of script copies seat last report end who row row_is in
       let note : Note = note_by who change in
       let frame : Frame = (marking_by change).frame in
       -- the mark, and so the frame's line
       let marking_at : slice_get (markings who view) i ≡ Some (marking_by change) = ap (λ (l : List Marking). slice_get l i) (r.of.served.accounted.marked ∙ ap markings_in r.same) ∙ marked in
       let has : HasMarked view who (marking_by change) = has-marked view who (marking_by change) i marking_at in
-      let line = line-of script seat last report end (seat who.cpu) has.j view has.mark (end.seated.there who.cpu r.of.inside) has.there in
+      let line = line-of script copies seat last report end (seat who.cpu) has.j view has.mark (end.seated.there who.cpu r.of.inside) has.there in
       let line_is : slice_get report.frames frame.0 ≡ Some line.0 = ap (λ (x : Frame). slice_get report.frames x.0) (sym (ap (λ (x : Marking). x.frame) has.marking_is)) ∙ line.1 in
       -- the note, and so the line of the record
       let note_at : slice_get (notes_at who (row_at end.rows who)) j ≡ Some note = ap (λ (o : Option Row). slice_get (notes_at who o) j) row_is ∙ noted in
@@ -258,7 +259,7 @@ module _ (script : Script) (seat : Cpu → ℕ) (last : State) (report : Report)
       let on = filter-has (λ (n : Note). n.0.0 == frame.0) (all_notes (notes_of 0 end.rows)) among.0 note among.1 (eq-eqb note.0.0 frame.0 (ap (λ (x : Frame). x.0) (own-frame who change))) in
       let in_record : slice_get (record_of frame (notes_of 0 end.rows)) on.0 ≡ Some note.1
       = ap (λ (l : List MarkLine). slice_get l on.0) (record-flat frame (notes_of 0 end.rows)) ∙ at_map (λ (n : Note). n.1) (filter (λ (n : Note). n.0.0 == frame.0) (all_notes (notes_of 0 end.rows))) on.0 note on.1 in
-      let some = in-record script seat last report end frame line.0 line_is on.0 note.1 in_record in
+      let some = in-record script copies seat last report end frame line.0 line_is on.0 note.1 in_record in
       let at : slice_get (marks_of report frame.0) some.0 ≡ Some note.1 = ap (λ (l : List MarkLine). slice_get l some.0) (marks-are frame line.0 line_is) ∙ some.2 ∙ ap (λ (y : MarkLine). Some y) some.3 in
       any-of (λ (y : MarkLine). (who_in y ≡ who) × Such y) (marks_of report frame.0) (some.0, note.1, at, (own-by who change, such))
     where

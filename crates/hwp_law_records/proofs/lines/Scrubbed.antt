@@ -5,6 +5,7 @@ use Rattle.std.specs.Prelude.{IsSomeAnd}
 use Rattle.std.proofs.lemmas.Bool.{cases_lt}
 use Rattle.std.proofs.lemmas.List.{map-append}
 use Rattle.std.proofs.lemmas.Option.{option_and_then_some, same_Some}
+use Rattle.hwp_law_served.specs.hwp_geom.declared.VSlot.{VSlot}
 use Rattle.hwp_law_served.specs.hwp_geom.declared.Cpu.{Cpu}
 use Rattle.hwp_law_served.specs.hwp_geom.declared.Damage.{Damage}
 use Rattle.hwp_law_served.specs.hwp_geom.declared.Damage.TheVariants as damages
@@ -33,14 +34,15 @@ use Rattle.hwp_law_served.specs.hwp_cpu_row.declared.Row.{Row}
 use Rattle.hwp_law_served.specs.hwp_cpu_check.declared.EventOutcome.{EventOutcome}
 use Rattle.hwp_law_served.specs.hwp_scrub.Visits as scrubs
 use Rattle.hwp_law_served.specs.hwp_scrub.Visits.{AreVisits, IsBadMet, IsLowest, IsVisit, IsWeakMet, SawLowest, Visit, left_by_bad, left_by_visit, left_by_weak, lines_of_visit, scrub_bank, scrubbing, with_bad}
-use Rattle.hwp_law_served.specs.Causes.{HasSpoiledLine, IsAnswerCaused}
+use Rattle.hwp_law_served.specs.Causes.{HasSpoiledLine, IsAnswerCaused, IsCausedWith}
 use Rattle.hwp_law_served.specs.hwp_cpu_row.Acts.{event_at}
 use Rattle.hwp_law_served.specs.Served.{spoiling}
 use Rattle.hwp_law_served.specs.Told.{IsCutShort, IsScrubTold, IsUntold}
 use Rattle.hwp_law_records.proofs.lines.Checks.{HasResult, check-so, each-first, each-second, lines-so}
 use Rattle.hwp_law_served.proofs.RunEnds.{IsEnd, IsOf, command-of, served-of}
 use Rattle.hwp_law_served.proofs.RowLines.{answer-told}
-use Rattle.hwp_law_records.proofs.lines.SpoiledLines.{seen-after, spoil-shown}
+use Rattle.hwp_law_records.proofs.lines.SpoiledLines.{seen-after, spoil-shown, spoiling-plain}
+use Rattle.hwp_law_served.proofs.copied.Uncopied.{uncopied}
 
 -- a scrub went to its end
 abbrev is_whole : Answer → Bool
@@ -69,12 +71,12 @@ lowest-met word line (Some k) lowest one = which (cases_lt line k)
     which (inl less) = let none : bit_at word line ≡ 0 = lowest.lowest line (omega arith) less in absurd (omega (arith, one, none))
     which (inr past) = past
 
-module _ (script : Script) (seat : Cpu → ℕ) (last : State) (report : Report) (end : IsEnd script seat last report) (who : Who) (of : IsOf script end.rows (view_of last (seat who.cpu)) who) where
+module _ (script : Script) (copies : Who → Option VSlot) (seat : Cpu → ℕ) (last : State) (report : Report) (end : IsEnd script copies seat last report) (who : Who) (of : IsOf script copies end.rows (view_of last (seat who.cpu)) who) where
   abbrev view : View
   view = view_of last (seat who.cpu)
 
   abbrev Result : EventOutcome → Type 0
-  Result = HasResult script seat last report end who of.inside
+  Result = HasResult script copies seat last report end who of.inside
 
   abbrev told_lines : List EventOutcome → List EventLine
   told_lines told = map (event_at who.seq) told
@@ -88,26 +90,27 @@ module _ (script : Script) (seat : Cpu → ℕ) (last : State) (report : Report)
   had-spoiled : (n line : ℕ) (earlier : Who) (frame : Frame) (damage : Damage) → answer_of report who ≡ Some (answers.Scrubbed n) → IsEarlier earlier who → command_at script earlier ≡ Some (spoiling damage frame line) → HasSpoiledLine view earlier frame line damage
   had-spoiled n line earlier frame damage whole before at =
       option_and_then_some (λ (l : List Command). slice_get l earlier.seq) (slice_get script.lists earlier.cpu.0) (spoiling damage frame line) at (λ list list_is there. (
-      let by = command-of script seat last report end earlier list (spoiling damage frame line) list_is there in
+      let by = command-of script copies seat last report end earlier list (spoiling damage frame line) list_is there in
       let lists_same : by.list ≡ list = same_Some by.list list (sym by.list_is ∙ list_is) in
       let command : by.command ≡ spoiling damage frame line = same_Some by.command (spoiling damage frame line) (sym by.command_is ∙ ap (λ (l : List Command). slice_get l earlier.seq) lists_same ∙ there) in
-      let caused = subst (λ (c : Command). IsAnswerCaused script.layout by.earlier (view_of last (seat earlier.cpu)) earlier c by.row.told by.row.own by.row.answer) command by.served.caused in
+      let caused = uncopied script.layout by.earlier (copies earlier) (view_of last (seat earlier.cpu)) earlier (spoiling damage frame line) by.before by.row.told by.row.own by.row.answer (spoiling-plain frame line damage)
+      (subst (λ (c : Command). IsCausedWith script.layout by.earlier (copies earlier) (view_of last (seat earlier.cpu)) earlier c by.before by.row.told by.row.own by.row.answer) command by.served.caused) in
       which by (spoiled-or script.layout by.earlier (view_of last (seat earlier.cpu)) earlier frame line damage by.row.told by.row.own by.row.answer caused)))
     where
-      which : (by : IsOf script end.rows (view_of last (seat earlier.cpu)) earlier) → HasSpoiledLine (view_of last (seat earlier.cpu)) earlier frame line damage ⊎ (by.row.answer ≡ answers.Stopped) → HasSpoiledLine view earlier frame line damage
+      which : (by : IsOf script copies end.rows (view_of last (seat earlier.cpu)) earlier) → HasSpoiledLine (view_of last (seat earlier.cpu)) earlier frame line damage ⊎ (by.row.answer ≡ answers.Stopped) → HasSpoiledLine view earlier frame line damage
       which by (inl has) = subst (λ (c : Cpu). HasSpoiledLine (view_of last (seat c)) earlier frame line damage) before.0 has
       which by (inr stopped) =
           let rows_same : by.own ≡ of.own = same_Some by.own of.own (sym by.own_is ∙ ap (λ (c : Cpu). slice_get end.rows c.0) before.0 ∙ of.own_is) in
           let row_is : slice_get of.own earlier.seq ≡ Some by.row = sym (ap (λ (l : List Row). slice_get l earlier.seq) rows_same) ∙ by.row_is in
-          let served = (served-of script seat last report end who.cpu of.list of.own of.list_is of.own_is).0 in
+          let served = (served-of script copies seat last report end who.cpu of.list of.own of.list_is of.own_is).0 in
           let later : of.row.answer ≡ answers.Stopped = served.stays earlier.seq who.seq by.row of.row before.1 row_is of.row_is stopped in
-          let answered : of.row.answer ≡ answers.Scrubbed n = same_Some of.row.answer (answers.Scrubbed n) (sym (answer-told script seat last report end view who of) ∙ whole) in
+          let answered : of.row.answer ≡ answers.Scrubbed n = same_Some of.row.answer (answers.Scrubbed n) (sym (answer-told script copies seat last report end view who of) ∙ whole) in
           absurd (true≢false (ap is_whole (sym answered ∙ later)))
 
   meets : (frame : Frame) (damage : Damage) (met : Option ℕ) → SawLowest view who (damage_place frame damage) met → (n line : ℕ) (earlier : Who) → answer_of report who ≡ Some (answers.Scrubbed n) → IsEarlier earlier who → command_at script earlier ≡ Some (spoiling damage frame line)
       → IsSomeAnd met (λ (k : ℕ). k ≤ line)
   meets frame damage met saw n line earlier whole before at =
-      lowest-met saw.word line met saw.lowest (seen-after script seat last report end who.cpu of.inside earlier who before frame damage line saw.word (had-spoiled n line earlier frame damage whole before at) saw.saw)
+      lowest-met saw.word line met saw.lowest (seen-after script copies seat last report end who.cpu of.inside earlier who before frame damage line saw.word (had-spoiled n line earlier frame damage whole before at) saw.saw)
 
   -- ---- a frame
 
@@ -115,9 +118,9 @@ module _ (script : Script) (seat : Cpu → ℕ) (last : State) (report : Report)
       → IsBadFound script report who scrubbing frame line banks (told_lines lines) (left_by_bad line banks)
   bad-found frame banks None lines saw none results = (ap told_lines none, refl)
   bad-found frame banks (Some line) lines saw acted results = (
-    spoil-shown script seat last report end who.cpu of.inside who frame damages.Bad line saw.word saw.lowest.is_set saw.saw,
+    spoil-shown script copies seat last report end who.cpu of.inside who frame damages.Bad line saw.word saw.lowest.is_set saw.saw,
     refl,
-    check-so script seat last report end who of.inside None scrubbing (with_bad frame line banks) lines acted results,
+    check-so script copies seat last report end who of.inside None scrubbing (with_bad frame line banks) lines acted results,
   )
 
   weak-found : (frame : Frame) (banks : Banks) (line : Option ℕ) (lines : List EventOutcome) → SawLowest view who (places.Weak frame) line → IsWeakMet script.layout view who frame banks line lines → EachMember Result lines
@@ -125,9 +128,9 @@ module _ (script : Script) (seat : Cpu → ℕ) (last : State) (report : Report)
   weak-found frame banks None lines saw none results = (ap told_lines none, refl)
   weak-found frame banks (Some line) lines saw kept results = (
     kept.event,
-    spoil-shown script seat last report end who.cpu of.inside who frame damages.Weak line saw.word saw.lowest.is_set saw.saw,
+    spoil-shown script copies seat last report end who.cpu of.inside who frame damages.Weak line saw.word saw.lowest.is_set saw.saw,
     kept.held,
-    lines-so script seat last report end who of.inside None scrubbing false ((scrub_bank, kept.event) ∷ []) lines kept.events kept.told results,
+    lines-so script copies seat last report end who of.inside None scrubbing false ((scrub_bank, kept.event) ∷ []) lines kept.events kept.told results,
     refl,
   )
 

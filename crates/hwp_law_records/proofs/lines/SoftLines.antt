@@ -15,7 +15,10 @@ use Rattle.hwp_law_served.specs.hwp_cpu_row.declared.FrameChange.{FrameChange}
 use Rattle.hwp_law_served.specs.hwp_cpu_row.declared.FrameChange.TheVariants as owns
 use Rattle.hwp_law_served.specs.hwp_cpu_check.declared.EventOutcome.{EventOutcome}
 use Rattle.hwp_law_served.specs.Accounts.{IsOwn}
-use Rattle.hwp_law_served.specs.Causes.{IsAnswerCaused}
+use Rattle.hwp_law_served.specs.hwp_geom.declared.VSlot.{VSlot}
+use Rattle.hwp_law_served.specs.hwp_banks.Banks.{Banks}
+use Rattle.hwp_law_served.specs.Causes.{IsAnswerCaused, IsCausedWith}
+use Rattle.hwp_law_served.proofs.copied.Uncopied.{uncopied}
 
 -- whether a command itself moved the content of the frame, or took it free, as a number
 abbrev pub soft_by : Frame → Bool → Option FrameChange → ℕ
@@ -63,7 +66,7 @@ module _ (frame : Frame) (moved : Bool) where
     offline f told own answers.NoFrame caused is = none f own caused.1.2
     offline f told own answer caused is = absurd caused.1
 
-    pub soft-said : (command : Command) (told : List EventOutcome) (own : Option FrameChange) (answer : Answer) → IsAnswerCaused layout earlier view who command told own answer → IsOwn command answer own
+    pub soft-said : (copied : Option VSlot) (command : Command) (before : Banks) (told : List EventOutcome) (own : Option FrameChange) (answer : Answer) → IsCausedWith layout earlier copied view who command before told own answer → IsOwn command answer own
         → soft_by frame moved own ≡ cond (is_soft_of frame (Some command) && says_soft moved (Some answer)) 1 0
-    soft-said (commands.Soft f) told own answer caused is = offline f told own answer caused is
-    soft-said command told own answer caused is = own-still command answer own refl is
+    soft-said copied (commands.Soft f) before told own answer caused is = offline f told own answer (uncopied layout earlier copied view who (commands.Soft f) before told own answer refl caused) is
+    soft-said copied command before told own answer caused is = own-still command answer own refl is

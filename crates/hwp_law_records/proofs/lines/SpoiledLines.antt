@@ -6,6 +6,7 @@ use Rattle.std.proofs.lemmas.Bool.{and_parts, cases_lt, eqb-true}
 use Rattle.std.proofs.lemmas.Nat.{bit_set_by_shift}
 use Rattle.std.proofs.lemmas.Nat.Bits.{bit_at-lt, bit_at_above, shr_and_one}
 use Rattle.std.proofs.lemmas.Option.{option_and_then_some, same_Some}
+use Rattle.hwp_law_served.specs.hwp_geom.declared.VSlot.{VSlot}
 use Rattle.hwp_law_served.specs.hwp_geom.declared.Cpu.{Cpu}
 use Rattle.hwp_law_served.specs.hwp_geom.declared.Damage.{Damage}
 use Rattle.hwp_law_served.specs.hwp_geom.declared.Damage.TheVariants as damages
@@ -39,7 +40,8 @@ use Rattle.hwp_law_served.specs.hwp_cpu_check.Checks.{SawBad}
 use Rattle.hwp_law_served.proofs.of_hwp_law_run.Homes.{there-is}
 use Rattle.hwp_law_served.proofs.of_hwp_core_rule.MoveKeeps.{shaped}
 use Rattle.hwp_law_served.specs.hwp_law.Frames.{WasDone}
-use Rattle.hwp_law_served.specs.Causes.{HasSpoiledLine, IsAnswerCaused}
+use Rattle.hwp_law_served.specs.Causes.{HasSpoiledLine, IsAnswerCaused, IsCausedWith}
+use Rattle.hwp_law_served.proofs.copied.Uncopied.{is_store, uncopied}
 use Rattle.hwp_law_served.specs.Served.{spoiling}
 use Rattle.hwp_law_served.proofs.RunEnds.{IsEnd, command-of, list-of, rows-of, seat-view, served-of}
 use Rattle.hwp_law_served.proofs.RowLines.{answer-told}
@@ -99,9 +101,14 @@ spoil-cause : (layout : Layout) (earlier : List (Command × Answer)) (view : Vie
 spoil-cause layout earlier view who frame n damages.Bad told own caused = caused
 spoil-cause layout earlier view who frame n damages.Weak told own caused = caused
 
+-- a command that spoils a line copies nothing
+pub spoiling-plain : (frame : Frame) (n : ℕ) (damage : Damage) → is_store (spoiling damage frame n) ≡ false
+spoiling-plain frame n damages.Bad = refl
+spoiling-plain frame n damages.Weak = refl
+
 -- ---- the lines
 
-module _ (script : Script) (seat : Cpu → ℕ) (last : State) (report : Report) (end : IsEnd script seat last report) where
+module _ (script : Script) (copies : Who → Option VSlot) (seat : Cpu → ℕ) (last : State) (report : Report) (end : IsEnd script copies seat last report) where
   abbrev all_spoiled : List (List Spoiled)
   all_spoiled = map (λ (v : View). v.spoiled) last.views
 
@@ -110,31 +117,32 @@ module _ (script : Script) (seat : Cpu → ℕ) (last : State) (report : Report)
   done-of i j v s view there =
       let part = end.spoilers i v view j s there in
       let own = subst (λ (c : Cpu). (c.0 < script.layout.cpus) × (v ≡ view_of last (seat c))) part.3 (seat-view script.layout seat last end.board.holds end.seated i part.0 v part.1 view part.2) in
-      let list = list-of script seat last report end s.stamp.who.cpu own.0 in
-      let rows = rows-of script seat last report end s.stamp.who.cpu own.0 in
-      let served = (served-of script seat last report end s.stamp.who.cpu list.0 rows.0 list.1 rows.1).0 in
+      let list = list-of script copies seat last report end s.stamp.who.cpu own.0 in
+      let rows = rows-of script copies seat last report end s.stamp.who.cpu own.0 in
+      let served = (served-of script copies seat last report end s.stamp.who.cpu list.0 rows.0 list.1 rows.1).0 in
       let by = served.spoiled j s (sym (ap (λ (x : View). slice_get x.spoiled j) own.1) ∙ there) in
-      let of = command-of script seat last report end s.stamp.who list.0 (spoiling s.damage s.frame s.line) list.1 by.there in
+      let of = command-of script copies seat last report end s.stamp.who list.0 (spoiling s.damage s.frame s.line) list.1 by.there in
       let rows_same : of.own ≡ rows.0 = same_Some of.own rows.0 (sym of.own_is ∙ rows.1) in
       let row : of.row ≡ by.row = same_Some of.row by.row (sym of.row_is ∙ ap (λ (l : List Row). slice_get l s.stamp.who.seq) rows_same ∙ by.row_is) in
       record {
         who = s.stamp.who;
         made = command-is script s.stamp.who list.0 (spoiling s.damage s.frame s.line) list.1 by.there;
-        answered = answer-told script seat last report end (view_of last (seat s.stamp.who.cpu)) s.stamp.who of ∙ ap (λ (a : Answer). Some a) (ap (λ (r : Row). r.answer) row ∙ by.answered);
+        answered = answer-told script copies seat last report end (view_of last (seat s.stamp.who.cpu)) s.stamp.who of ∙ ap (λ (a : Answer). Some a) (ap (λ (r : Row). r.answer) row ∙ by.answered);
       }
 
   -- a command that was answered so spoiled the line
   spoiled-by : (who : Who) (frame : Frame) (n : ℕ) (damage : Damage) → command_at script who ≡ Some (spoiling damage frame n) → answer_of report who ≡ Some answers.Done → (who.cpu.0 < script.layout.cpus) × HasSpoiledLine (view_of last (seat who.cpu)) who frame n damage
   spoiled-by who frame n damage made answered =
       option_and_then_some (λ (l : List Command). slice_get l who.seq) (slice_get script.lists who.cpu.0) (spoiling damage frame n) made (λ list list_is there. (
-      let of = command-of script seat last report end who list (spoiling damage frame n) list_is there in
+      let of = command-of script copies seat last report end who list (spoiling damage frame n) list_is there in
       let lists_same : of.list ≡ list = same_Some of.list list (sym of.list_is ∙ list_is) in
       let command : of.command ≡ spoiling damage frame n = same_Some of.command (spoiling damage frame n) (sym of.command_is ∙ ap (λ (l : List Command). slice_get l who.seq) lists_same ∙ there) in
-      let answer : of.row.answer ≡ answers.Done = same_Some of.row.answer answers.Done (sym (answer-told script seat last report end (view_of last (seat who.cpu)) who of) ∙ answered) in (
+      let answer : of.row.answer ≡ answers.Done = same_Some of.row.answer answers.Done (sym (answer-told script copies seat last report end (view_of last (seat who.cpu)) who of) ∙ answered) in (
         of.inside,
         spoil-cause script.layout of.earlier (view_of last (seat who.cpu)) who frame n damage of.row.told of.row.own
-            (subst (λ (c : Command). IsAnswerCaused script.layout of.earlier (view_of last (seat who.cpu)) who c of.row.told of.row.own answers.Done) command
-            (subst (IsAnswerCaused script.layout of.earlier (view_of last (seat who.cpu)) who of.command of.row.told of.row.own) answer of.served.caused)),
+            (uncopied script.layout of.earlier (copies who) (view_of last (seat who.cpu)) who (spoiling damage frame n) of.before of.row.told of.row.own answers.Done (spoiling-plain frame n damage)
+            (subst (λ (c : Command). IsCausedWith script.layout of.earlier (copies who) (view_of last (seat who.cpu)) who c of.before of.row.told of.row.own answers.Done) command
+            (subst (IsCausedWith script.layout of.earlier (copies who) (view_of last (seat who.cpu)) who of.command of.before of.row.told of.row.own) answer of.served.caused))),
       )))
 
   abbrev words : Words

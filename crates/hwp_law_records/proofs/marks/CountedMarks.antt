@@ -4,6 +4,7 @@ use Rattle.std.specs.List.{count_by, sum_by}
 use Rattle.std.proofs.lemmas.Bool.{ne_eqb}
 use Rattle.std.proofs.lemmas.List.Sums.{sum_by-cons}
 use Rattle.std.proofs.lemmas.Option.{none-some, slice_get_within}
+use Rattle.hwp_law_served.specs.hwp_geom.declared.VSlot.{VSlot}
 use Rattle.hwp_law_served.specs.hwp_geom.declared.Cpu.{Cpu}
 use Rattle.hwp_law_served.specs.hwp_geom.declared.Frame.{Frame}
 use Rattle.hwp_law_served.specs.hwp_geom.declared.Who.{Who}
@@ -55,11 +56,11 @@ and-swap true false c = refl
 and-swap false true c = refl
 and-swap false false c = refl
 
-module _ (script : Script) (seat : Cpu → ℕ) (last : State) (report : Report) (end : IsEnd script seat last report) where
+module _ (script : Script) (copies : Who → Option VSlot) (seat : Cpu → ℕ) (last : State) (report : Report) (end : IsEnd script copies seat last report) where
   -- the frame of a note is one of the report
   framed : (c : ℕ) (own : List Note) → slice_get (notes_of 0 end.rows) c ≡ Some own → EachMember (λ (n : Note). n.0.0 < length report.frames) own
   framed c own there j n at =
-      let noted = all-noted script seat last report end in
+      let noted = all-noted script copies seat last report end in
       let inside : c < script.layout.cpus = subst (λ (n : ℕ). c < n) noted.fit (slice_get_within (notes_of 0 end.rows) c own there) in
       let cpu : Cpu = record { 0 = c } in
       let m = partner IsNote own (view_of last (seat cpu)).marks j n (noted.noted c own there) at in

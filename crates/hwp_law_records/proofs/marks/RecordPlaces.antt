@@ -5,6 +5,7 @@ use Rattle.std.specs.Prelude.{Any, fold}
 use Rattle.std.specs.Int.{from_bool}
 use Rattle.std.proofs.lemmas.Bool.{eq-eqb, ne_eqb}
 use Rattle.std.proofs.lemmas.List.{take_all}
+use Rattle.hwp_law_served.specs.hwp_geom.declared.VSlot.{VSlot}
 use Rattle.hwp_law_served.specs.hwp_geom.declared.Cpu.{Cpu}
 use Rattle.hwp_law_served.specs.hwp_geom.declared.Frame.{Frame}
 use Rattle.hwp_law_served.specs.hwp_geom.declared.Who.{Who}
@@ -109,7 +110,7 @@ odd-word word = which (same-or (poison_of word) 1)
     which (inl one) = eq-eqb (mark_count word % 2) 1 (omega (arith, one)) ∙ sym (eq-eqb (poison_of word) 1 one)
     which (inr other) = ne_eqb (mark_count word % 2) 1 (λ odd. let no_ : mark_count word % 2 ≡ 1 = odd in omega (arith, other, bit, no_)) ∙ sym (ne_eqb (poison_of word) 1 other)
 
-module _ (script : Script) (seat : Cpu → ℕ) (last : State) (report : Report) (end : IsEnd script seat last report) where
+module _ (script : Script) (copies : Who → Option VSlot) (seat : Cpu → ℕ) (last : State) (report : Report) (end : IsEnd script copies seat last report) where
   -- the mark that a line of a record tells, in the view that lists it
   pub record IsOfMark (frame : Frame) (x : MarkLine) : Type 0 where
     pub mark : Mark
@@ -228,7 +229,7 @@ module _ (script : Script) (seat : Cpu → ℕ) (last : State) (report : Report)
       let v : View = was.0 in
       let m : Mark = some.3.1 in
       let there : slice_get v.marks some.3.0 ≡ Some m = ap (λ (d : CountDebts). slice_get d.marks some.3.0) was.2 ∙ some.3.2 in
-      let line = line-of script seat last report end some.0 some.3.0 v m was.1 there in
+      let line = line-of script copies seat last report end some.0 some.3.0 v m was.1 there in
       let told = line-told m.frame line.0 line.1 some.0 some.3.0 v m was.1 there refl in
       let y : MarkLine = told.1 in
       let by : IsNotLater (who_in y) who = subst (λ (w : Who). IsNotLater w who) (sym (of-command m.frame y m told.3)) (subst (IsNotLater m.stamp.who) own some.3.3.1) in

@@ -30,7 +30,7 @@ use Rattle.hwp_cpu_row.specs.declared.FrameChange.{FrameChange}
 use Rattle.hwp_cpu_row.specs.declared.Row.{Row}
 use Rattle.hwp_cpu_row.specs.hwp_cpu_check.declared.EventOutcome.{EventOutcome}
 use Rattle.hwp_law_served.specs.Accounts.{IsAccounted}
-use Rattle.hwp_law_served.specs.Causes.{HasCome, HasOnlyMet, IsAnswerCaused, IsBefore, IsBeside, IsCaused, IsMet, IsSoftCaused, IsTableCaused, WasSignalled}
+use Rattle.hwp_law_served.specs.Causes.{HasCome, HasOnlyMet, IsAnswerCaused, IsBefore, IsBeside, IsMet, IsSoftCaused, IsTableCaused, WasSignalled}
 use Rattle.hwp_law_served.proofs.deeds.Needed.{IsNeeded, needed}
 
 -- ---- what a command makes by itself
@@ -88,7 +88,7 @@ answered layout command answer page place what m makes stands named (page_is, pl
 
 module _ (layout : Layout) (command : Command) (answer : Answer) (m : Made) where
   -- a failure
-  failure : can_fail command ≡ true → IsNeeded command m.entry.what → is_failure m.entry.what ≡ true → IsDeed layout command answer m
+  pub failure : can_fail command ≡ true → IsNeeded command m.entry.what → is_failure m.entry.what ≡ true → IsDeed layout command answer m
   failure can need fails = record { makes = makes m.entry.what need fails; stands = stands m.entry.what fails; named = λ answers. absurd (true≢false (sym answers ∙ unanswering m.entry.what fails)) }
     where
       makes : (what : What) → IsNeeded command what → is_failure what ≡ true → Makes false command what
@@ -216,6 +216,8 @@ module _ (layout : Layout) (earlier : List (Command × Answer)) (view : View) (w
   table-deeds (commands.Open file) (answers.Opened word) need caused = none view who _ caused
   table-deeds (commands.Prctl thread args) (answers.Gone page) need caused = none view who _ caused.1
   table-deeds (commands.Prctl thread args) answer need caused = none view who _ caused.made
+  table-deeds (commands.Fork thread process) answers.Done need caused = none view who _ caused.1
+  table-deeds (commands.Fork thread process) (answers.Gone page) need caused = none view who _ caused.1
   table-deeds (commands.Log status addr misc) answers.Done need caused = none view who _ caused
   table-deeds (commands.Watch threshold window) answers.Done need caused = none view who _ caused
   table-deeds (commands.Bad frame line) answers.Done need caused = none view who _ caused.made
@@ -246,7 +248,7 @@ module _ (layout : Layout) (earlier : List (Command × Answer)) (view : View) (w
   either command told at need (inl caused) = table-deeds command (answers.Sigbus at) need caused
   either command told at need (inr was) = signalled command told at (answers.Sigbus at) (access_of command) need was
 
-  answer-deeds : (command : Command) (told : List EventOutcome) (own : Option FrameChange) (answer : Answer) → EachMember (λ (m : Made). IsNeeded command m.entry.what) (deeds who view) → IsAnswerCaused layout earlier view who command told own answer → Are command answer
+  pub answer-deeds : (command : Command) (told : List EventOutcome) (own : Option FrameChange) (answer : Answer) → EachMember (λ (m : Made). IsNeeded command m.entry.what) (deeds who view) → IsAnswerCaused layout earlier view who command told own answer → Are command answer
   answer-deeds command told own answers.Stopped need caused = only-met command need _ caused.only
   answer-deeds (commands.RaiseUser thread ripv eipv) told own (answers.Raised n) need caused = only-met _ need _ caused.1.only
   answer-deeds (commands.RaiseUser thread ripv eipv) told own (answers.Gone page) need caused = none view who _ caused.1
@@ -262,5 +264,5 @@ module _ (layout : Layout) (earlier : List (Command × Answer)) (view : View) (w
   answer-deeds command told own (answers.Sigbus at) need caused = either command told at need caused
   answer-deeds command told own answer need caused = table-deeds command answer need caused
 
-  pub are-deeds : (command : Command) (row : Row) → IsCaused layout earlier view who command row → IsAccounted view who command row → Are command row.answer
+  pub are-deeds : (command : Command) (row : Row) → IsAnswerCaused layout earlier view who command row.told row.own row.answer → IsAccounted layout earlier view who command row → Are command row.answer
   are-deeds command row caused account = answer-deeds command row.told row.own row.answer (needed view who command row account) caused

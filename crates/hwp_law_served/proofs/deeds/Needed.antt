@@ -2,6 +2,7 @@
 use Rattle.std.proofs.Common.{◌≡◌, inl, inr, zero, suc, List, [], Option, Some, None, filter_map, option_and_then, slice_get, refl, sym, ap, ◌∙◌, subst}
 use Rattle.std.specs.List.{cons_option}
 use Rattle.std.proofs.lemmas.Option.{none-some, same_Some}
+use Rattle.hwp_law_run.specs.hwp_geom.declared.Layout.{Layout}
 use Rattle.hwp_law_run.specs.hwp_geom.declared.Thread.{Thread}
 use Rattle.hwp_law_run.specs.hwp_geom.declared.Who.{Who}
 use Rattle.hwp_law_run.specs.hwp_page.declared.At.{At}
@@ -19,6 +20,7 @@ use Rattle.hwp_soft.specs.hwp_claim_act.Abandons.{signals_now}
 use Rattle.hwp_law_run.specs.hwp_severity.declared.Severity.{Severity}
 use Rattle.hwp_law_run.specs.hwp_severity.declared.Severity.TheVariants as severities
 use Rattle.hwp_law_run.specs.hwp_script_read.declared.Command.{Command}
+use Rattle.hwp_law_run.specs.hwp_report_text.declared.Answer.{Answer}
 use Rattle.hwp_law_run.specs.hwp_law_commands.Commands.{current_thread}
 use Rattle.hwp_law_run.specs.hwp_law.Entries.{IsRequiredBy}
 use Rattle.hwp_soft.specs.hwp_claim.declared.Found.{Found}
@@ -67,7 +69,7 @@ module _ (command : Command) where
       (by-own (own_failure row.own) (λ failed is. inl (required-is None (option_and_then found_in row.own) failed is)))
 
 -- and so of the entries
-pub needed : (view : View) (who : Who) (command : Command) (row : Row) → IsAccounted view who command row → EachMember (λ (m : Made). IsNeeded command m.entry.what) (deeds who view)
+pub needed : {layout : Layout} {earlier : List (Command × Answer)} (view : View) (who : Who) (command : Command) (row : Row) → IsAccounted layout earlier view who command row → EachMember (λ (m : Made). IsNeeded command m.entry.what) (deeds who view)
 needed view who command row account i m there = which m.entry.what refl
   where
     which : (what : What) → m.entry.what ≡ what → IsNeeded command what

@@ -2,6 +2,7 @@
 -- has its entry and is the command's answer, and a frame that was taken out of use isn't the kernel's, and the answer says so.
 use Rattle.std.proofs.Common.{◌≡◌, ℕ, ◌<◌, Bool, true, false, List, Option, Some, None, option_and_then, slice_get, refl, sym, ap, ◌∙◌, subst, true≢false}
 use Rattle.std.proofs.lemmas.Option.{none-some, same_Some, slice_get_within}
+use Rattle.hwp_law_run.specs.hwp_geom.declared.VSlot.{VSlot}
 use Rattle.hwp_law_run.specs.hwp_geom.declared.Cpu.{Cpu}
 use Rattle.hwp_law_run.specs.hwp_geom.declared.Frame.{Frame}
 use Rattle.hwp_law_run.specs.hwp_geom.declared.Layout.{Layout}
@@ -39,12 +40,13 @@ use Rattle.hwp_cpu_row.specs.declared.Row.{Row}
 use Rattle.hwp_cpu_row.specs.hwp_cpu_check.declared.EventOutcome.{EventOutcome}
 use Rattle.hwp_cpu_row.specs.hwp_cpu_check.Fits.{IsEntered}
 use Rattle.hwp_law_served.specs.Accounts.{IsOfflined, IsOwn}
-use Rattle.hwp_law_served.specs.Causes.{HasCome, HasFailed, IsAnswerCaused}
+use Rattle.hwp_law_served.specs.Causes.{HasCome, HasFailed, IsAnswerCaused, IsCausedWith}
 use Rattle.hwp_law_served.specs.Offlinings.{IsOfflineServed}
 use Rattle.hwp_law_served.specs.Served.{IsOffliningServed}
 use Rattle.hwp_law_served.specs.Runs.{row_at}
 use Rattle.hwp_law_served.proofs.RunEnds.{IsEnd, IsOf, command-of, list-of, same-row, served-of}
 use Rattle.hwp_law_served.proofs.lines.ToldRight.{IsRight, told-right}
+use Rattle.hwp_law_served.proofs.copied.Uncopied.{own-no-store, uncopied}
 
 -- ---- what a failure finds
 
@@ -150,10 +152,10 @@ taken-so layout view who frame results.Stopped own change (saw, none) is = absur
 
 -- ---- at the end
 
-module _ (script : Script) (seat : Cpu → ℕ) (last : State) (report : Report) (end : IsEnd script seat last report) where
+module _ (script : Script) (copies : Who → Option VSlot) (seat : Cpu → ℕ) (last : State) (report : Report) (end : IsEnd script copies seat last report) where
   -- the command of a row
   pub record OfRow (who : Who) (row : Row) : Type 0 where
-    pub of : IsOf script end.rows (view_of last (seat who.cpu)) who
+    pub of : IsOf script copies end.rows (view_of last (seat who.cpu)) who
     pub same : of.row ≡ row
 
   pub row-of : (who : Who) (row : Row) → row_at end.rows who ≡ Some row → OfRow who row
@@ -163,24 +165,25 @@ module _ (script : Script) (seat : Cpu → ℕ) (last : State) (report : Report)
       which None none there = absurd (none-some row there)
       which (Some own) own_is there =
           let inside : who.cpu.0 < script.layout.cpus = subst (λ (n : ℕ). who.cpu.0 < n) end.rows_fit (slice_get_within end.rows who.cpu.0 own own_is) in
-          let list = list-of script seat last report end who.cpu inside in
-          let served = (served-of script seat last report end who.cpu list.0 own list.1 own_is).0 in
+          let list = list-of script copies seat last report end who.cpu inside in
+          let served = (served-of script copies seat last report end who.cpu list.0 own list.1 own_is).0 in
           let command = there-is list.0 who.seq (subst (λ (n : ℕ). who.seq < n) served.count (slice_get_within own who.seq row there)) in
-          let of = command-of script seat last report end who list.0 command.0 list.1 command.1 in
+          let of = command-of script copies seat last report end who list.0 command.0 list.1 command.1 in
           record { of = of; same = same-row of own row own_is there }
 
   -- what it told is right
   pub right-of : (who : Who) (row : Row) (r : OfRow who row) → EachMember (IsRight script.layout (view_of last (seat who.cpu)) who (current_thread r.of.command)) row.told
   right-of who row r =
       subst (λ (x : Row). EachMember (IsRight script.layout (view_of last (seat who.cpu)) who (current_thread r.of.command)) x.told) r.same
-      (told-right script.layout (view_of last (seat who.cpu)) who r.of.command r.of.row.answer r.of.before r.of.row.told r.of.after r.of.served.told)
+      (told-right script.layout (view_of last (seat who.cpu)) who (copies who) r.of.command r.of.row.answer r.of.before r.of.row.told r.of.after r.of.served.told)
 
   -- and so is what it did to a frame itself
   pub own-of : (who : Who) (row : Row) (r : OfRow who row) (own : FrameChange) → row.own ≡ Some own → IsOwnRight script.layout (view_of last (seat who.cpu)) who r.of.command r.of.row.answer own
   own-of who row r own own_is =
       let is : r.of.row.own ≡ Some own = ap (λ (x : Row). x.own) r.same ∙ own_is in
       own-so script.layout r.of.earlier (view_of last (seat who.cpu)) who r.of.row.told r.of.command r.of.row.answer own (subst (IsOwn r.of.command r.of.row.answer) is r.of.served.accounted.own)
-      (subst (λ (o : Option FrameChange). IsAnswerCaused script.layout r.of.earlier (view_of last (seat who.cpu)) who r.of.command r.of.row.told o r.of.row.answer) is r.of.served.caused)
+      (uncopied script.layout r.of.earlier (copies who) (view_of last (seat who.cpu)) who r.of.command r.of.before r.of.row.told (Some own) r.of.row.answer (own-no-store r.of.command r.of.row.answer own (subst (IsOwn r.of.command r.of.row.answer) is r.of.served.accounted.own))
+      (subst (λ (o : Option FrameChange). IsCausedWith script.layout r.of.earlier (copies who) (view_of last (seat who.cpu)) who r.of.command r.of.before r.of.row.told o r.of.row.answer) is r.of.served.caused))
 
   -- and what came of the frames that were taken out of use beside it
   pub offlined-of : (who : Who) (row : Row) (r : OfRow who row) → EachMember (IsOffliningServed script.layout (view_of last (seat who.cpu)) who) row.offlined

@@ -3,6 +3,7 @@ use Rattle.std.proofs.Common.{◌≡◌, ◌≢◌, ℕ, zero, suc, ◌+◌, Boo
 use Rattle.std.specs.Prelude.{nat_lt}
 use Rattle.std.specs.List.{cons_option, list_any}
 use Rattle.std.proofs.lemmas.Option.{none-some, same_Some}
+use Rattle.hwp_law_run.specs.hwp_geom.declared.VSlot.{VSlot}
 use Rattle.hwp_law_run.specs.hwp_geom.declared.Cpu.{Cpu}
 use Rattle.hwp_law_run.specs.hwp_geom.declared.Frame.{Frame}
 use Rattle.hwp_law_run.specs.hwp_geom.declared.Layout.{Layout}
@@ -30,7 +31,7 @@ use Rattle.hwp_cpu_row.specs.hwp_cpu_check.declared.EventOutcome.{EventOutcome}
 use Rattle.hwp_law_served.specs.Handles.{answers_by}
 use Rattle.hwp_law_served.specs.Offlinings.{watched_along, watched_at}
 use Rattle.hwp_law_served.specs.Rows.{lines_from, offlined_at}
-use Rattle.hwp_law_served.specs.Told.{AreToldBy}
+use Rattle.hwp_law_served.specs.Told.{AreToldBy, AreToldWith}
 use Rattle.hwp_law_served.specs.hwp_cpu_row.Acts.{event_at, told_notes}
 use Rattle.hwp_law_served.proofs.RowLines.{answered-so, events-at, events-told, offlined-told}
 use Rattle.hwp_law_served.proofs.RunEnds.{IsEnd, IsOf, served-of}
@@ -129,6 +130,12 @@ tells-can layout view who (commands.Scrub first last) answer before told after i
 tells-can layout view who (commands.Log status addr misc) answer before told after is some = absurd (some is.0)
 tells-can layout view who command answer before told after is some = absurd (some is.0)
 
+-- nor does a store that copies tell of them without that
+tells-with : (layout : Layout) (copied : Option VSlot) (view : View) (who : Who) (command : Command) (answer : Answer) (before : Banks) (told : List EventOutcome) (after : Banks) → AreToldWith layout copied view who command answer before told after → told ≢ [] → can_offline command ≡ true
+tells-with layout None view who command answer before told after is some = tells-can layout view who command answer before told after is some
+tells-with layout (Some from) view who (commands.Store thread to line word) answer before told after is some = refl
+tells-with layout (Some from) view who command answer before told after is some = absurd is
+
 any-there : {A : Type 0} (test : A → Bool) (l : List A) (i : ℕ) (x : A) → slice_get l i ≡ Some x → test x ≡ true → list_any test l ≡ true
 any-there test [] i x there is = absurd (none-some x there)
 any-there {A} test (y ∷ ys) zero x there is = ap (λ (b : Bool). b || list_any test ys) (ap test (same_Some y x there) ∙ is)
@@ -138,20 +145,20 @@ any-there {A} test (y ∷ ys) (suc i) x there is = which (test y) (any-there tes
     which true rest = refl
     which false rest = rest
 
-module _ (script : Script) (seat : Cpu → ℕ) (last : State) (report : Report) (end : IsEnd script seat last report) (view : View) (who : Who) (of : IsOf script end.rows view who) where
+module _ (script : Script) (copies : Who → Option VSlot) (seat : Cpu → ℕ) (last : State) (report : Report) (end : IsEnd script copies seat last report) (view : View) (who : Who) (of : IsOf script copies end.rows view who) where
   -- what the lines of a command note, by its row
   pub notes-told : notes script.layout (events_of report who) ≡ told_notes script.layout of.row.told
-  notes-told = ap (notes script.layout) (events-told script seat last report end view who of) ∙ notes-numbered script.layout who.seq of.row.told
+  notes-told = ap (notes script.layout) (events-told script copies seat last report end view who of) ∙ notes-numbered script.layout who.seq of.row.told
 
   -- the collector that its processor has before it
   pub watched-told : watched_before script report who ≡ watched_at script.layout of.list of.own who.seq
   watched-told =
-      ap (λ (l : List (Command × Answer)). watched_from script.layout (rows_of report who) 0 (take who.seq l) None) (answered-so script seat last report end who.cpu of.list of.own of.list_is of.own_is)
-      ∙ ap (λ (o : Option (List CpuLine)). watched_from script.layout (unwrap_or o []) 0 (take who.seq (answers_by of.list of.own)) None) (served-of script seat last report end who.cpu of.list of.own of.list_is of.own_is).1
+      ap (λ (l : List (Command × Answer)). watched_from script.layout (rows_of report who) 0 (take who.seq l) None) (answered-so script copies seat last report end who.cpu of.list of.own of.list_is of.own_is)
+      ∙ ap (λ (o : Option (List CpuLine)). watched_from script.layout (unwrap_or o []) 0 (take who.seq (answers_by of.list of.own)) None) (served-of script copies seat last report end who.cpu of.list of.own of.list_is of.own_is).1
       ∙ along script.layout of.own who.seq 0 of.list of.own None (λ i row there. subst (λ (j : ℕ). slice_get of.own j ≡ Some row) (omega arith) there)
 
   are-due : map (λ (o : Offlining). o.frame) of.row.offlined ≡ due (watched_at script.layout of.list of.own who.seq) (told_notes script.layout of.row.told)
-  are-due = (served-of script seat last report end who.cpu of.list of.own of.list_is of.own_is).0.due who.seq of.row of.row_is
+  are-due = (served-of script copies seat last report end who.cpu of.list of.own of.list_is of.own_is).0.due who.seq of.row of.row_is
 
   -- the frames that are due by the report are those of the row
   pub due-told : due_of script report who ≡ map (λ (o : Offlining). o.frame) of.row.offlined
@@ -166,7 +173,7 @@ module _ (script : Script) (seat : Cpu → ℕ) (last : State) (report : Report)
 
   -- and so those of its lines
   pub frames-due : map (λ (l : OfflinedLine). l.frame) (offlined_of report who) ≡ due_of script report who
-  frames-due = ap (map (λ (l : OfflinedLine). l.frame)) (offlined-told script seat last report end view who of) ∙ line-frames of.row.offlined ∙ sym due-told
+  frames-due = ap (map (λ (l : OfflinedLine). l.frame)) (offlined-told script copies seat last report end view who of) ∙ line-frames of.row.offlined ∙ sym due-told
 
   frameless : (os : List Offlining) → map (λ (o : Offlining). o.frame) os ≡ [] → os ≡ []
   frameless [] none = refl
@@ -176,7 +183,7 @@ module _ (script : Script) (seat : Cpu → ℕ) (last : State) (report : Report)
   pub can-offline : of.row.offlined ≢ [] → (has_watch script ≡ true) × (can_offline of.command ≡ true)
   can-offline some = (
     any-there (list_any is_watch) script.lists who.cpu.0 of.list of.list_is (watched (list_any is_watch of.list) refl),
-    tells-can script.layout view who of.command of.row.answer of.before of.row.told of.after of.served.told
+    tells-with script.layout (copies who) view who of.command of.row.answer of.before of.row.told of.after of.served.told
         (λ none. some (frameless of.row.offlined (are-due ∙ ap (λ (told : List EventOutcome). due (watched_at script.layout of.list of.own who.seq) (told_notes script.layout told)) none ∙ none-due (watched_at script.layout of.list of.own who.seq)))),
   )
     where

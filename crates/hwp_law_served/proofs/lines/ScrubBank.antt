@@ -6,6 +6,7 @@ use Rattle.hwp_law_run.specs.hwp_geom.declared.Cpu.{Cpu}
 use Rattle.hwp_law_run.specs.hwp_geom.declared.Frame.{Frame}
 use Rattle.hwp_law_run.specs.hwp_geom.declared.Layout.{Layout}
 use Rattle.hwp_law_run.specs.hwp_geom.declared.Thread.{Thread}
+use Rattle.hwp_law_run.specs.hwp_geom.declared.VSlot.{VSlot}
 use Rattle.hwp_law_run.specs.hwp_geom.declared.Who.{Who}
 use Rattle.hwp_law_run.specs.hwp_banks.declared.Event.{Event}
 use Rattle.hwp_law_run.specs.hwp_banks.declared.Origin.{Origin}
@@ -33,8 +34,10 @@ use Rattle.hwp_cpu_row.specs.hwp_cpu_check.Told.{at_once, required_by}
 use Rattle.hwp_scrub.specs.Visits as scrubs
 use Rattle.hwp_scrub.specs.Visits.{AreBanks, IsKept, scrub_bank, scrubbing}
 use Rattle.hwp_scrub.proofs.VisitLaws.{bad-leaves, left-banks}
+use Rattle.hwp_cpu_copy.specs.Runs.{checks_by}
 use Rattle.hwp_law_served.specs.Served.{AreRowsServed}
-use Rattle.hwp_law_served.specs.Told.{AreToldBy, IsCutShort, IsRaiseTold, IsScrubTold, IsUntold, is_raised}
+use Rattle.hwp_law_served.specs.Copied.{IsCopyTold}
+use Rattle.hwp_law_served.specs.Told.{AreToldBy, AreToldWith, IsCutShort, IsRaiseTold, IsScrubTold, IsUntold, is_raised}
 
 -- ---- between commands
 
@@ -88,12 +91,21 @@ module _ (layout : Layout) (view : View) (who : Who) where
   row-free (commands.Log status addr misc) answer before told after is are = left-free _ after is.1 (raw-free answer (raw_event status addr misc) before are)
   row-free command answer before told after is are = left-free before after is.1 are
 
+  -- also where it copied a page first
+  copy-free : (thread : Thread) (from to : VSlot) (line word : ℕ) (before : Banks) (told : List EventOutcome) (after : Banks) → IsCopyTold layout view who thread from to line word before told after → AreBanks before → AreBanks after
+  copy-free thread from to line word before told after is are = left-free _ after is.after_is (checks-free before (checks_by is.has.runs ++ is.last) are)
+
+  pub with-free : (copied : Option VSlot) (command : Command) (answer : Answer) (before : Banks) (told : List EventOutcome) (after : Banks) → AreToldWith layout copied view who command answer before told after → AreBanks before → AreBanks after
+  with-free None command answer before told after is are = row-free command answer before told after is are
+  with-free (Some from) (commands.Store thread to line word) answer before told after is are = copy-free thread from to line word before told after is are
+  with-free (Some from) command answer before told after is are = absurd is
+
 -- commands that are answered leave the scrubber's bank with nothing
-pub banks-free : (layout : Layout) (earlier : List (Command × Answer)) (view : View) (cpu : Cpu) (n : ℕ) (before : Banks) (commands : List Command) (rows : List Row) (after : Banks) → AreRowsServed layout earlier view cpu n before commands rows after → AreBanks before → AreBanks after
-banks-free layout earlier view cpu n before cs [] after same are = left-free before after same are
-banks-free layout earlier view cpu n before [] (row ∷ rows) after served are = absurd served
-banks-free layout earlier view cpu n before (c ∷ cs) (row ∷ rows) after (between, served, rest) are =
-    banks-free layout (earlier ++ (c, row.answer) ∷ []) view cpu (n + 1) between cs rows after rest (row-free layout view (record { cpu = cpu; seq = n }) c row.answer before row.told between served.told are)
+pub banks-free : (layout : Layout) (copies : Who → Option VSlot) (earlier : List (Command × Answer)) (view : View) (cpu : Cpu) (n : ℕ) (before : Banks) (commands : List Command) (rows : List Row) (after : Banks) → AreRowsServed layout copies earlier view cpu n before commands rows after → AreBanks before → AreBanks after
+banks-free layout copies earlier view cpu n before cs [] after same are = left-free before after same are
+banks-free layout copies earlier view cpu n before [] (row ∷ rows) after served are = absurd served
+banks-free layout copies earlier view cpu n before (c ∷ cs) (row ∷ rows) after (between, served, rest) are =
+    banks-free layout copies (earlier ++ (c, row.answer) ∷ []) view cpu (n + 1) between cs rows after rest (with-free layout view (record { cpu = cpu; seq = n }) (copies (record { cpu = cpu; seq = n })) c row.answer before row.told between served.told are)
 
 -- ---- the event of a line
 

@@ -5,6 +5,7 @@ use Rattle.std.proofs.lemmas.Option.{none-some, same_Some}
 use Rattle.hwp_law_run.specs.hwp_geom.declared.Layout.{Layout}
 use Rattle.hwp_law_run.specs.hwp_geom.declared.Mode.{Mode}
 use Rattle.hwp_law_run.specs.hwp_geom.declared.Thread.{Thread}
+use Rattle.hwp_law_run.specs.hwp_geom.declared.VSlot.{VSlot}
 use Rattle.hwp_law_run.specs.hwp_geom.declared.Who.{Who}
 use Rattle.hwp_law_run.specs.hwp_banks.declared.Event.{Event}
 use Rattle.hwp_law_run.specs.hwp_banks.declared.Status.{Status}
@@ -36,8 +37,9 @@ use Rattle.hwp_cpu_row.specs.hwp_cpu_check.declared.EventOutcome.{EventOutcome}
 use Rattle.hwp_cpu_row.specs.hwp_cpu_check.Events.{graded_in}
 use Rattle.hwp_cpu_row.specs.hwp_cpu_check.Fits.{AreTold, HasPoisoned, IsDone, IsEntered, IsFailed, IsTold}
 use Rattle.hwp_cpu_row.specs.hwp_cpu_check.Told.{at_once, frame_of, required_by, severity_at_once}
-use Rattle.hwp_law_served.specs.Told.{AreToldBy}
-use Rattle.hwp_law_served.proofs.RowTold.{IsToldRight, told-by, told-each}
+use Rattle.hwp_law_served.specs.Told.{AreToldWith}
+use Rattle.hwp_law_served.proofs.RowTold.{IsToldRight, told-each}
+use Rattle.hwp_law_served.proofs.copied.CopyTells.{told-with}
 
 -- the result of a failure that found this
 abbrev pub found_act : Found → Acted
@@ -140,5 +142,5 @@ module _ (layout : Layout) (view : View) (who : Who) where
       right-so thread told.0 t (subst (λ (h : Held). IsUrgent thread h.grade) was.2 (urgent-so thread was.0.1.status how.mcg how.mode user)) told.1
 
   -- of each command
-  pub told-right : (command : Command) (answer : Answer) (before : Banks) (told : List EventOutcome) (after : Banks) → AreToldBy layout view who command answer before told after → EachMember (IsRight layout view who (current_thread command)) told
-  told-right = told-by layout view who (IsRight layout view who) events-right
+  pub told-right : (copied : Option VSlot) (command : Command) (answer : Answer) (before : Banks) (told : List EventOutcome) (after : Banks) → AreToldWith layout copied view who command answer before told after → EachMember (IsRight layout view who (current_thread command)) told
+  told-right = told-with layout view who (IsRight layout view who) events-right

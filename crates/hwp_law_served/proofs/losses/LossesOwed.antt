@@ -11,7 +11,9 @@ use Rattle.hwp_law_run.specs.hwp_geom.declared.FileNo.{FileNo}
 use Rattle.hwp_law_run.specs.hwp_geom.declared.Frame.{Frame}
 use Rattle.hwp_law_run.specs.hwp_geom.declared.Layout.{Layout}
 use Rattle.hwp_law_run.specs.hwp_geom.declared.Page.{Page}
+use Rattle.hwp_law_run.specs.hwp_geom.declared.VSlot.{VSlot}
 use Rattle.hwp_law_run.specs.hwp_geom.declared.Who.{Who}
+use Rattle.hwp_law_run.specs.hwp_banks.Banks.{Banks}
 use Rattle.hwp_law_run.specs.hwp_page.declared.Entry.{Entry}
 use Rattle.hwp_law_run.specs.hwp_page.declared.What.{What}
 use Rattle.hwp_law_run.specs.hwp_page.declared.What.TheVariants as entries
@@ -42,7 +44,8 @@ use Rattle.hwp_law_run.specs.hwp_law.Entries.{Makes}
 use Rattle.hwp_law_run.specs.hwp_law.Pairings.{is_soft}
 use Rattle.hwp_cpu_row.specs.declared.Row.{Row}
 use Rattle.hwp_law_served.specs.Accounts.{IsAccounted}
-use Rattle.hwp_law_served.specs.Causes.{IsCaused}
+use Rattle.hwp_law_served.specs.Causes.{IsCausedWith}
+use Rattle.hwp_law_served.proofs.copied.Uncopied.{safe-no-store, uncopied}
 use Rattle.hwp_law_served.specs.Owed.{OwesOwn, loss_of, losses_by}
 use Rattle.hwp_law_served.proofs.deeds.Deeds.{IsDone, are-deeds}
 
@@ -174,9 +177,11 @@ beside-lossless : (what : What) → is_soft what ≡ true → is_loss what ≡ f
 beside-lossless entries.Soft is = refl
 beside-lossless what is = absurd (true≢false (sym is))
 
-pub lossless : (layout : Layout) (earlier : List (Command × Answer)) (view : View) (who : Who) (command : Command) (row : Row) → can_fail command ≡ false → IsCaused layout earlier view who command row → IsAccounted view who command row → losses_by who view ≡ 0
-lossless layout earlier view who command row cannot caused account =
-    sum-zero loss_of (deeds who view) (λ i m at. which m (are-deeds layout earlier view who command row caused account i m at))
+pub lossless : (layout : Layout) (earlier : List (Command × Answer)) (copied : Option VSlot) (view : View) (who : Who) (command : Command) (before : Banks) (row : Row) → can_fail command ≡ false → IsCausedWith layout earlier copied view who command before row.told row.own row.answer
+    → IsAccounted layout earlier view who command row → losses_by who view ≡ 0
+lossless layout earlier copied view who command before row cannot caused account =
+    let plain = uncopied layout earlier copied view who command before row.told row.own row.answer (safe-no-store command cannot) caused in
+    sum-zero loss_of (deeds who view) (λ i m at. which m (are-deeds layout earlier view who command row plain account i m at))
   where
     which : (m : Made) → IsDone layout command row.answer m → loss_of m ≡ 0
     which m (inl deed) = ap from_bool (lossless-so command m.entry.what cannot deed.makes)

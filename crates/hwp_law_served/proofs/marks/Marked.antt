@@ -1,8 +1,9 @@
 -- Marks, and lines of records, among their lists.
-use Rattle.std.proofs.Common.{◌≡◌, ℕ, ◌<◌, ◌==◌, Bool, true, false, List, Some, length, slice_get, refl, sym, ap, ◌∙◌, arith, true≢false}
+use Rattle.std.proofs.Common.{◌≡◌, ℕ, ◌<◌, ◌==◌, Bool, true, false, List, Some, length, slice_get, refl, sym, ap, ◌∙◌, arith, true≢false, Option}
 use Rattle.std.specs.Prelude.{Any}
 use Rattle.std.proofs.lemmas.Bool.{and_from, and_parts, eq-eqb, eqb-true, false_from_ne_true}
 use Rattle.std.proofs.lemmas.Option.{get_or_from_slice_get, slice_get_within}
+use Rattle.hwp_law_run.specs.hwp_geom.declared.VSlot.{VSlot}
 use Rattle.hwp_law_run.specs.hwp_geom.declared.Cpu.{Cpu}
 use Rattle.hwp_law_run.specs.hwp_geom.declared.Who.{Who}
 use Rattle.hwp_law_run.specs.hwp_core_rule.declared.Mark.{Mark}
@@ -43,9 +44,9 @@ turned who other = which (is_same who other) refl
         true≢false (sym same ∙ is)) ∙ sym is
 
 -- a frame with a mark has its line, with a record
-pub line-of : (script : Script) (seat : Cpu → ℕ) (last : State) (report : Report) → IsEnd script seat last report → (i j : ℕ) (v : View) (m : Mark) → slice_get last.views i ≡ Some v → slice_get v.marks j ≡ Some m
+pub line-of : (script : Script) (copies : Who → Option VSlot) (seat : Cpu → ℕ) (last : State) (report : Report) → IsEnd script copies seat last report → (i j : ℕ) (v : View) (m : Mark) → slice_get last.views i ≡ Some v → slice_get v.marks j ≡ Some m
     → (line : FrameLine) × (slice_get report.frames m.frame.0 ≡ Some line)
-line-of script seat last report end i j v m view there =
+line-of script copies seat last report end i j v m view there =
     let within : m.frame.0 < length (words_of script.layout last.words).frames = end.board.holds.rule.failures.marks.framed i v.marks (at_map (λ (x : View). x.marks) last.views i v view) j m there in
     let all : length (words_of script.layout last.words).frames ≡ script.layout.frames = (shaped script.layout last end.board.holds).frames in
     let lines : length report.frames ≡ script.layout.frames = end.board.frames_fit in

@@ -2,6 +2,7 @@
 -- answered so too.
 use Rattle.std.proofs.Common.{◌≡◌, ◌≢◌, ◌⊎◌, ℕ, inl, inr, ◌+◌, ◌<◌, true, List, Option, Some, None, IsSomeAnd, slice_get, option_and_then, option_map, refl, sym, ap, ◌∙◌, subst, arith}
 use Rattle.std.proofs.lemmas.Option.{none-some, same_Some}
+use Rattle.hwp_law_served.specs.hwp_geom.declared.VSlot.{VSlot}
 use Rattle.hwp_law_served.specs.hwp_geom.declared.Cpu.{Cpu}
 use Rattle.hwp_law_served.specs.hwp_geom.declared.Layout.{Layout}
 use Rattle.hwp_law_served.specs.hwp_geom.declared.Page.{Page}
@@ -29,7 +30,10 @@ use Rattle.hwp_law_served.specs.hwp_law.Endings.{EndingsStay, HasEnded, IsOver, 
 use Rattle.hwp_law_served.proofs.of_hwp_law_run.Reported.{entry-listed}
 use Rattle.hwp_law_served.specs.hwp_cpu_row.declared.FrameChange.{FrameChange}
 use Rattle.hwp_law_served.specs.hwp_cpu_check.declared.EventOutcome.{EventOutcome}
-use Rattle.hwp_law_served.specs.Causes.{IsAnswerCaused, IsTableCaused, SawProcess, WasSignalled}
+use Rattle.hwp_law_served.specs.hwp_banks.Banks.{Banks}
+use Rattle.hwp_law_served.specs.Causes.{IsAnswerCaused, IsCausedWith, IsTableCaused, SawProcess, WasSignalled}
+use Rattle.hwp_law_served.specs.Copied.{store_by, sub_next}
+use Rattle.hwp_law_sights.proofs.copied.CopyGoing.{copy-goes, copy-gone}
 use Rattle.hwp_law_served.specs.Runs.{IsRunOf}
 use Rattle.hwp_law_served.proofs.RunKeeps.{run-keeps}
 use Rattle.hwp_law_served.proofs.RunEnds.{IsEnd, own-view}
@@ -63,6 +67,7 @@ module _ (layout : Layout) (earlier : List (Command × Answer)) (view : View) (w
   table-going (commands.Store thread slot line word) (answers.Sigbus bt) is caused = inr (saw-process thread 0 is caused.going)
   table-going (commands.Store thread slot line word) answers.NoFrame is caused = inr (saw-process thread 0 is caused.going)
   table-going (commands.Prctl thread args) answer is caused = inr (saw-process thread 0 is caused.going)
+  table-going (commands.Fork thread child) answers.Done is caused = inr (saw-process thread 0 is caused.0)
   table-going (commands.Free slot) answer is caused = absurd (none-some process is)
   table-going (commands.Drop page) answer is caused = absurd (none-some process is)
   table-going (commands.Sync page) answer is caused = absurd (none-some process is)
@@ -111,6 +116,7 @@ module _ (layout : Layout) (earlier : List (Command × Answer)) (view : View) (w
   table-gone (commands.KLoad thread slot line) page is caused = saw-process thread _ is caused.0.ended
   table-gone (commands.Store thread slot line word) page is caused = saw-process thread _ is caused.0.ended
   table-gone (commands.Prctl thread args) page is caused = saw-process thread _ is caused.0.ended
+  table-gone (commands.Fork thread child) page is caused = saw-process thread _ is caused.0.ended
   table-gone command page is caused = absurd caused
 
   gone : (command : Command) (told : List EventOutcome) (own : Option FrameChange) (page : Page) → IsProcess command → IsAnswerCaused layout earlier view who command told own (answers.Gone page) → Saw view who (places.Process process) (page.0 + 1)
@@ -120,9 +126,24 @@ module _ (layout : Layout) (earlier : List (Command × Answer)) (view : View) (w
   gone (commands.Unpoison frame) told own page is caused = absurd (none-some process is)
   gone command told own page is caused = table-gone command page is caused
 
-module _ (script : Script) (seat : Cpu → ℕ) (turns : List Played) (last : State) (report : Report) (run : IsRunOf script seat turns last report) where
-  abbrev end : IsEnd script seat last report
-  end = ended script seat turns last report run
+  -- also where it copied a page first
+  going-with : (copied : Option VSlot) (command : Command) (before : Banks) (told : List EventOutcome) (own : Option FrameChange) (answer : Answer) → IsProcess command → IsCausedWith layout earlier copied view who command before told own answer → IsOver answer ⊎ Saw view who (places.Process process) 0
+  going-with None command before told own answer is caused = going command told own answer is caused
+  going-with (Some from) (commands.Store thread to line word) before told own answer is caused = elim (copy-goes layout view (store_by who thread to line word caused.page caused.process) _ _ _ _ told answer caused.ended) [
+    | inl over ↦ inl over
+    | inr saw ↦ inr (saw-process thread 0 is saw)
+  ]
+  going-with (Some from) command before told own answer is caused = absurd caused
+
+  gone-with : (copied : Option VSlot) (command : Command) (before : Banks) (told : List EventOutcome) (own : Option FrameChange) (page : Page) → IsProcess command → IsCausedWith layout earlier copied view who command before told own (answers.Gone page) → Saw view who (places.Process process) (page.0 + 1)
+  gone-with None command before told own page is caused = gone command told own page is caused
+  gone-with (Some from) (commands.Store thread to line word) before told own page is caused =
+      saw-process thread (page.0 + 1) is (copy-gone layout view (store_by who thread to line word caused.page caused.process) caused.has.page (sub_next (store_by who thread to line word caused.page caused.process) from word caused.has.runs) caused.has.runs caused.has.rest told page caused.ended).ended
+  gone-with (Some from) command before told own page is caused = absurd caused
+
+module _ (script : Script) (copies : Who → Option VSlot) (seat : Cpu → ℕ) (turns : List Played) (last : State) (report : Report) (run : IsRunOf script copies seat turns last report) where
+  abbrev end : IsEnd script copies seat last report
+  end = ended script copies seat turns last report run
 
   know : EachMember (KnowEnds script.layout) last.views
   know = run-keeps script.layout (λ (s : State) (v : View). KnowEnds script.layout v) (ends-kept script.layout) turns last run.rule run.moves
@@ -140,7 +161,7 @@ module _ (script : Script) (seat : Cpu → ℕ) (turns : List Played) (last : St
         let made = listed.3 in
         let that = made.3 in
         let own_who : made.1.entry.who ≡ who = ap (λ (x : Entry). x.who) that.entry_is ∙ has.own in
-        let own = own-view script seat last report end listed.0 listed.1 made.1.entry.who listed.2 ((end.board.holds.rule.processors.commands.own listed.0 listed.1 listed.2).made made.0 made.1 made.2) in
+        let own = own-view script copies seat last report end listed.0 listed.1 made.1.entry.who listed.2 ((end.board.holds.rule.processors.commands.own listed.0 listed.1 listed.2).made made.0 made.1 made.2) in
         let cpu_is : made.1.entry.who.cpu ≡ later.cpu = ap (λ (w : Who). w.cpu) own_who ∙ earlier.0 in
         let there : slice_get (view_of last (seat later.cpu)).made made.0 ≡ Some made.1 = sym (ap (λ (x : View). slice_get x.made made.0) (own.1 ∙ ap (λ (c : Cpu). view_of last (seat c)) cpu_is)) ∙ made.2 in
         let ending : is_ending script.layout process made.1.entry.what ≡ true = ap (λ (x : Entry). is_ending script.layout process x.what) that.entry_is ∙ has.ending in
@@ -150,9 +171,9 @@ module _ (script : Script) (seat : Cpu → ℕ) (turns : List Played) (last : St
     not-gone : WasGone script report who process → ⊥
     not-gone was =
         let has = process-command script who process was.process_is in
-        let a = answers-of script seat turns last report run who has.0 (answers.Gone was.page) has.1 was.answered in
-        let first : Saw (view_of last (seat who.cpu)) who (places.Process process) (was.page.0 + 1) = gone script.layout a.earlier (view_of last (seat who.cpu)) who process has.0 a.row.told a.row.own was.page (sym (process-is script who has.0 has.1) ∙ was.process_is)
-        (subst (IsAnswerCaused script.layout a.earlier (view_of last (seat who.cpu)) who has.0 a.row.told a.row.own) a.answer_is a.served.caused) in
+        let a = answers-of script copies seat turns last report run who has.0 (answers.Gone was.page) has.1 was.answered in
+        let first : Saw (view_of last (seat who.cpu)) who (places.Process process) (was.page.0 + 1) = gone-with script.layout a.earlier (view_of last (seat who.cpu)) who process (copies who) has.0 a.before a.row.told a.row.own was.page (sym (process-is script who has.0 has.1) ∙ was.process_is)
+        (subst (IsCausedWith script.layout a.earlier (copies who) (view_of last (seat who.cpu)) who has.0 a.before a.row.told a.row.own) a.answer_is a.served.caused) in
         let mine : Saw (view_of last (seat later.cpu)) who (places.Process process) (was.page.0 + 1) = subst (λ (c : Cpu). Saw (view_of last (seat c)) who (places.Process process) (was.page.0 + 1)) earlier.0 first in
         let some : mine.1.word ≢ 0 = λ none. (let no_ : was.page.0 + 1 ≡ 0 = sym mine.3.2 ∙ none in omega (arith, no_)) in
         let before : IsEarlier mine.1.stamp.who saw.1.stamp.who = subst (IsEarlier mine.1.stamp.who) (sym saw.3.0) (subst (λ (w : Who). IsEarlier w later) (sym mine.3.0) earlier) in
@@ -161,9 +182,9 @@ module _ (script : Script) (seat : Cpu → ℕ) (turns : List Played) (last : St
   pub endings-stay : EndingsStay script report
   endings-stay who later process answer how earlier of is =
       let has = process-command script later process of in
-      let a = answers-of script seat turns last report run later has.0 answer has.1 is in
-      which how a.inside (going script.layout a.earlier (view_of last (seat later.cpu)) later process has.0 a.row.told a.row.own answer (sym (process-is script later has.0 has.1) ∙ of)
-      (subst (IsAnswerCaused script.layout a.earlier (view_of last (seat later.cpu)) later has.0 a.row.told a.row.own) a.answer_is a.served.caused))
+      let a = answers-of script copies seat turns last report run later has.0 answer has.1 is in
+      which how a.inside (going-with script.layout a.earlier (view_of last (seat later.cpu)) later process (copies later) has.0 a.before a.row.told a.row.own answer (sym (process-is script later has.0 has.1) ∙ of)
+      (subst (IsCausedWith script.layout a.earlier (copies later) (view_of last (seat later.cpu)) later has.0 a.before a.row.told a.row.own) a.answer_is a.served.caused))
     where
       which : HasEnded script report who process ⊎ WasGone script report who process → later.cpu.0 < script.layout.cpus → IsOver answer ⊎ Saw (view_of last (seat later.cpu)) later (places.Process process) 0 → IsOver answer
       which how inside (inl over) = over

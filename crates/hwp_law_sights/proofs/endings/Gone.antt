@@ -3,6 +3,7 @@
 use Rattle.std.proofs.Common.{◌≡◌, ◌≢◌, ℕ, ◌+◌, ◌<◌, ◌≤◌, List, Option, Some, None, length, slice_get, option_and_then, option_map, refl, sym, ap, ◌∙◌, subst, arith}
 use Rattle.std.proofs.lemmas.List.Elements.{All-get_or}
 use Rattle.std.proofs.lemmas.Option.{get_or_from_slice_get, none-some, same_Some, slice_get_within}
+use Rattle.hwp_law_served.specs.hwp_geom.declared.VSlot.{VSlot}
 use Rattle.hwp_law_served.specs.hwp_geom.declared.Cpu.{Cpu}
 use Rattle.hwp_law_served.specs.hwp_geom.declared.Layout.{Layout}
 use Rattle.hwp_law_served.specs.hwp_geom.declared.Page.{Page}
@@ -45,7 +46,7 @@ declared layout sound thread process is = which (slice_get layout.threads thread
     which None there is = absurd (none-some process is)
     which (Some t) there is = subst (λ (p : Proc). p.0 < layout.procs) (same_Some t.process process is) (names-inside layout sound thread t there).0
 
-module _ (script : Script) (seat : Cpu → ℕ) (last : State) (report : Report) (end : IsEnd script seat last report) (cpu : Cpu) (inside : cpu.0 < script.layout.cpus) where
+module _ (script : Script) (copies : Who → Option VSlot) (seat : Cpu → ℕ) (last : State) (report : Report) (end : IsEnd script copies seat last report) (cpu : Cpu) (inside : cpu.0 < script.layout.cpus) where
   abbrev view : View
   view = view_of last (seat cpu)
 

@@ -5,6 +5,7 @@ use Rattle.std.specs.List.{sum_by, zip}
 use Rattle.std.proofs.lemmas.Bool.{eqb-true, false_from_ne_true}
 use Rattle.std.proofs.lemmas.List.Sums.{sum_by-cons, sum_by-le-sum_by}
 use Rattle.std.proofs.lemmas.Option.{slice_get_within}
+use Rattle.hwp_law_served.specs.hwp_geom.declared.VSlot.{VSlot}
 use Rattle.hwp_law_served.specs.hwp_geom.declared.Cpu.{Cpu}
 use Rattle.hwp_law_served.specs.hwp_geom.declared.FileNo.{FileNo}
 use Rattle.hwp_law_served.specs.hwp_geom.declared.Layout.{Layout}
@@ -104,9 +105,9 @@ not-before false loss cpu less other = refl
 not-before true false cpu less other = refl
 not-before true true cpu less other = ap (λ (b : Bool). from_bool (b && less)) other
 
-module _ (script : Script) (seat : Cpu → ℕ) (turns : List Played) (last : State) (report : Report) (run : IsRunOf script seat turns last report) where
-  abbrev end : IsEnd script seat last report
-  end = ended script seat turns last report run
+module _ (script : Script) (copies : Who → Option VSlot) (seat : Cpu → ℕ) (turns : List Played) (last : State) (report : Report) (run : IsRunOf script copies seat turns last report) where
+  abbrev end : IsEnd script copies seat last report
+  end = ended script copies seat turns last report run
 
   abbrev words : Words
   words = words_of script.layout last.words
@@ -137,7 +138,7 @@ module _ (script : Script) (seat : Cpu → ℕ) (turns : List Played) (last : St
     none-owed =
         sum-map (owed_of file) losing_of last.views
         ∙ sum-zero (λ (v : View). owed_of file (losing_of v)) last.views
-        (λ i v view. ap (λ (d : Debts). sum_by (λ (n : FileNo). from_bool (n.0 == file.0)) d.losses) (nothing script seat turns last report run i v view).owed)
+        (λ i v view. ap (λ (d : Debts). sum_by (λ (n : FileNo). from_bool (n.0 == file.0)) d.losses) (nothing script copies seat turns last report run i v view).owed)
 
     -- the word is the number of losses
     all-lost : (w : ℕ) → slice_get words.losses file.0 ≡ Some w → w ≡ losses_such is_lost script report file
@@ -203,7 +204,7 @@ module _ (script : Script) (seat : Cpu → ℕ) (turns : List Played) (last : St
   is-number : (file : FileNo) (cpu : Cpu) (list : List Command) (rows : List CpuLine) → file.0 < script.layout.files → slice_get script.lists cpu.0 ≡ Some list → slice_get report.cpus cpu.0 ≡ Some rows
       → (i : ℕ) (p : Command × Answer) → slice_get {X = Command × Answer} (answered list rows) i ≡ Some p → tells_number file p.0 p.1 ≡ true → IsNumber script report file cpu (answered list rows) i
   is-number file cpu list rows within list_is rows_is i p there tells =
-      let known = number-known script seat last report end cpu list rows list_is rows_is file i p there tells in
+      let known = number-known script copies seat last report end cpu list rows list_is rows_is file i p there tells in
       let now : ℕ = numbers_after file 0 (take (i + 1) (answered list rows)) in
       let covers : earlier_losses script.layout file (record { cpu = cpu; seq = i }) (view_of last (seat cpu)) ≤ now = known.1.1 in
       let earlier : losses_such (is_lost_before (record { cpu = cpu; seq = i })) script report file ≤ earlier_losses script.layout file (record { cpu = cpu; seq = i }) (view_of last (seat cpu)) = by-earlier file cpu known.0 i in
@@ -217,8 +218,8 @@ module _ (script : Script) (seat : Cpu → ℕ) (turns : List Played) (last : St
       not-above : (j : ℕ) (q : Command × Answer) → j < i → slice_get {X = Command × Answer} (answered list rows) j ≡ Some q → tells_number file q.0 q.1 ≡ true
           → numbers_after file 0 (take (j + 1) (answered list rows)) ≤ numbers_after file 0 (take (i + 1) (answered list rows))
       not-above j q less at told =
-          let first = number-known script seat last report end cpu list rows list_is rows_is file j q at told in
-          let second = number-known script seat last report end cpu list rows list_is rows_is file i p there tells in
+          let first = number-known script copies seat last report end cpu list rows list_is rows_is file j q at told in
+          let second = number-known script copies seat last report end cpu list rows list_is rows_is file i p there tells in
           rising cpu first.0 file j i (numbers_after file 0 (take (j + 1) (answered list rows))) (numbers_after file 0 (take (i + 1) (answered list rows))) less first.1.0 second.1.0
 
       from-zero : (numbers_after file 0 (take i (answered list rows)) ≡ 0) ⊎ IsToldBefore file (answered list rows) i → numbers_after file 0 (take i (answered list rows)) ≤ numbers_after file 0 (take (i + 1) (answered list rows))

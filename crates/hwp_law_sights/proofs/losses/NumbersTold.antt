@@ -1,8 +1,10 @@
 -- The number of a handle that an answer of the report tells is one that its processor's seat knows. Before a command it is the one that an
 -- earlier command told, or 0.
-use Rattle.std.proofs.Common.{◌≡◌, ◌⊎◌, inl, inr, ℕ, zero, suc, ◌+◌, ◌<◌, ◌≤◌, ◌==◌, Bool, true, false, cond, List, [], ◌∷◌, Some, filter_map, length, map, slice_get, take, refl, sym, ap, ◌∙◌, subst, arith}
+use Rattle.std.proofs.Common.{◌≡◌, ◌⊎◌, inl, inr, ℕ, zero, suc, ◌+◌, ◌<◌, ◌≤◌, ◌==◌, Bool, true, false, cond, List, [], ◌∷◌, Some, filter_map, length, map, slice_get, take, refl, sym, ap, ◌∙◌, subst, arith, Option}
 use Rattle.std.specs.List.{zip}
 use Rattle.std.proofs.lemmas.Option.{none-some, same_Some}
+use Rattle.hwp_law_served.specs.hwp_geom.declared.Who.{Who}
+use Rattle.hwp_law_served.specs.hwp_geom.declared.VSlot.{VSlot}
 use Rattle.hwp_law_served.specs.hwp_geom.declared.Cpu.{Cpu}
 use Rattle.hwp_law_served.specs.hwp_geom.declared.FileNo.{FileNo}
 use Rattle.hwp_law_served.specs.hwp_geom.declared.Layout.{Layout}
@@ -41,12 +43,12 @@ known-by-rows layout view cpu list rows knows file i p there tells =
     let row = map-was (λ (r : Row). r.answer) rows i p.1 at.1 in
     knows file i p.0 row.0 at.0 row.1 (ap (tells_number file p.0) row.2 ∙ tells)
 
-module _ (script : Script) (seat : Cpu → ℕ) (last : State) (report : Report) (end : IsEnd script seat last report) where
+module _ (script : Script) (copies : Who → Option VSlot) (seat : Cpu → ℕ) (last : State) (report : Report) (end : IsEnd script copies seat last report) where
   pub number-known : (cpu : Cpu) (list : List Command) (lines : List CpuLine) → slice_get script.lists cpu.0 ≡ Some list → slice_get report.cpus cpu.0 ≡ Some lines
       → (file : FileNo) (i : ℕ) (p : Command × Answer) → slice_get {X = Command × Answer} (answered list lines) i ≡ Some p → tells_number file p.0 p.1 ≡ true
       → (cpu.0 < script.layout.cpus) × KnowsNumber script.layout (view_of last (seat cpu)) (record { cpu = cpu; seq = i }) file (numbers_after file 0 (take (i + 1) (answered list lines)))
   number-known cpu list lines list_is lines_is file i p there tells =
-      let has = rows-of-lines script seat last report end cpu lines lines_is in
+      let has = rows-of-lines script copies seat last report end cpu lines lines_is in
       let same : has.list ≡ list = same_Some has.list list (sym has.list_is ∙ list_is) in
       let pairs : answers_by list has.own ≡ answered list lines = ap (λ (l : List Answer). zip list l) (sym (ap (λ (l : List CpuLine). map (λ (x : AnswerLine). x.answer) (filter_map answer_in l)) has.lines_are ∙ answers-of-rows 0 has.own)) in
       let knows : KnowsNumbers script.layout (view_of last (seat cpu)) cpu list has.own = subst (λ (l : List Command). KnowsNumbers script.layout (view_of last (seat cpu)) cpu l has.own) same has.served.numbers in (

@@ -1,6 +1,6 @@
 -- What a processor remembers of forks: a list that says of each translation whether it is frozen and whether it has gone over to its
 -- twin. What it makes of a command is what hwp_law_commands/specs/Cows says, with the list for the earlier commands and their answers.
-use Rattle.std.specs.Prelude.{◌≡◌, ◌+◌, ◌&&◌, ◌||◌, ℕ, Bool, false, not, List, [], ◌∷◌, length, replicate, get_or, slice_get, slice_set, Option, None, Some, is_some, if◌then◌else◌}
+use Rattle.std.specs.Prelude.{◌≡◌, ◌+◌, ◌&&◌, ◌||◌, ℕ, Bool, true, false, not, List, [], ◌∷◌, length, replicate, get_or, slice_get, slice_set, Option, None, Some, is_some, if◌then◌else◌}
 use Rattle.std.specs.List.{list_any}
 use Rattle.std.specs.Option.{option_map_or}
 use Rattle.hwp_cpu_check.specs.hwp_geom.declared.Layout.{Layout}
@@ -26,6 +26,11 @@ KnowsCows layout earlier cows = (slot : VSlot) → cow_in cows slot ≡ cow_of l
 -- at first nothing is frozen; where no translation has a twin the list is empty, and stays so
 abbrev pub first_cows : Layout → List Cow
 first_cows layout = if list_any is_some layout.twins then replicate (length layout.trans) own_page else []
+
+-- it has a place for each translation, where one has a twin, and else none
+pub record AreCowsOf (layout : Layout) (cows : List Cow) : Type 0 where
+  pub all : list_any is_some layout.twins ≡ true → length cows ≡ length layout.trans
+  pub none : list_any is_some layout.twins ≡ false → length cows ≡ 0
 
 -- ---- the command that the processor acts on
 

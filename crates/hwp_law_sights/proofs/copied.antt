@@ -1,0 +1,2 @@
+pub mod CopyShown
+pub mod CopyGoing
