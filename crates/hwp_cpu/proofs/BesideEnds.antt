@@ -1,6 +1,4 @@
 -- A turn of the frame that is taken out of use beside a command, and what is so when that is done.
-use Rattle.hwp_cpu_course.specs.hwp_cpu_command.hwp_cpu_copy.declared.Copying.{Copying}
-use Rattle.hwp_cpu_course.specs.hwp_cpu_command.hwp_cpu_copy.Copyings as copyings
 use Rattle.hwp_cpu_course.specs.hwp_cpu_command.hwp_cpu_copy.Fits as copying_fits
 use Rattle.hwp_cpu_course.proofs.of_hwp_cpu_command.of_hwp_cpu_copy.CopyResting as copy-resting
 use Rattle.hwp_cpu_course.specs.hwp_cpu_row.hwp_geom.declared.VSlot.{VSlot}
@@ -28,7 +26,7 @@ use Rattle.hwp_cpu_course.specs.hwp_cpu_row.hwp_law_commands.Watched.{due, Watch
 use Rattle.hwp_cpu_course.specs.declared.Course.{Course}
 use Rattle.hwp_cpu_course.proofs.of_hwp_cpu_command_laws.Beside.{job-at-pause, answered-unmarked}
 use Rattle.std.proofs.lemmas.Option.{none-some, same_Some}
-use Rattle.std.proofs.Common.{None, arith, inl, suc, true, ◌++◌, subst, option_map, ◌∷◌, zero, refl, not, Option, ◌+◌, map, cond, ◌≡◌, false, ap, Bool, true≢false, inr, append-nil, filter, Some, slice_get, sym, ℕ, List, length, ◌∙◌, [], nat_lt, ◌⊎◌}
+use Rattle.std.proofs.Common.{None, is_some, arith, inl, suc, true, ◌++◌, subst, option_map, ◌∷◌, zero, refl, not, Option, ◌+◌, map, cond, ◌≡◌, false, ap, Bool, true≢false, inr, append-nil, filter, Some, slice_get, sym, ℕ, List, length, ◌∙◌, [], nat_lt, ◌⊎◌}
 use Rattle.hwp_cpu_course.proofs.of_hwp_cpu_row.of_hwp_core_rule.Lists.{each-push}
 use Rattle.hwp_cpu_course.specs.hwp_cpu_row.hwp_geom.declared.Frame.{Frame}
 use Rattle.hwp_cpu.proofs.BesideTurns.{at_rest}
@@ -97,6 +95,11 @@ said-so (soft_answers.HasBad mask) foreign = refl
 said-so soft_answers.NoFrame foreign = refl
 said-so (soft_answers.TakenFree cycle) foreign = refl
 said-so (soft_answers.Moved to at cycle) foreign = refl
+
+-- the entry by which a page leaves a frame
+soft-so : (what : What) → is_soft what ≡ true → what ≡ entries.Soft
+soft-so entries.Soft is = refl
+soft-so what is = absurd (true≢false (sym is))
 
 -- where it pauses
 pub pauses-so : (layout : Layout) (view : View) (who : Who) (command : Command) (j : Job) → Pauses layout view who command j → jobs.pauses j ≡ true
@@ -184,9 +187,8 @@ module _ (layout : Layout) (old new : View) (cpu : Cpu) (list : List Command) (r
           by (inr (m, more, beside)) = copy-resting.resting-stays paused.copying paused.pause paused.rests (made-by paused.copying.store.who own-copy) (m ∷ []) (subst (λ (w : Who). deeds w new ≡ deeds w old ++ m ∷ []) (sym own-copy) more)
               (each-push (λ (x : Made). x.entry.what ≡ entries.Soft) [] m (soft-so m.entry.what beside) (λ i x there. absurd (none-some x there)))
 
-      soft-so : (what : What) → is_soft what ≡ true → what ≡ entries.Soft
-      soft-so entries.Soft is = refl
-      soft-so what is = absurd (true≢false (sym is))
+      own-request : (paused : IsPaused layout old at command c.own) → paused.instruction.request.who ≡ at
+      own-request paused = sym (ap jobs.who paused.is) ∙ runs-who layout at command copies c.own way.runs
 
       pauses-on : Pauses layout old at command c.own → Pauses layout new at command c.own
       pauses-on (inl paused) = inl (record {
@@ -198,9 +200,6 @@ module _ (layout : Layout) (old new : View) (cpu : Cpu) (list : List Command) (r
         met = met-beside layout command adds paused.met;
       })
       pauses-on (inr paused) = inr (copy-on paused)
-
-      own-request : (paused : IsPaused layout old at command c.own) → paused.instruction.request.who ≡ at
-      own-request paused = sym (ap jobs.who paused.is) ∙ runs-who layout at command copies c.own way.runs
 
   -- ---- it goes on
 

@@ -1,4 +1,5 @@
 -- When the command that runs has its answer, its row is right, and the next command may begin.
+use Rattle.hwp_cpu_course.specs.hwp_cpu_row.hwp_script_read.Valid.{IsCommandOf}
 use Rattle.hwp_cpu_course.specs.hwp_cpu_command.Begins.{BeginsWith}
 use Rattle.hwp_cpu_course.specs.hwp_cpu_row.hwp_geom.declared.VSlot.{VSlot}
 use Rattle.hwp_cpu_course.specs.hwp_cpu_row.hwp_geom.declared.FileNo.{FileNo}
@@ -50,7 +51,7 @@ use Rattle.hwp_cpu_course.proofs.of_hwp_cpu_command.JobEnds.{ends}
 use Rattle.hwp_cpu_course.proofs.of_hwp_cpu_command_laws.CommandRuns.{before-begins, begins-fits, begins-runs, runs-who}
 use Rattle.hwp_cpu_course.proofs.of_hwp_cpu_command_laws.CommandStops.{begins-stop, has-stopped, only-stopped, untold-at-start}
 use Rattle.hwp_cpu_causes.specs.hwp_law_served.Accounts.{IsNote, own_marking, markings_in}
-use Rattle.hwp_cpu_causes.specs.hwp_law_served.Handles.{answers_by, number_at}
+use Rattle.hwp_cpu_causes.specs.hwp_law_served.Handles.{KnowsNumber, answers_by, number_at}
 use Rattle.hwp_cpu_causes.specs.hwp_law_served.Rows.{notes_from}
 use Rattle.hwp_cpu_causes.specs.hwp_law_served.Served.{CanStop, IsOneOf, IsOwnSpoil, IsOwnStop, IsRowServed, SawRunning}
 use Rattle.hwp_cpu_causes.proofs.of_hwp_law_served.Handles.{number-last, numbers-more}
@@ -59,18 +60,17 @@ use Rattle.hwp_cpu_causes.proofs.HandleNumbers.{tells-inside}
 use Rattle.hwp_cpu_causes.proofs.RowServed.{row-served}
 use Rattle.hwp_cpu.specs.Processors.{AreCommands, BeginsAt, at_number, left_of, told_local}
 use Rattle.hwp_cpu.specs.Serving.{IsActedOn, Remembers, AreNumbered, FitsAt, HasAccount, HasStopped, HasStoppedIt, IsDone, IsListed, IsRunning, Serves, IsUnderWay, marked_beside, marked_so_far, GivesUp, GoesOn}
-use Rattle.hwp_cpu.proofs.ProcessorKeeps.{can, own}
 use Rattle.hwp_cpu.proofs.ProcessorNotes.{account-starts, noted-end, noted-starts, owes-nothing, spoils-end, unmarked-starts}
 use Rattle.hwp_cpu.proofs.KnownPolicies.{answers-more, counted-ends, counted-starts, setting-left}
 use Rattle.hwp_cpu.proofs.Revivals.{revival-left}
 use Rattle.hwp_cpu.proofs.Rows.{IsRowActed, at_front, banks-acted, past-end, rows-more, stays-more, stop-more, stopped-was}
 use Rattle.std.specs.List.{list_any, cons_option}
-use Rattle.hwp_cpu_course.specs.hwp_cpu_row.hwp_law_commands.Watched.{told, Watched}
+use Rattle.hwp_cpu_course.specs.hwp_cpu_row.hwp_law_commands.Watched.{told, Watched, watched_after}
 use Rattle.hwp_cpu_causes.specs.hwp_law_served.Offlinings.{watched_at, AreDue}
 use Rattle.hwp_cpu_course.specs.hwp_cpu_row.Locals.{IsWatching, collects}
 use Rattle.hwp_cpu_course.specs.hwp_cpu_command.Done.{marked_beyond, HasCounted}
 use Rattle.hwp_cpu_course.specs.Courses.{BeginsCourse, part_of, row_of, local_after, local_left}
-use Rattle.hwp_cpu.proofs.Watching.{watched-more, room-stays, of-machine, has-watch, watching-ends, watch-starts, own-starts, due-more}
+use Rattle.hwp_cpu.proofs.Watching.{watched-acted, watched-more, room-stays, of-machine, has-watch, watching-ends, watch-starts, own-starts, due-more}
 use Rattle.hwp_cpu_course.specs.hwp_cpu_row.declared.Offlining.{Offlining}
 use Rattle.hwp_cpu_course.specs.hwp_cpu_row.Acts.{told_notes}
 use Rattle.hwp_cpu_course.specs.hwp_cpu_row.hwp_law_commands.Commands.{is_watch}
@@ -227,13 +227,16 @@ module _ (layout : Layout) (new : View) (cpu : Cpu) (list : List Command) (rows 
     stays = stays-more rows row now.way.serves.stays (λ some. only-stopped c.own (now.way.stopped some).0 now.known.answered);
     halted = λ some. by (stopped-was rows row some);
     numbers = numbers-more layout new cpu list rows own row now.way.next.there now.way.serves.numbers
-        (λ file told. numbers-known file (sym (tells-acted layout earlier file own a) ∙ told));
+        (λ file told. numbers-known file (tells-acted layout earlier file own a ∙ told));
     handles_are = handles_are;
     due = due-more layout list rows row now.way.serves.due due-now;
   }
     where
-      numbers-known : (file : FileNo) → tells_number file (acting layout earlier own) a ≡ true → _
-      numbers-known file told = (now.known.numbers file (tells-inside layout at command copies c.own a file now.way.runs (ap (λ (x : Command). tells_number file x a) now.way.next.acts ∙ told))).knows (ap (λ (x : Command). tells_number file x a) now.way.next.acts ∙ told)
+      numbers-known : (file : FileNo) → tells_number file (acting layout earlier own) a ≡ true → KnowsNumber layout new at file (number_by file (number_at file list rows n) own a)
+      numbers-known file told =
+          let so : tells_number file command a ≡ true = ap (λ (x : Command). tells_number file x a) now.way.next.acts ∙ told in
+          subst (KnowsNumber layout new at file) (ap (λ (x : Command). number_by file (number_at file list rows n) x a) now.way.next.acts ∙ number-acted layout earlier file (number_at file list rows n) own a)
+          ((now.known.numbers file (tells-inside layout at command copies c.own a file now.way.runs so)).knows so)
 
       by : HasStopped rows ⊎ (a ≡ answers.Stopped) → IsHalted new
       by (inl early) = now.way.serves.halted early
@@ -249,7 +252,8 @@ module _ (layout : Layout) (new : View) (cpu : Cpu) (list : List Command) (rows 
   -- the collector that the next command begins with
   watching-now : IsWatching layout.frames (watched_at layout list longer (length longer)) after.watching
   watching-now = subst (λ (w : Option Watched). IsWatching layout.frames w after.watching) (sym (watched-more layout list rows own row now.way.next.there))
-      (watching-ends layout.frames (told_notes layout (told_of c.own)) (watched_at layout list rows n) c.watching now.complete.watching layout at command copies c.own a now.way.runs round (λ watches. now.way.collected.room (has-watch list n own now.way.next.there (sym (acting-watches layout earlier own) ∙ sym (ap is_watch now.way.next.acts) ∙ watches))))
+      (subst (λ (w : Option Watched). IsWatching layout.frames w after.watching) (ap (λ (x : Command). watched_after x a (told_notes layout (told_of c.own)) (watched_at layout list rows n)) now.way.next.acts ∙ watched-acted layout earlier own a (told_notes layout (told_of c.own)) (watched_at layout list rows n))
+      (watching-ends layout.frames (told_notes layout (told_of c.own)) (watched_at layout list rows n) c.watching now.complete.watching layout at command copies c.own a now.way.runs round (λ watches. now.way.collected.room (has-watch list n own now.way.next.there (sym (acting-watches layout earlier own) ∙ sym (ap is_watch now.way.next.acts) ∙ watches)))))
 
   room-now : list_any is_watch list ≡ true → IsSome after.watching
   room-now has = room-stays c.own a c.watching (now.way.collected.room has)
@@ -291,8 +295,8 @@ module _ (layout : Layout) (new : View) (cpu : Cpu) (list : List Command) (rows 
     }
 
     forks-so : CanFork layout new (at_number cpu (n + 1)) next
-    forks-so = fork-acted layout after.cows coming (subst (λ (i : ℕ). CanFork layout new (at_number cpu i) coming) number
-        (can-fork layout cpu list longer are.forks are.once new policies coming (subst (λ (i : ℕ). slice_get list i ≡ Some coming) (sym number) there) (at-least list (n + 1) coming are.named there)))
+    forks-so = fork-acted new (at_number cpu (n + 1)) layout after.cows coming (subst (λ (i : ℕ). CanFork layout new (at_number cpu i) coming) number
+        (can-fork layout cpu list longer are.forks are.once new policies coming (subst (λ (i : ℕ). slice_get list i ≡ Some coming) (sym number) there) (at-least (IsCommandOf layout cpu.0) list (n + 1) coming are.named there)))
 
     start : IsAtStop b.own
     start = begins-stop layout (at_number cpu (n + 1)) next copied after.banks (collects after.watching) b.own begins.begins

@@ -18,7 +18,7 @@ use Rattle.hwp_cpu_course.proofs.of_hwp_cpu_command.of_hwp_cpu_access.Resting.{r
 use Rattle.hwp_cpu_course.proofs.of_hwp_cpu_command.JobLaws as jobbing
 use Rattle.hwp_cpu.specs.Serving.{HasCopyPaused, left_so_far, IsUnderWay, HasToldAll, IsPaused, OwnGoesOn}
 use Rattle.hwp_cpu_course.specs.hwp_cpu_row.declared.Local.{Local}
-use Rattle.std.proofs.Common.{Option, None, ◌<◌, length, is_some, Some, subst, sym, true, ap, ◌≡◌, List, ◌∙◌, [], ℕ}
+use Rattle.std.proofs.Common.{Option, None, refl, ◌<◌, length, is_some, Some, subst, sym, true, ap, ◌≡◌, List, ◌∙◌, [], ℕ}
 use Rattle.hwp_cpu_course.specs.hwp_cpu_command.hwp_cpu_access.declared.Instruction.{Instruction}
 use Rattle.hwp_cpu_course.specs.hwp_cpu_command.FileHandles.{handles_after}
 use Rattle.hwp_cpu_causes.specs.Beside.{IsOwnServed, ArePriorWith, DoesSo}
@@ -39,7 +39,7 @@ use Rattle.hwp_cpu_causes.specs.hwp_law_served.Handles.{answers_by, number_at}
 use Rattle.hwp_cpu.proofs.ProcessorNotes.{no-loss, failed-end}
 use Rattle.hwp_cpu.proofs.EachKind.{on-turn}
 use Rattle.hwp_cpu_course.specs.hwp_cpu_command.declared.job.Job.{Job}
-use Rattle.hwp_cpu_causes.specs.hwp_law_served.Offlinings.{left_beside, left_among, left_by, left_itself}
+use Rattle.hwp_cpu_causes.specs.hwp_law_served.Offlinings.{left_beside, left_by, left_itself}
 use Rattle.hwp_cpu_course.specs.hwp_cpu_command.hwp_cpu_access.declared.instruction.Pause.{Pause}
 use Rattle.hwp_cpu_course.specs.hwp_cpu_row.hwp_geom.declared.Who.{Who}
 use Rattle.hwp_cpu_course.specs.hwp_cpu_row.hwp_core_rule.declared.Made.{Made}

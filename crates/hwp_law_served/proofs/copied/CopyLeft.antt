@@ -44,7 +44,6 @@ module _ (store : Request) (page : Page) (sub : Sub) where
   }
 
   left-refused : (rest : List Made) (at : At) → IsRefused store page sub rest at → IsLeft (request_by store page sub) rest
-  unfolding left-behind
   left-refused rest at is = record {
     way = is.front;
     behind = is.last ∷ [];
