@@ -152,7 +152,7 @@ module _ (layout : Layout) (cpu : Cpu) (list : List Command) (are : AreCommands 
       paid = refl;
       made = refl;
       unmarked = refl;
-      left = setting-left layout list [] view unset (let within : 0 < length list = slice_get_within list 0 command there in omega (arith, are.few, within));
+      left = setting-left layout list [] view unset (let within : 0 < length list = slice_get_within list 0 own there in omega (arith, are.few, within));
       revivals = revival-left layout view cpu list [] empty_banks (serves empty_banks refl).rows_are tt (omega arith);
     }) (handle-known layout view cpu list [] at-first.handles c.own (numbers-begin layout view cpu list) numbered (omega arith) begins.handle) forks-so
 
