@@ -295,7 +295,7 @@ module _ (layout : Layout) (old new : View) (cpu : Cpu) (list : List Command) (r
               (complete-by layout new at list watched (at_rest d) rest-way.collected (ap (told_notes layout) (sym (take_all n (told_of k) (omega (arith, is_all)))))) comes)
 
           base-none : (o : Option VSlot) → ArePriorWith layout command o on.base → Runs layout at command o k → (y : Copying) → k ≡ kinds.Copying y → on.base ≡ []
-          base-none (Some from) prior runs y task = prior
+          base-none (Some from) prior runs y _ = prior
           base-none None prior runs y task = absurd (plain-copies layout at command k runs y task)
 
           which : HasPause k ⊎ ((is_access k ≡ false) × ((a : Answer) × (jobs.answer k ≡ Some a))) → Turned layout new cpu list rows local after (answer after)
