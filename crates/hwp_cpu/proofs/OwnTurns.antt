@@ -19,7 +19,6 @@ use Rattle.hwp_cpu_course.specs.hwp_cpu_row.hwp_law_commands.Notes.{is_for_pages
 use Rattle.hwp_cpu_course.specs.Dues.{DueValue, next_due}
 use Rattle.hwp_cpu.proofs.GoingOn.{Turned, ends-now, complete-off, go-on, complete-by, IsComplete}
 use Rattle.hwp_cpu.proofs.ProcessorKeeps.{way-own}
-use Rattle.hwp_cpu_course.specs.hwp_cpu_command.hwp_cpu_access.declared.Instruction.{Instruction}
 use Rattle.hwp_cpu_course.specs.hwp_cpu_row.declared.Row.{Row}
 use Rattle.hwp_cpu_course.specs.hwp_cpu_command.Jobs.{told_of}
 use Rattle.hwp_cpu_course.specs.declared.Course.{Course}
