@@ -1,9 +1,14 @@
 -- A turn of the frame that is taken out of use beside a command, and what is so when that is done.
+use Rattle.hwp_cpu_course.specs.hwp_cpu_command.hwp_cpu_copy.declared.Copying.{Copying}
+use Rattle.hwp_cpu_course.specs.hwp_cpu_command.hwp_cpu_copy.Copyings as copyings
+use Rattle.hwp_cpu_course.specs.hwp_cpu_command.hwp_cpu_copy.Fits as copying_fits
+use Rattle.hwp_cpu_course.proofs.of_hwp_cpu_command.of_hwp_cpu_copy.CopyResting as copy-resting
+use Rattle.hwp_cpu_course.specs.hwp_cpu_row.hwp_geom.declared.VSlot.{VSlot}
 use Rattle.hwp_cpu_causes.specs.hwp_law_served.Causes.{IsBeside}
 use Rattle.std.proofs.lemmas.Bool.{and_parts, not-true}
 use Rattle.hwp_cpu_course.proofs.CourseLaws.{abandoned-stays, over-stays}
 use Rattle.hwp_cpu_course.proofs.SoftMade.{HasLeft, soft-left, soft-pays}
-use Rattle.hwp_cpu_course.specs.Courses.{is_abandoned}
+use Rattle.hwp_cpu_course.specs.Courses.{is_abandoned, with_result, offline_result, offlining}
 use Rattle.hwp_cpu_course.proofs.of_hwp_cpu_command.of_hwp_cpu_access.Resting.{resting-stays}
 use Rattle.hwp_cpu_causes.proofs.OnTheWay.{met-beside}
 use Rattle.hwp_cpu_causes.proofs.BesideKeeps.{own-stays, soft-beside}
@@ -13,17 +18,15 @@ use Rattle.hwp_cpu_course.specs.hwp_cpu_row.hwp_law_commands.Commands.{is_check,
 use Rattle.hwp_cpu_course.specs.hwp_cpu_row.hwp_report_text.Offlines.{offline_answer}
 use Rattle.hwp_cpu_course.proofs.of_hwp_cpu_command.JobLaws as jobbing
 use Rattle.hwp_cpu_course.specs.hwp_cpu_command.Jobs.{offlined_by, told_of}
-use Rattle.hwp_cpu.specs.Serving.{RunsBeside, marked_so_far, IsPaused, IsUnderWay, Rests, IsRunning}
+use Rattle.hwp_cpu.specs.Serving.{HasCopyPaused, Pauses, RunsBeside, marked_so_far, IsPaused, IsUnderWay, Rests, IsRunning}
 use Rattle.hwp_cpu_causes.specs.hwp_law_served.Offlinings.{left_beside, left_by, watched_at, IsOfflineServed, left_at}
 use Rattle.std.proofs.lemmas.List.{length-append, map-append}
-use Rattle.std.proofs.lemmas.List.Elements.{filter_map-append}
+use Rattle.std.proofs.lemmas.List.Elements.{filter_map-append, filter-append}
 use Rattle.hwp_cpu_course.specs.hwp_cpu_command.hwp_soft.declared.SoftAnswer.{SoftAnswer}
-use Rattle.hwp_cpu_course.specs.Courses.{with_result, offline_result, offlining}
 use Rattle.hwp_cpu.proofs.Marks.{beside-over}
 use Rattle.hwp_cpu_course.specs.hwp_cpu_row.hwp_law_commands.Watched.{due, Watched}
-use Rattle.std.proofs.lemmas.List.Elements.{filter-append}
 use Rattle.hwp_cpu_course.specs.declared.Course.{Course}
-use Rattle.hwp_cpu_course.proofs.of_hwp_cpu_command_laws.Beside.{answered-unmarked, paused-unowed, paused-unmarked}
+use Rattle.hwp_cpu_course.proofs.of_hwp_cpu_command_laws.Beside.{job-at-pause, answered-unmarked}
 use Rattle.std.proofs.lemmas.Option.{none-some, same_Some}
 use Rattle.std.proofs.Common.{None, arith, inl, suc, true, ◌++◌, subst, option_map, ◌∷◌, zero, refl, not, Option, ◌+◌, map, cond, ◌≡◌, false, ap, Bool, true≢false, inr, append-nil, filter, Some, slice_get, sym, ℕ, List, length, ◌∙◌, [], nat_lt, ◌⊎◌}
 use Rattle.hwp_cpu_course.proofs.of_hwp_cpu_row.of_hwp_core_rule.Lists.{each-push}
@@ -95,17 +98,21 @@ said-so soft_answers.NoFrame foreign = refl
 said-so (soft_answers.TakenFree cycle) foreign = refl
 said-so (soft_answers.Moved to at cycle) foreign = refl
 
+-- where it pauses
+pub pauses-so : (layout : Layout) (view : View) (who : Who) (command : Command) (j : Job) → Pauses layout view who command j → jobs.pauses j ≡ true
+pauses-so layout view who command j (inl paused) = ap jobs.pauses paused.is ∙ ap is_some paused.paused
+pauses-so layout view who command j (inr paused) = ap jobs.pauses paused.is ∙ ap is_some paused.paused
+
 -- a command where it rests: what it has under way, and that it has told of some event where a frame is due
 rests-still : (layout : Layout) (view : View) (cpu : Cpu) (list : List Command) (rows : List Row) (local : Local) (command : Command) (j : Job) → Rests layout view cpu list rows local command j → (owed_now j ≡ 0) × (marked_beyond j ≡ [])
-rests-still layout view cpu list rows local command j (inl paused) =
-    (ap owed_now paused.is ∙ paused-unowed paused.instruction paused.paused, ap marked_beyond paused.is ∙ paused-unmarked paused.instruction paused.paused)
+rests-still layout view cpu list rows local command j (inl paused) = let still = job-at-pause j (pauses-so layout view (at_number cpu (length rows)) command j paused) in (still.unowed, still.unmarked)
 rests-still layout view cpu list rows local command j (inr has) = (unowed-at-end j has.answered, answered-unmarked j has.answered has.some)
 
 pub due-none : (watched : Option Watched) → due watched [] ≡ []
 due-none None = refl
 due-none (Some v) = refl
 
-module _ (layout : Layout) (old new : View) (cpu : Cpu) (list : List Command) (rows : List Row) (local : Local) (command : Command) (c : Course) (s : Soft) (way : IsUnderWay layout old cpu list rows local command c) (run : RunsBeside layout old cpu list rows local command c s) (is : c.beside ≡ Some s)
+module _ (layout : Layout) (old new : View) (cpu : Cpu) (list : List Command) (rows : List Row) (local : Local) (command : Command) (copies : Option VSlot) (c : Course) (s : Soft) (way : IsUnderWay layout old cpu list rows local command copies c) (run : RunsBeside layout old cpu list rows local command c s) (is : c.beside ≡ Some s)
     (step : Step) (found : ℕ) (got : Option BodyValue) (planned : softs.plan s ≡ Some step) (made : Steps layout s.who step (logs (softs.put s)) old new found got) (t : Soft) (turn : Turn) (follows : softs.Follows layout (softs.bare s) found got t turn) where
   abbrev at : Who
   at = at_number cpu (length rows)
@@ -122,8 +129,8 @@ module _ (layout : Layout) (old new : View) (cpu : Cpu) (list : List Command) (r
   abbrev later : Course
   later = record c { beside = Some t }
 
-  pub way-later : IsUnderWay layout new cpu list rows local command later
-  way-later = way-beside layout old new cpu list rows local command c s t way run.who_is stepped is adds
+  pub way-later : IsUnderWay layout new cpu list rows local command copies later
+  way-later = way-beside layout old new cpu list rows local command copies c s t way run.who_is stepped is adds
 
   paid : is_abandoned t.at ≡ false → new.owed.losses ≡ []
   paid goes = soft-pays (soft-left s was-on run.fits) (subst (HasLeft run.base new) (ap (λ (x : Soft). x.who) follows.0) (soft-left t goes fits-on)) (jobbing.can run.base layout old (kinds.Soft s) step run.fits planned) made (run.paid was-on)
@@ -154,14 +161,7 @@ module _ (layout : Layout) (old new : View) (cpu : Cpu) (list : List Command) (r
 
   pub rests-on : Rests layout new cpu list rows local command c.own
   rests-on = elim run.rests [
-    | inl paused ↦ inl (record {
-      instruction = paused.instruction;
-      is = paused.is;
-      pause = paused.pause;
-      paused = paused.paused;
-      rests = resting-stays paused.instruction paused.pause paused.rests (made-by paused.instruction.request.who (own-request paused)) (subst (λ (w : Who). checks_made w new ≡ checks_made w old) (sym (own-request paused)) unchecked);
-      met = met-beside layout command adds paused.met;
-    })
+    | inl pauses ↦ inl (pauses-on pauses)
     | inr has ↦ inr (record {
       answer = has.answer;
       answered = has.answered;
@@ -172,14 +172,41 @@ module _ (layout : Layout) (old new : View) (cpu : Cpu) (list : List Command) (r
     })
   ]
     where
+      -- of a copy the entry by which the page left is one of its own
+      copy-on : (paused : HasCopyPaused layout old c.own) → HasCopyPaused layout new c.own
+      copy-on paused = record { copying = paused.copying; is = paused.is; pause = paused.pause; paused = paused.paused; rests = by adds.adds }
+        where
+          own-copy : paused.copying.store.who ≡ at
+          own-copy = sym (ap jobs.who paused.is) ∙ runs-who layout at command copies c.own way.runs
+
+          by : (deeds at new ≡ deeds at old) ⊎ ((m : Made) × (deeds at new ≡ deeds at old ++ m ∷ []) × IsBeside m) → copying_fits.IsResting [] layout new paused.copying paused.pause
+          by (inl same) = copy-resting.resting-stays paused.copying paused.pause paused.rests (made-by paused.copying.store.who own-copy) [] (subst (λ (w : Who). deeds w new ≡ deeds w old ++ []) (sym own-copy) (same ∙ sym (append-nil (deeds at old)))) (λ i m there. absurd (none-some m there))
+          by (inr (m, more, beside)) = copy-resting.resting-stays paused.copying paused.pause paused.rests (made-by paused.copying.store.who own-copy) (m ∷ []) (subst (λ (w : Who). deeds w new ≡ deeds w old ++ m ∷ []) (sym own-copy) more)
+              (each-push (λ (x : Made). x.entry.what ≡ entries.Soft) [] m (soft-so m.entry.what beside) (λ i x there. absurd (none-some x there)))
+
+      soft-so : (what : What) → is_soft what ≡ true → what ≡ entries.Soft
+      soft-so entries.Soft is = refl
+      soft-so what is = absurd (true≢false (sym is))
+
+      pauses-on : Pauses layout old at command c.own → Pauses layout new at command c.own
+      pauses-on (inl paused) = inl (record {
+        instruction = paused.instruction;
+        is = paused.is;
+        pause = paused.pause;
+        paused = paused.paused;
+        rests = resting-stays paused.instruction paused.pause paused.rests (made-by paused.instruction.request.who (own-request paused)) (subst (λ (w : Who). checks_made w new ≡ checks_made w old) (sym (own-request paused)) unchecked);
+        met = met-beside layout command adds paused.met;
+      })
+      pauses-on (inr paused) = inr (copy-on paused)
+
       own-request : (paused : IsPaused layout old at command c.own) → paused.instruction.request.who ≡ at
-      own-request paused = sym (ap jobs.who paused.is) ∙ runs-who layout at command c.own way.runs
+      own-request paused = sym (ap jobs.who paused.is) ∙ runs-who layout at command copies c.own way.runs
 
   -- ---- it goes on
 
   pub beside-on : IsRunning layout new cpu list rows local later
   beside-on = record {
-    command = command;
+    command = command; copies = copies;
     way = way-later;
     on = record {
       base = run.base;
@@ -232,10 +259,10 @@ module _ (layout : Layout) (old new : View) (cpu : Cpu) (list : List Command) (r
       running = inr saw;
     }
 
-    pub way-done : IsUnderWay layout new cpu list rows local command (at_rest done)
+    pub way-done : IsUnderWay layout new cpu list rows local command copies (at_rest done)
     way-done = record {
       serves = way-later.serves;
-      there = way-later.there;
+      next = way-later.next;
       runs = way-later.runs;
       handle = way-later.handle;
       policies = way-later.policies;

@@ -1,15 +1,28 @@
 -- A frame that is taken out of use beside a command: how that begins, goes on and ends, and how the command's own task goes on behind it.
+use Rattle.hwp_cpu_course.specs.hwp_cpu_command.hwp_cpu_copy.declared.Copying.{Copying}
+use Rattle.hwp_cpu_course.specs.hwp_cpu_command.hwp_cpu_copy.Copyings as copyings
+use Rattle.hwp_cpu_course.specs.hwp_cpu_command.hwp_cpu_copy.Fits as copying_fits
+use Rattle.hwp_cpu_course.specs.hwp_cpu_command.hwp_cpu_copy.declared.copying.CopyingAt.{CopyingAt}
+use Rattle.hwp_cpu_course.specs.hwp_cpu_command.hwp_cpu_copy.declared.copying.CopyingAt.TheVariants as copying_at
+use Rattle.hwp_cpu_course.proofs.of_hwp_cpu_command.of_hwp_cpu_copy.CopyResting as copy-resting
+use Rattle.hwp_cpu_course.specs.hwp_cpu_command.Runs.{Runs}
+use Rattle.std.proofs.lemmas.Option.{none-some}
+use Rattle.hwp_cpu_course.specs.hwp_cpu_row.hwp_report_text.declared.Answer.TheVariants as answers
+use Rattle.hwp_cpu_causes.specs.Beside.{ArePriorWith}
+use Rattle.hwp_cpu.proofs.Collecting.{access-plain}
+use Rattle.hwp_cpu.proofs.Watching.{prior-none}
+use Rattle.hwp_cpu_course.specs.hwp_cpu_row.hwp_geom.declared.VSlot.{VSlot}
 use Rattle.std.proofs.lemmas.Bool.{cases_lt}
 use Rattle.hwp_cpu_course.proofs.of_hwp_cpu_command.of_hwp_cpu_access.Resting.{resumes}
 use Rattle.hwp_cpu_course.specs.Dues.{next_due}
-use Rattle.std.proofs.Common.{subst, filter_map, ℕ, Some, Option, ◌++◌, ap, append-nil, None, refl, inr, ◌≡◌, is_some, List, ◌<◌, ◌≤◌, sym, length, inl, arith, ◌∙◌, [], ◌⊎◌}
+use Rattle.std.proofs.Common.{true, true≢false, subst, filter_map, ℕ, Some, Option, ◌++◌, ap, append-nil, None, refl, inr, ◌≡◌, is_some, List, ◌<◌, ◌≤◌, sym, length, inl, arith, ◌∙◌, [], ◌⊎◌}
 use Rattle.hwp_cpu_course.specs.hwp_cpu_row.hwp_claim_frame.Done.{Marking}
-use Rattle.hwp_cpu_course.specs.hwp_cpu_command.Stays.{EndsAtOnce, EndsStopped, HasSpoiled}
+use Rattle.hwp_cpu_course.specs.hwp_cpu_command.Stays.{EndsAtOnce, HasSpoiled}
 use Rattle.std.specs.Prelude.{take}
 use Rattle.std.proofs.lemmas.List.{length-map, take_all}
-use Rattle.hwp_cpu_course.proofs.of_hwp_cpu_command_laws.Beside.{paused-late, paused-unanswered, IsSameBehind, behind-same, resume-goes}
+use Rattle.hwp_cpu_course.proofs.of_hwp_cpu_command_laws.Beside.{IsAtPause, IsSameBehind, job-at-pause, resume-goes}
 use Rattle.hwp_cpu_causes.specs.hwp_law_served.Accounts.{act_marking}
-use Rattle.hwp_cpu.specs.Serving.{Rests, IsRunning, Serves, marked_so_far, IsUnderWay, IsPaused, HasToldAll, OwnGoesOn}
+use Rattle.hwp_cpu.specs.Serving.{HasCopyPaused, Pauses, left_so_far, Rests, IsRunning, Serves, marked_so_far, IsUnderWay, IsPaused, HasToldAll, OwnGoesOn}
 use Rattle.hwp_cpu_causes.proofs.OnTheWay.{runs-access, IsAccessOf, prior-behind}
 use Rattle.hwp_cpu_course.specs.hwp_cpu_command.FileHandles.{HasHandle}
 use Rattle.hwp_cpu_course.specs.hwp_cpu_row.declared.Local.{Local}
@@ -17,7 +30,7 @@ use Rattle.hwp_cpu_course.proofs.of_hwp_cpu_command_laws.CommandRuns.{runs-who, 
 use Rattle.hwp_cpu_course.specs.hwp_cpu_command.Jobs.{told_of}
 use Rattle.hwp_cpu_course.proofs.of_hwp_cpu_command_laws.CommandStops.{has-stopped}
 use Rattle.hwp_cpu_course.specs.hwp_cpu_row.hwp_cpu_check.declared.EventOutcome.{EventOutcome}
-use Rattle.hwp_cpu_causes.specs.hwp_law_served.Offlinings.{watched_at}
+use Rattle.hwp_cpu_causes.specs.hwp_law_served.Offlinings.{left_beside, left_by, watched_at}
 use Rattle.hwp_cpu_course.specs.hwp_cpu_row.hwp_law_commands.Settings.{settings}
 use Rattle.hwp_cpu_course.specs.hwp_cpu_row.hwp_geom.declared.Layout.{Layout}
 use Rattle.hwp_cpu_course.specs.hwp_cpu_command.Settings.{policies_now, of_thread}
@@ -65,13 +78,13 @@ HasNotedAll c = c.noted ≡ length (told_of c.own)
 
 -- ---- the next frame
 
-module _ (layout : Layout) (view : View) (cpu : Cpu) (list : List Command) (rows : List Row) (local : Local) (command : Command) (c : Course) (way : IsUnderWay layout view cpu list rows local command (at_rest c)) (holds : HoldsNone view (at_number cpu (length rows)) (at_rest c))
+module _ (layout : Layout) (view : View) (cpu : Cpu) (list : List Command) (rows : List Row) (local : Local) (command : Command) (copies : Option VSlot) (c : Course) (way : IsUnderWay layout view cpu list rows local command copies (at_rest c)) (holds : HoldsNone view (at_number cpu (length rows)) (at_rest c))
     (rests : Rests layout view cpu list rows local command c.own) (noted : HasNotedAll c) where
   abbrev at : Who
   at = at_number cpu (length rows)
 
   owner : jobs.who c.own ≡ at
-  owner = runs-who layout at command c.own way.runs
+  owner = runs-who layout at command copies c.own way.runs
 
   module _ (frame : Frame) (is : next_due c.due ≡ Some frame) (within : frame.0 < layout.frames) where
     abbrev soft : Soft
@@ -83,10 +96,10 @@ module _ (layout : Layout) (view : View) (cpu : Cpu) (list : List Command) (rows
     marks : marked_so_far taking ≡ marked_so_far (at_rest c)
     marks = refl
 
-    way-taking : IsUnderWay layout view cpu list rows local command taking
+    way-taking : IsUnderWay layout view cpu list rows local command copies taking
     way-taking = record {
       serves = way.serves;
-      there = way.there;
+      next = way.next;
       runs = way.runs;
       handle = way.handle;
       policies = way.policies;
@@ -111,7 +124,7 @@ module _ (layout : Layout) (view : View) (cpu : Cpu) (list : List Command) (rows
 
     pub begins-beside : IsRunning layout view cpu list rows local taking
     begins-beside = record {
-      command = command;
+      command = command; copies = copies;
       way = way-taking;
       on = record {
         base = deeds at view;
@@ -127,12 +140,23 @@ module _ (layout : Layout) (view : View) (cpu : Cpu) (list : List Command) (rows
 
 -- ---- its own task goes on behind its pause
 
--- an access sets no policy, and has no handle
-no-policies : (i : Instruction) → policies_now (jobs.resume (kinds.Instruction i)) ≡ policies_now (kinds.Instruction i)
-no-policies i = refl
+-- a task that goes on behind its pause has set the same policies, and has the same handle
+same-policies : (j : Job) → policies_now (jobs.resume j) ≡ policies_now j
+same-policies (kinds.Instruction i) = refl
+same-policies (kinds.Copying y) = refl
+same-policies _ = refl
 
-no-handle : (i : Instruction) (handles : List ℕ) → HasHandle handles (jobs.resume (kinds.Instruction i))
-no-handle i handles = tt
+same-handle : (j : Job) (handles : List ℕ) → HasHandle handles j → HasHandle handles (jobs.resume j)
+same-handle (kinds.Instruction i) handles has = tt
+same-handle (kinds.Copying y) handles has = tt
+same-handle _ handles has = has
+
+-- it spoils no line
+pause-spoils : (j : Job) (x : Spoiled) → jobs.pauses j ≡ true → HasSpoiled j x → ⊥
+pause-spoils (kinds.Spoil s) x pauses has = true≢false (sym pauses)
+pause-spoils (kinds.Instruction i) x pauses has = has
+pause-spoils (kinds.Copying y) x pauses has = has
+pause-spoils _ x pauses has = has
 
 -- as many as were taken are there
 pub taken-few : {A : Type 0} (l : List A) (n : ℕ) → n ≡ length (take n l) → n ≤ length l
@@ -143,59 +167,71 @@ taken-few l n is = which (cases_lt (length l) n)
     which (inr most) = most
 
 -- it told the collector all
-told-all : (watching : Option Watching) (i : Instruction) (noted : ℕ) → noted ≡ length i.lines.told → HasToldAll watching (jobs.resume (kinds.Instruction i)) noted
-told-all watching i noted is = by (instructions.pause i)
+told-all : (watching : Option Watching) (j : Job) (noted : ℕ) → jobs.pauses j ≡ true → noted ≡ length (told_of j) → HasToldAll watching (jobs.resume j) noted
+told-all watching (kinds.Instruction i) noted pauses is = by (instructions.pause i)
   where
     by : (o : Option Pause) → HasToldAll watching (kinds.Instruction (instructions.resume_by i o)) noted
     by None = λ on. is
     by (Some p) = λ on. is
+told-all watching (kinds.Copying y) noted pauses is = by y.at
+  where
+    own : (o : Option Pause) → HasToldAll watching (kinds.Copying (record y { instruction = instructions.resume_by y.instruction o })) noted
+    own None = λ on. is
+    own (Some p) = λ on. is
 
-module _ (layout : Layout) (view : View) (cpu : Cpu) (list : List Command) (rows : List Row) (local : Local) (command : Command) (c : Course) (way : IsUnderWay layout view cpu list rows local command (at_rest c)) (holds : HoldsNone view (at_number cpu (length rows)) (at_rest c))
-    (paused : IsPaused layout view (at_number cpu (length rows)) command c.own) (noted : HasNotedAll c) (none : next_due c.due ≡ None) where
+    by : (x : CopyingAt) → HasToldAll watching (kinds.Copying (copyings.resume_at y x)) noted
+    by copying_at.Access = own (instructions.pause y.instruction)
+    by (copying_at.Free e stored) = λ on. is
+    by (copying_at.Over answer) = λ on. is
+told-all watching _ noted pauses is = absurd (true≢false (sym pauses))
+
+module _ (layout : Layout) (view : View) (cpu : Cpu) (list : List Command) (rows : List Row) (local : Local) (command : Command) (copies : Option VSlot) (c : Course) (way : IsUnderWay layout view cpu list rows local command copies (at_rest c)) (holds : HoldsNone view (at_number cpu (length rows)) (at_rest c))
+    (paused : Pauses layout view (at_number cpu (length rows)) command c.own) (noted : HasNotedAll c) (none : next_due c.due ≡ None) where
   abbrev by : Who
   by = at_number cpu (length rows)
 
   abbrev behind : Course
   behind = record c { own = jobs.resume c.own; beside = None }
 
-  abbrev i : Instruction
-  i = paused.instruction
-
   goes : CommandGoesOn c.own (jobs.resume c.own)
   goes = resume-goes c.own
 
+  pauses : jobs.pauses c.own ≡ true
+  pauses = pauses-by paused
+    where
+      pauses-by : Pauses layout view by command c.own → jobs.pauses c.own ≡ true
+      pauses-by (inl access) = ap jobs.pauses access.is ∙ ap is_some access.paused
+      pauses-by (inr copy) = ap jobs.pauses copy.is ∙ ap is_some copy.paused
+
+  at-pause : IsAtPause c.own
+  at-pause = job-at-pause c.own pauses
+
   same : IsSameBehind c.own (jobs.resume c.own)
-  same = subst (λ (j : Job). IsSameBehind j (jobs.resume j)) (sym paused.is) (behind-same i paused.paused)
-
-  of-access : IsAccessOf command by c.own
-  of-access = runs-access layout by command c.own way.runs (ap jobs.pauses paused.is ∙ ap is_some paused.paused)
-
-  request-who : i.request.who ≡ by
-  request-who = sym (ap jobs.who paused.is) ∙ runs-who layout by command c.own way.runs
+  same = at-pause.behind
 
   late : {A : Type 0} → EndsAtOnce c.own → A
-  late ends = absurd (paused-late i paused.paused (subst EndsStopped paused.is ends.0))
+  late ends = absurd (at-pause.late ends.0)
 
   unstopped : {A : Type 0} → stays.HasStopped c.own → A
-  unstopped has = absurd (paused-unanswered i paused.paused (sym (ap jobs.answer paused.is) ∙ has-stopped c.own has))
+  unstopped has = absurd (none-some answers.Stopped (sym at-pause.unanswered ∙ has-stopped c.own has))
 
   unspoiled : {A : Type 0} (x : Spoiled) → HasSpoiled c.own x → A
-  unspoiled x has = absurd (subst (λ (j : Job). HasSpoiled j x) paused.is has)
+  unspoiled x has = absurd (pause-spoils c.own x pauses has)
 
   marks-behind : marked_so_far behind ≡ marked_so_far (at_rest c)
   marks-behind = ap (λ (l : List EventOutcome). filter_map act_marking (acts l c.due.offlined) ++ (marked_beyond (jobs.resume c.own) ++ [])) same.told
       ∙ ap (λ (l : List Marking). filter_map act_marking (acts (told_of c.own) c.due.offlined) ++ (l ++ [])) (same.beyond ∙ sym holds.beyond)
 
   same-settings : policies_now (jobs.resume c.own) ≡ policies_now c.own
-  same-settings = subst (λ (j : Job). policies_now (jobs.resume j) ≡ policies_now j) (sym paused.is) (no-policies i)
+  same-settings = same-policies c.own
 
-  pub way-behind : IsUnderWay layout view cpu list rows local command behind
+  pub way-behind : IsUnderWay layout view cpu list rows local command copies behind
   way-behind = record {
-    serves = subst (λ (b : Banks). Serves layout view cpu list rows b local.handles) (sym (goes.before local.banks)) way.serves;
-    there = way.there;
-    runs = runs-alike layout by command c.own (jobs.resume c.own) goes way.runs;
-    handle = subst (λ (j : Job). HasHandle local.handles (jobs.resume j)) (sym paused.is) (no-handle i local.handles);
-    policies = λ thread. way.policies thread ∙ ap (λ (l : List (Thread × Policy)). settings thread (answers_by list rows) ++ of_thread thread l) (sym same-settings);
+    serves = subst (λ (b : Banks). Serves layout view cpu list rows b local.handles local.cows) (sym (goes.before local.banks)) way.serves;
+    next = way.next;
+    runs = runs-alike layout by command copies c.own (jobs.resume c.own) goes way.runs;
+    handle = same-handle c.own local.handles way.handle;
+    policies = λ thread. way.policies thread ∙ ap (λ (l : List (Thread × Policy)). settings layout thread (answers_by list rows) ++ of_thread thread l) (sym same-settings);
     stopped = λ some. late (way.stopped some);
     looked = elim way.looked [
       | inl ends ↦ late ends
@@ -229,21 +265,57 @@ module _ (layout : Layout) (view : View) (cpu : Cpu) (list : List Command) (rows
       omega arith
 
   all-told : HasToldAll c.watching (jobs.resume c.own) c.noted
-  all-told = subst (λ (j : Job). HasToldAll c.watching (jobs.resume j) c.noted) (sym paused.is) (told-all c.watching i c.noted (noted ∙ ap (λ (j : Job). length (told_of j)) paused.is))
+  all-told = told-all c.watching c.own c.noted pauses noted
 
   pub told-behind : told_of (jobs.resume c.own) ≡ told_of c.own
   told-behind = same.told
 
-  pub own-behind : OwnGoesOn layout view command behind
-  own-behind = record {
+  -- an access copies nothing, and goes on behind all entries of its command
+  access-behind : IsPaused layout view by command c.own → OwnGoesOn layout view command copies behind
+  access-behind access = record {
     base = deeds by view;
     fits = subst (λ (w : Who). jobs.FitsFrom (deeds w view) layout view (jobs.resume c.own)) request-who
-        (subst (λ (j : Job). jobs.FitsFrom (deeds i.request.who view) layout view (jobs.resume j)) (sym paused.is) (resumes i paused.pause paused.rests (subst (IsOnTurn view) (sym request-who) holds.on_turn) holds.hand_is holds.paid));
-    prior = prior-behind layout view of-access paused.met;
-    left = holds.left;
+        (subst (λ (j : Job). jobs.FitsFrom (deeds access.instruction.request.who view) layout view (jobs.resume j)) (sym access.is) (resumes access.instruction access.pause access.rests (subst (IsOnTurn view) (sym request-who) holds.on_turn) holds.hand_is holds.paid));
+    prior = subst (λ (o : Option VSlot). ArePriorWith layout command o (deeds by view)) (sym plain) (prior-behind layout view of-access access.met);
+    left = subst (λ (j : Job). left_so_far (deeds by view) view (jobs.resume j) ≡ left_beside c.due.offlined) (sym access.is) holds.left;
     all = all;
     told = all-told;
   }
+    where
+      plain : copies ≡ None
+      plain = access-plain layout by command copies c.own way.runs access.instruction access.is
+
+      request-who : access.instruction.request.who ≡ by
+      request-who = sym (ap jobs.who access.is) ∙ runs-who layout by command copies c.own way.runs
+
+      of-access : IsAccessOf command by c.own
+      of-access = runs-access layout by command c.own (subst (λ (o : Option VSlot). Runs layout by command o c.own) plain way.runs) pauses
+
+  -- a copy goes on as it was
+  copy-behind : HasCopyPaused layout view c.own → OwnGoesOn layout view command copies behind
+  copy-behind copy = record {
+    base = [];
+    fits = subst (λ (j : Job). jobs.FitsFrom [] layout view (jobs.resume j)) (sym copy.is) (copy-resting.resumes copy.copying copy.pause copy.rests (subst (IsOnTurn view) (sym own) holds.on_turn) holds.hand_is holds.paid);
+    prior = prior-none layout command copies;
+    left = subst (λ (j : Job). left_so_far [] view (jobs.resume j) ≡ left_beside c.due.offlined) (sym copy.is) (left-resumed copy.copying.at);
+    all = all;
+    told = all-told;
+  }
+    where
+      own : copy.copying.store.who ≡ by
+      own = sym (ap jobs.who copy.is) ∙ runs-who layout by command copies c.own way.runs
+
+      left-resumed : (x : CopyingAt) → left_by (copyings.resume_at copy.copying x).store.who view ≡ left_beside c.due.offlined
+      left-resumed copying_at.Access = subst (λ (w : Who). left_by w view ≡ left_beside c.due.offlined) (sym own) holds.left
+      left-resumed (copying_at.Free e stored) = subst (λ (w : Who). left_by w view ≡ left_beside c.due.offlined) (sym own) holds.left
+      left-resumed (copying_at.Over answer) = subst (λ (w : Who). left_by w view ≡ left_beside c.due.offlined) (sym own) holds.left
+
+  pub own-behind : OwnGoesOn layout view command copies behind
+  own-behind = which paused
+    where
+      which : Pauses layout view by command c.own → OwnGoesOn layout view command copies behind
+      which (inl access) = access-behind access
+      which (inr copy) = copy-behind copy
 
   pub goes-behind : IsRunning layout view cpu list rows local behind
-  goes-behind = record { command = command; way = way-behind; on = own-behind }
+  goes-behind = record { command = command; copies = copies; way = way-behind; on = own-behind }

@@ -1,13 +1,26 @@
 -- When the command that runs has its answer, its row is right, and the next command may begin.
+use Rattle.hwp_cpu_course.specs.hwp_cpu_command.Begins.{BeginsWith}
+use Rattle.hwp_cpu_course.specs.hwp_cpu_row.hwp_geom.declared.VSlot.{VSlot}
+use Rattle.hwp_cpu_course.specs.hwp_cpu_row.hwp_geom.declared.FileNo.{FileNo}
+use Rattle.hwp_cpu_course.specs.hwp_cpu_row.hwp_script_lines.declared.Command.TheVariants as commands
+use Rattle.hwp_cpu_course.specs.hwp_cpu_row.hwp_cpu_check.declared.EventOutcome.{EventOutcome}
+use Rattle.hwp_cpu_course.specs.hwp_cpu_row.hwp_law_commands.Cows.{acting}
+use Rattle.hwp_cpu_course.specs.hwp_cpu_row.CowLists.{KnowsCows, acting_in, copied_in}
+use Rattle.hwp_cpu_course.proofs.of_hwp_cpu_row.CowListLaws.{acting-known, copied-known, told-are, told-known}
+use Rattle.hwp_cpu_course.proofs.of_hwp_cpu_row.of_hwp_law_commands.CowLaws.{acting-watches}
+use Rattle.hwp_cpu_causes.specs.hwp_law.Losses.{number_by, tells_number}
+use Rattle.hwp_cpu_course.specs.hwp_cpu_command.Runs.{CanFork, Runs}
+use Rattle.hwp_cpu.proofs.ActingFits.{at-least, fork-acted}
+use Rattle.hwp_cpu.proofs.FreshChildren.{can-fork}
+use Rattle.hwp_cpu.proofs.KnownHandles.{number-acted, tells-acted, handle-known, handles-many}
 use Rattle.hwp_cpu.proofs.CourseBegins.{course-begins}
-use Rattle.std.proofs.Common.{◌≡◌, ℕ, ◌+◌, ◌<◌, ◌≤◌, ◌⊎◌, inl, inr, List, [], ◌∷◌, ◌++◌, Option, Some, None, length, slice_get, refl, sym, ap, ◌∙◌, subst, arith, append-nil, true, filter_map}
+use Rattle.std.proofs.Common.{Bool, ◌≡◌, ℕ, ◌+◌, ◌<◌, ◌≤◌, ◌⊎◌, inl, inr, List, [], ◌∷◌, ◌++◌, Option, Some, None, length, slice_get, refl, sym, ap, ◌∙◌, subst, arith, append-nil, true, filter_map}
 use Rattle.std.proofs.lemmas.List.{length-append, append_cancel_left, take_all}
 use Rattle.std.proofs.lemmas.Option.{same_Some, slice_get_within}
 use Rattle.hwp_cpu_course.specs.hwp_cpu_row.hwp_geom.declared.Cpu.{Cpu}
 use Rattle.hwp_cpu_course.specs.hwp_cpu_row.hwp_geom.declared.Layout.{Layout}
 use Rattle.hwp_cpu_course.specs.hwp_cpu_row.hwp_geom.declared.Thread.{Thread}
 use Rattle.hwp_cpu_course.specs.hwp_cpu_row.hwp_geom.declared.Who.{Who}
-use Rattle.hwp_cpu_course.specs.hwp_cpu_row.hwp_geom.Limits.{command_limit}
 use Rattle.hwp_cpu_course.specs.hwp_cpu_row.hwp_geom.Pairs.{Pairs}
 use Rattle.hwp_cpu_course.specs.hwp_cpu_row.hwp_script_lines.declared.Command.{Command}
 use Rattle.hwp_cpu_course.specs.hwp_cpu_row.hwp_report_text.declared.Answer.{Answer}
@@ -31,7 +44,6 @@ use Rattle.hwp_cpu_course.specs.hwp_cpu_command.declared.job.Job.{Job}
 use Rattle.hwp_cpu_course.specs.hwp_cpu_command.FileHandles.{StandsOn}
 use Rattle.hwp_cpu_course.specs.hwp_cpu_command.Jobs as jobs
 use Rattle.hwp_cpu_course.specs.hwp_cpu_command.Jobs.{banks_before, told_of}
-use Rattle.hwp_cpu_course.specs.hwp_cpu_command.Runs.{Runs}
 use Rattle.hwp_cpu_course.specs.hwp_cpu_command.Settings.{policies_in}
 use Rattle.hwp_cpu_course.specs.hwp_cpu_command.Stays.{IsAtStop, IsHalted}
 use Rattle.hwp_cpu_course.proofs.of_hwp_cpu_command.JobEnds.{ends}
@@ -40,19 +52,18 @@ use Rattle.hwp_cpu_course.proofs.of_hwp_cpu_command_laws.CommandStops.{begins-st
 use Rattle.hwp_cpu_causes.specs.hwp_law_served.Accounts.{IsNote, own_marking, markings_in}
 use Rattle.hwp_cpu_causes.specs.hwp_law_served.Handles.{answers_by, number_at}
 use Rattle.hwp_cpu_causes.specs.hwp_law_served.Rows.{notes_from}
-use Rattle.hwp_cpu_causes.specs.hwp_law_served.Served.{IsOneOf, IsOwnSpoil, IsOwnStop, IsRowServed, SawRunning}
+use Rattle.hwp_cpu_causes.specs.hwp_law_served.Served.{CanStop, IsOneOf, IsOwnSpoil, IsOwnStop, IsRowServed, SawRunning}
 use Rattle.hwp_cpu_causes.proofs.of_hwp_law_served.Handles.{number-last, numbers-more}
-use Rattle.hwp_cpu_causes.proofs.of_hwp_law_served.lines.ScrubBank.{banks-free, empty-free}
+use Rattle.hwp_cpu_causes.proofs.of_hwp_law_served.lines.ScrubBank.{empty-free}
 use Rattle.hwp_cpu_causes.proofs.HandleNumbers.{tells-inside}
 use Rattle.hwp_cpu_causes.proofs.RowServed.{row-served}
-use Rattle.hwp_cpu.specs.Processors.{BeginsAt, at_number, left_of}
-use Rattle.hwp_cpu.specs.Serving.{AreNumbered, FitsAt, HasAccount, HasStopped, HasStoppedIt, IsDone, IsListed, IsRunning, Serves, IsUnderWay, marked_beside, marked_so_far, GivesUp, GoesOn}
+use Rattle.hwp_cpu.specs.Processors.{AreCommands, BeginsAt, at_number, left_of, told_local}
+use Rattle.hwp_cpu.specs.Serving.{IsActedOn, Remembers, AreNumbered, FitsAt, HasAccount, HasStopped, HasStoppedIt, IsDone, IsListed, IsRunning, Serves, IsUnderWay, marked_beside, marked_so_far, GivesUp, GoesOn}
 use Rattle.hwp_cpu.proofs.ProcessorKeeps.{can, own}
 use Rattle.hwp_cpu.proofs.ProcessorNotes.{account-starts, noted-end, noted-starts, owes-nothing, spoils-end, unmarked-starts}
-use Rattle.hwp_cpu.proofs.KnownHandles.{handle-known, handles-many}
-use Rattle.hwp_cpu.proofs.KnownPolicies.{counted-ends, counted-starts, setting-left}
+use Rattle.hwp_cpu.proofs.KnownPolicies.{answers-more, counted-ends, counted-starts, setting-left}
 use Rattle.hwp_cpu.proofs.Revivals.{revival-left}
-use Rattle.hwp_cpu.proofs.Rows.{at_front, past-end, rows-more, stays-more, stop-more, stopped-was}
+use Rattle.hwp_cpu.proofs.Rows.{IsRowActed, at_front, banks-acted, past-end, rows-more, stays-more, stop-more, stopped-was}
 use Rattle.std.specs.List.{list_any, cons_option}
 use Rattle.hwp_cpu_course.specs.hwp_cpu_row.hwp_law_commands.Watched.{told, Watched}
 use Rattle.hwp_cpu_causes.specs.hwp_law_served.Offlinings.{watched_at, AreDue}
@@ -88,15 +99,21 @@ next-turn view cpu n none on = record {
 
 -- ---- a command that stops the machine
 
+-- so can the script's command, as the one that is acted on
+stop-acted : (layout : Layout) (earlier : List (Command × Answer)) (own : Command) (told : List EventOutcome) → CanStop layout (acting layout earlier own) told → CanStop layout own told
+stop-acted layout earlier (commands.Load thread slot line) told can = can
+stop-acted layout earlier own told can = can
+
 -- it is answered `stopped`, as the first of its processor
-own-stop : (layout : Layout) (cpu : Cpu) (list : List Command) (rows : List Row) (command : Command) (j : Job) (a : Answer) (offlined : List Offlining) → slice_get list (length rows) ≡ Some command → Runs layout (at_number cpu (length rows)) command j → jobs.answer j ≡ Some a
+own-stop : (layout : Layout) (cpu : Cpu) (list : List Command) (rows : List Row) (own command : Command) (copies : Option VSlot) (j : Job) (a : Answer) (offlined : List Offlining) → slice_get list (length rows) ≡ Some own → command ≡ acting layout (answers_by list rows) own
+    → Runs layout (at_number cpu (length rows)) command copies j → jobs.answer j ≡ Some a
     → (who : Who) → HasStoppedIt layout command rows j who → IsOwnStop layout cpu list (rows ++ jobs.row_of j a offlined ∷ []) who
-own-stop layout cpu list rows command j a offlined there runs has who it = subst (IsOwnStop layout cpu list (rows ++ jobs.row_of j a offlined ∷ [])) (sym named) (record {
+own-stop layout cpu list rows own command copies j a offlined there acts runs has who it = subst (IsOwnStop layout cpu list (rows ++ jobs.row_of j a offlined ∷ [])) (sym named) (record {
   cpu_is = refl;
-  command = command;
+  command = own;
   there = there;
   row = jobs.row_of j a offlined;
-  can = it.can;
+  can = stop-acted layout (answers_by list rows) own (told_of j) (subst (λ (x : Command). CanStop layout x (told_of j)) acts it.can);
   answered = record {
     row_is = at_last rows (jobs.row_of j a offlined);
     stopped = same_Some a answers.Stopped (sym has ∙ has-stopped j it.has);
@@ -105,12 +122,16 @@ own-stop layout cpu list rows command j a offlined there runs has who it = subst
 })
   where
     named : who ≡ at_number cpu (length rows)
-    named = sym it.who_is ∙ runs-who layout (at_number cpu (length rows)) command j runs
+    named = sym it.who_is ∙ runs-who layout (at_number cpu (length rows)) command copies j runs
+
+-- a command that begins is the processor's next
+begins-who : (layout : Layout) (by : Who) (command : Command) (copies : Option VSlot) (banks : Banks) (collecting : Bool) (j : Job) → BeginsWith layout by command copies banks collecting j → jobs.who j ≡ by
+begins-who layout by command copies banks collecting j begins = runs-who layout by command copies j (begins-runs layout by command copies banks collecting j begins)
 
 -- ---- the answer
 
 module _ (layout : Layout) (new : View) (cpu : Cpu) (list : List Command) (rows : List Row) (local : Local) (c : Course) (a : Answer) (now : IsEnding layout new cpu list rows local c a) (later-none : (q : ℕ) → length rows < q → HasMadeNone new (at_number cpu q))
-    (few : length list ≤ command_limit) (round : StandsOn c.own a c.watching) where
+    (are : AreCommands layout cpu list) (round : StandsOn c.own a c.watching) where
   abbrev n : ℕ
   n = length rows
 
@@ -120,6 +141,16 @@ module _ (layout : Layout) (new : View) (cpu : Cpu) (list : List Command) (rows 
   abbrev command : Command
   command = now.command
 
+  abbrev copies : Option VSlot
+  copies = now.copies
+
+  -- the script's command
+  abbrev own : Command
+  own = now.way.next.own
+
+  abbrev earlier : List (Command × Answer)
+  earlier = answers_by list rows
+
   abbrev row : Row
   row = row_of c a
 
@@ -128,7 +159,7 @@ module _ (layout : Layout) (new : View) (cpu : Cpu) (list : List Command) (rows 
 
   -- what the command leaves to the next one
   abbrev after : Local
-  after = local_after c a local
+  after = told_local layout (Some own) a (local_after c a local)
 
   number : length longer ≡ n + 1
   number = length-append rows (row ∷ [])
@@ -146,8 +177,21 @@ module _ (layout : Layout) (new : View) (cpu : Cpu) (list : List Command) (rows 
       ∙ ap (λ (l : List Marking). by_acts (told_of c.own) c.due.offlined ++ l) (append-nil (marked_beyond c.own)
       ∙ append_cancel_left (filter_map marked_in (told_of c.own)) (marked_beyond c.own) (cons_option (own_marking (jobs.own_of c.own)) []) (sym (marked-parts c.own) ∙ now.known.does.marked))
 
-  served : IsRowServed layout (answers_by list rows) new at command (banks_before c.own local.banks) row after.banks
-  served = row-served layout (answers_by list rows) new at command c.own local.banks c.due.offlined now.known.served now.known.does running (now.way.account.marked ∙ marks) now.known.failed now.way.account.set now.known.left now.way.collected.offlined
+  served : IsRowServed layout earlier copies new at command (banks_before c.own local.banks) row after.banks
+  served = row-served layout earlier copies new at command c.own local.banks c.due.offlined now.known.served now.known.does running (now.way.account.marked ∙ marks) now.known.failed now.way.account.set now.known.left now.way.collected.offlined
+
+  -- and so the script's command
+  acted : IsRowActed layout earlier new at own (banks_before c.own local.banks) row after.banks
+  acted = subst (λ (o : Option VSlot). IsRowServed layout earlier o new at (acting layout earlier own) (banks_before c.own local.banks) row after.banks) now.way.next.copies_are
+      (subst (λ (x : Command). IsRowServed layout earlier copies new at x (banks_before c.own local.banks) row after.banks) now.way.next.acts served)
+
+  -- it knows what is frozen and switched
+  remembers : Remembers layout list longer after.cows
+  remembers = record {
+    are = told-are layout own a local.cows now.way.serves.remembers.are;
+    known = subst (λ (l : List (Command × Answer)). KnowsCows layout l after.cows) (sym (answers-more list rows own row now.way.next.there))
+        (told-known layout earlier own a local.cows now.way.serves.remembers.are now.way.serves.remembers.known);
+  }
 
   unowing : new.owed ≡ no_debts
   unowing = owes-nothing new (subst (λ (o : Option Soft). HasCounted (part_of o c.own) new) now.none now.way.account.counted ∙ now.known.unowed) now.known.paid
@@ -156,33 +200,41 @@ module _ (layout : Layout) (new : View) (cpu : Cpu) (list : List Command) (rows 
   noting = noted-end new cpu rows c row now.way.noted marks
 
   spoiling : EachMember (IsOwnSpoil cpu list longer) new.spoiled
-  spoiling i s there = spoils-end layout cpu list rows command c.own a c.due.offlined s now.way.there now.way.runs now.known.answered (now.way.spoiled i s there)
+  spoiling i s there = spoils-end layout cpu list rows own command copies c.own a c.due.offlined s now.way.next.there now.way.next.acts now.way.runs now.known.answered (now.way.spoiled i s there)
 
   -- what each thread had set is what the commands so far set
-  policies : (thread : Thread) → policies_in thread new ≡ settings thread (answers_by list longer)
-  policies = counted-ends list rows new command c.own row now.way.policies (sym now.way.account.set ∙ served.accounted.set) now.way.there
+  policies : (thread : Thread) → policies_in thread new ≡ settings layout thread (answers_by list longer)
+  policies = counted-ends layout list rows new own command c.own row now.way.next.acts now.way.policies (sym now.way.account.set ∙ served.accounted.set) now.way.next.there
+
+  -- the numbers of handles are told by the same commands
+  numbers-acted : (file : FileNo) → slice_get after.handles file.0 ≡ Some (number_by file (number_at file list rows n) command a) → slice_get after.handles file.0 ≡ Some (number_by file (number_at file list rows n) own a)
+  numbers-acted file has = has ∙ ap (λ (x : Command). Some (number_by file (number_at file list rows n) x a)) now.way.next.acts ∙ ap (λ (m : ℕ). Some m) (number-acted layout earlier file (number_at file list rows n) own a)
 
   handles_are : AreNumbered layout list longer after.handles
   handles_are = record {
     many = handles-many c.own local.handles ∙ now.way.serves.handles_are.many;
-    each = λ file inside. (now.known.numbers file inside).has ∙ ap (λ (m : ℕ). Some m) (sym (number-last file list rows command row now.way.there)) ∙ ap (λ (m : ℕ). Some (number_at file list longer m)) (sym number);
+    each = λ file inside. numbers-acted file (now.known.numbers file inside).has ∙ ap (λ (m : ℕ). Some m) (sym (number-last file list rows own row now.way.next.there)) ∙ ap (λ (m : ℕ). Some (number_at file list longer m)) (sym number);
   }
 
   -- the frames that were due are those that its notes make due
   due-now : AreDue layout (watched_at layout list rows n) row
   due-now = now.way.collected.frames ∙ take_all (length c.due.offlined) c.due.frames (let all : length c.due.offlined ≡ length c.due.frames = now.all in omega (arith, all)) ∙ sym now.complete.due
 
-  serves : Serves layout new cpu list longer after.banks after.handles
+  serves : Serves layout new cpu list longer after.banks after.handles after.cows
   serves = record {
-    rows_are = rows-more layout [] new cpu 0 empty_banks list rows (banks_before c.own local.banks) n command row after.banks (omega arith) now.way.serves.rows_are now.way.there served;
+    rows_are = rows-more layout [] new cpu 0 empty_banks list rows (banks_before c.own local.banks) n own row after.banks (omega arith) now.way.serves.rows_are now.way.next.there acted;
+    remembers = remembers;
     stays = stays-more rows row now.way.serves.stays (λ some. only-stopped c.own (now.way.stopped some).0 now.known.answered);
     halted = λ some. by (stopped-was rows row some);
-    numbers = numbers-more layout new cpu list rows command row now.way.there now.way.serves.numbers
-        (λ file told. (now.known.numbers file (tells-inside layout at command c.own a file now.way.runs told)).knows told);
+    numbers = numbers-more layout new cpu list rows own row now.way.next.there now.way.serves.numbers
+        (λ file told. numbers-known file (sym (tells-acted layout earlier file own a) ∙ told));
     handles_are = handles_are;
     due = due-more layout list rows row now.way.serves.due due-now;
   }
     where
+      numbers-known : (file : FileNo) → tells_number file (acting layout earlier own) a ≡ true → _
+      numbers-known file told = (now.known.numbers file (tells-inside layout at command copies c.own a file now.way.runs (ap (λ (x : Command). tells_number file x a) now.way.next.acts ∙ told))).knows (ap (λ (x : Command). tells_number file x a) now.way.next.acts ∙ told)
+
       by : HasStopped rows ⊎ (a ≡ answers.Stopped) → IsHalted new
       by (inl early) = now.way.serves.halted early
       by (inr last) = now.known.halted last
@@ -192,12 +244,12 @@ module _ (layout : Layout) (new : View) (cpu : Cpu) (list : List Command) (rows 
     where
       which : IsOwnStop layout cpu list rows who ⊎ HasStoppedIt layout command rows c.own who → IsOwnStop layout cpu list longer who
       which (inl early) = stop-more layout cpu list rows row who early
-      which (inr it) = own-stop layout cpu list rows command c.own a c.due.offlined now.way.there now.way.runs now.known.answered who it
+      which (inr it) = own-stop layout cpu list rows own command copies c.own a c.due.offlined now.way.next.there now.way.next.acts now.way.runs now.known.answered who it
 
   -- the collector that the next command begins with
   watching-now : IsWatching layout.frames (watched_at layout list longer (length longer)) after.watching
-  watching-now = subst (λ (w : Option Watched). IsWatching layout.frames w after.watching) (sym (watched-more layout list rows command row now.way.there))
-      (watching-ends layout.frames (told_notes layout (told_of c.own)) (watched_at layout list rows n) c.watching now.complete.watching layout at command c.own a now.way.runs round (λ watches. now.way.collected.room (has-watch list n command now.way.there watches)))
+  watching-now = subst (λ (w : Option Watched). IsWatching layout.frames w after.watching) (sym (watched-more layout list rows own row now.way.next.there))
+      (watching-ends layout.frames (told_notes layout (told_of c.own)) (watched_at layout list rows n) c.watching now.complete.watching layout at command copies c.own a now.way.runs round (λ watches. now.way.collected.room (has-watch list n own now.way.next.there (sym (acting-watches layout earlier own) ∙ sym (ap is_watch now.way.next.acts) ∙ watches))))
 
   room-now : list_any is_watch list ≡ true → IsSome after.watching
   room-now has = room-stays c.own a c.watching (now.way.collected.room has)
@@ -219,39 +271,57 @@ module _ (layout : Layout) (new : View) (cpu : Cpu) (list : List Command) (rows 
       same : length longer ≡ length list
       same =
           let most : length list ≤ n + 1 = past-end list (n + 1) none in
-          let within : n < length list = slice_get_within list n command now.way.there in
+          let within : n < length list = slice_get_within list n own now.way.next.there in
           let at_end : length longer ≡ n + 1 = number in
           omega arith
 
-  module _ (next : Command) (b : Course) (there : slice_get list (n + 1) ≡ Some next) (begins : BeginsCourse layout (at_number cpu (n + 1)) next after b) where
+  module _ (coming : Command) (b : Course) (there : slice_get list (n + 1) ≡ Some coming) (begins : BeginsCourse layout (at_number cpu (n + 1)) (acting_in layout after.cows coming) (copied_in after.cows coming) after b) where
+    abbrev next : Command
+    next = acting_in layout after.cows coming
+
+    abbrev copied : Option VSlot
+    copied = copied_in after.cows coming
+
+    comes : IsActedOn layout list longer next copied
+    comes = record {
+      own = coming;
+      there = subst (λ (i : ℕ). slice_get list i ≡ Some coming) (sym number) there;
+      acts = acting-known layout (answers_by list longer) after.cows coming remembers.known;
+      copies_are = copied-known layout (answers_by list longer) after.cows coming remembers.known;
+    }
+
+    forks-so : CanFork layout new (at_number cpu (n + 1)) next
+    forks-so = fork-acted layout after.cows coming (subst (λ (i : ℕ). CanFork layout new (at_number cpu i) coming) number
+        (can-fork layout cpu list longer are.forks are.once new policies coming (subst (λ (i : ℕ). slice_get list i ≡ Some coming) (sym number) there) (at-least list (n + 1) coming are.named there)))
+
     start : IsAtStop b.own
-    start = begins-stop layout (at_number cpu (n + 1)) next after.banks (collects after.watching) b.own begins.begins
+    start = begins-stop layout (at_number cpu (n + 1)) next copied after.banks (collects after.watching) b.own begins.begins
 
     within : n + 1 < length list
-    within = slice_get_within list (n + 1) next there
+    within = slice_get_within list (n + 1) coming there
 
     own-fits : jobs.FitsFrom [] layout new b.own
-    own-fits = begins-fits layout new (at_number cpu (n + 1)) next after.banks (collects after.watching) b.own begins.begins (banks-free layout [] new cpu 0 empty_banks list longer after.banks serves.rows_are empty-free) (record {
+    own-fits = begins-fits layout new (at_number cpu (n + 1)) next copied after.banks (collects after.watching) b.own begins.begins (banks-acted layout [] new cpu 0 empty_banks list longer after.banks serves.rows_are empty-free) (record {
       on_turn = next-turn new cpu n (ap (λ (h : Hand). h.bodies) now.known.hand_is) now.known.on_turn;
       hand_is = now.known.hand_is;
       paid = ap (λ (d : Debts). d.losses) unowing;
       made = later-none (n + 1) (omega arith);
       unmarked = unmarked-starts new cpu (n + 1) now.way.listed;
-      left = setting-left list longer new policies (omega (arith, few, within, number));
-      revivals = revival-left layout new cpu list longer after.banks serves.rows_are noting (omega (arith, few, within, number));
-    }) (handle-known layout new cpu list longer after.handles b.own serves.numbers serves.handles_are (omega (arith, within, number)) begins.handle)
+      left = setting-left layout list longer new policies (omega (arith, are.few, within, number));
+      revivals = revival-left layout new cpu list longer after.banks serves.rows_are noting (omega (arith, are.few, within, number));
+    }) (handle-known layout new cpu list longer after.handles b.own serves.numbers serves.handles_are (omega (arith, within, number)) begins.handle) forks-so
 
     -- what is of the commands so far is of them and the next one
     later : {A : Type 0} (by : A → Who) (l : List A) → EachMember (λ (x : A). IsOneOf cpu (n + 1) (by x)) l → EachMember (λ (x : A). IsOneOf cpu (n + 1 + 1) (by x)) l
     later by l each i x is = ((each i x is).0, (let less = (each i x is).1 in omega (arith, less)))
 
-    way : IsUnderWay layout new cpu list longer (local_left b after) next b
+    way : IsUnderWay layout new cpu list longer (local_left b after) next copied b
     way = record {
-      serves = subst (λ (l : Banks). Serves layout new cpu list longer l after.handles) (sym (before-begins layout (at_number cpu (n + 1)) next after.banks (collects after.watching) b.own begins.begins)) serves;
-      there = subst (λ (i : ℕ). slice_get list i ≡ Some next) (sym number) there;
-      runs = subst (λ (i : ℕ). Runs layout (at_number cpu i) next b.own) (sym number) (begins-runs layout (at_number cpu (n + 1)) next after.banks (collects after.watching) b.own begins.begins);
+      serves = subst (λ (l : Banks). Serves layout new cpu list longer l after.handles after.cows) (sym (before-begins layout (at_number cpu (n + 1)) next copied after.banks (collects after.watching) b.own begins.begins)) serves;
+      next = comes;
+      runs = subst (λ (i : ℕ). Runs layout (at_number cpu i) next copied b.own) (sym number) (begins-runs layout (at_number cpu (n + 1)) next copied after.banks (collects after.watching) b.own begins.begins);
       handle = begins.handle;
-      policies = counted-starts (λ (thread : Thread). settings thread (answers_by list longer)) new b.own start policies;
+      policies = counted-starts (λ (thread : Thread). settings layout thread (answers_by list longer)) new b.own start policies;
       stopped = λ some. (inl start, untold-at-start b.own start);
       looked = inl (inl start, untold-at-start b.own start);
       stops = λ i who is. inl (stops i who is);
@@ -264,11 +334,12 @@ module _ (layout : Layout) (new : View) (cpu : Cpu) (list : List Command) (rows 
 
     begun : courses.Fits layout new b × (IsRunning layout new cpu list longer (local_left b after) b ⊎ GivesUp layout new cpu list longer b)
     begun = (
-      course-begins layout new (at_number cpu (n + 1)) next after b begins own-fits (of-machine layout (watched_at layout list longer (length longer)) after.watching watching-now),
+      course-begins layout new (at_number cpu (n + 1)) next copied after b begins own-fits (of-machine layout (watched_at layout list longer (length longer)) after.watching watching-now),
       inl (record {
         command = next;
+        copies = copied;
         way = way;
-        on = subst (GoesOn layout new cpu list longer (local_left b after) next b) (sym (ap (λ (d : Course). d.beside) begins.is)) (own-starts layout new next b after.watching begins.is start own-fits);
+        on = subst (GoesOn layout new cpu list longer (local_left b after) next copied b) (sym (ap (λ (d : Course). d.beside) begins.is)) (own-starts layout new next copied b after.watching begins.is start own-fits (subst (HasMadeNone new) (sym (begins-who layout (at_number cpu (n + 1)) next copied after.banks (collects after.watching) b.own begins.begins)) (later-none (n + 1) (omega arith))));
       }),
     )
 

@@ -1,4 +1,5 @@
 -- A course fits at its beginning: its own task does, and no frame is due.
+use Rattle.hwp_cpu_course.specs.hwp_cpu_row.hwp_geom.declared.VSlot.{VSlot}
 use Rattle.std.proofs.Common.{Option, ap, true, arith, subst, length, None, refl, sym, Some, ◌≡◌, ◌∙◌, []}
 use Rattle.hwp_cpu_course.specs.hwp_cpu_row.hwp_core_rule.declared.View.{View}
 use Rattle.hwp_cpu_course.specs.Courses.{IsOfMachine, begin, BeginsCourse, FitsOwn, HasPassed}
@@ -33,10 +34,11 @@ start-unanswered j start = which (jobs.answer j) refl
 -- an access whose processor collects knows that, and has told of no event
 passed-none : (watching : Option Watching) (j : Job) → IsTold (collects watching) j → IsAtStop j → collects watching ≡ true → HasPassed j 0
 passed-none watching (kinds.Instruction i) told start on = (told ∙ on, λ goes. sym (ap length (untold-at-start (kinds.Instruction i) start)))
+passed-none watching (kinds.Copying y) told start on = (told ∙ on, λ goes. sym (ap length (untold-at-start (kinds.Copying y) start)))
 passed-none watching _ told start on = tt
 
-pub course-begins : (layout : Layout) (view : View) (who : Who) (command : Command) (local : Local) (c : Course) → BeginsCourse layout who command local c → jobs.FitsFrom [] layout view c.own → IsOfMachine layout local.watching → courses.Fits layout view c
-course-begins layout view who command local c begins fits of = subst (courses.Fits layout view) (sym begins.is) (record {
+pub course-begins : (layout : Layout) (view : View) (who : Who) (command : Command) (copies : Option VSlot) (local : Local) (c : Course) → BeginsCourse layout who command copies local c → jobs.FitsFrom [] layout view c.own → IsOfMachine layout local.watching → courses.Fits layout view c
+course-begins layout view who command copies local c begins fits of = subst (courses.Fits layout view) (sym begins.is) (record {
   frames_are = refl;
   collector = of;
   noted = omega arith;
@@ -51,8 +53,8 @@ course-begins layout view who command local c begins fits of = subst (courses.Fi
   });
 })
   where
-    begun : HasBegun layout who command local.banks (collects local.watching) c.own
-    begun = has-begun layout who command local.banks (collects local.watching) c.own begins.begins
+    begun : HasBegun layout who command copies local.banks (collects local.watching) c.own
+    begun = has-begun layout who command copies local.banks (collects local.watching) c.own begins.begins
 
     start : IsAtStop c.own
     start = begun.start

@@ -1,11 +1,11 @@
 -- A processor fits at its beginning, stays the processor that it is, and has served its commands at its end.
+use Rattle.std.specs.Arc.{arc_value}
 use Rattle.std.proofs.Common.{◌≡◌, ℕ, ◌<◌, ◌≤◌, ◌⊎◌, inl, inr, List, [], Option, Some, None, length, map, option_map, sym, ap, ◌∙◌, subst, arith}
 use Rattle.std.proofs.lemmas.Bool.{cases_lt}
 use Rattle.std.proofs.lemmas.List.{get_or_past, length-map}
 use Rattle.std.proofs.lemmas.Option.{get_or_from_slice_get}
 use Rattle.hwp_cpu_course.specs.hwp_cpu_row.hwp_geom.declared.Cpu.{Cpu}
 use Rattle.hwp_cpu_course.specs.hwp_cpu_row.hwp_geom.declared.Layout.{Layout}
-use Rattle.hwp_cpu_course.specs.hwp_cpu_row.hwp_geom.Limits.{command_limit}
 use Rattle.hwp_cpu_course.specs.hwp_cpu_row.hwp_page.History.{BodyValue}
 use Rattle.hwp_cpu_course.specs.hwp_cpu_row.hwp_script_lines.declared.Command.{Command}
 use Rattle.hwp_cpu_course.specs.hwp_cpu_row.hwp_report_text.declared.Answer.{Answer}
@@ -19,9 +19,9 @@ use Rattle.hwp_cpu_course.proofs.of_hwp_cpu_row.of_hwp_core_rule.Lists.{at_map}
 use Rattle.hwp_cpu_course.proofs.of_hwp_cpu_row.of_hwp_core_rule.WordsOpen.{below-at, length-below}
 use Rattle.hwp_cpu_course.specs.hwp_cpu_row.hwp_core_task.declared.Turn.{Turn}
 use Rattle.hwp_cpu_course.specs.hwp_cpu_row.hwp_core_task.Boards.{AreSeated, view_of}
-use Rattle.hwp_cpu_causes.specs.hwp_law_served.Served.{IsServed}
+use Rattle.hwp_cpu_causes.specs.hwp_law_served.Served.{HasServed}
 use Rattle.hwp_cpu.specs.declared.processor.Processor.{Processor}
-use Rattle.hwp_cpu.specs.Processors.{AtBeginning, Follows, Next, NextOf, bare, who}
+use Rattle.hwp_cpu.specs.Processors.{AreCommands, AtBeginning, Follows, Next, NextOf, bare, who}
 use Rattle.hwp_cpu.specs.Serving.{Fits, FitsAt}
 use Rattle.hwp_cpu.proofs.ProcessorOpens.{begun}
 use Rattle.hwp_cpu.proofs.ProcessorServes.{served}
@@ -48,8 +48,11 @@ opening-fits layout cpu list p at = subst (λ (v : View). Fits layout v p) (sym 
       (subst (λ (l : List Command). FitsAt layout (opening_view cpu.0) cpu l p.rows.items p.local p.course) (sym at.commands_are)
       (subst (λ (l : List Row). FitsAt layout (opening_view cpu.0) cpu list l p.local p.course) (sym at.no_row)
       (subst (λ (l : Local). FitsAt layout (opening_view cpu.0) cpu list [] l p.course) (sym at.local_is)
-      (begun layout cpu list (subst (λ (l : List Command). length l ≤ command_limit) at.commands_are at.ready.commands.few) at.first at.is_first p.course at.begins))));
+      (begun layout cpu list commands at.first at.is_first p.course at.begins))));
 })
+  where
+    commands : AreCommands layout cpu list
+    commands = subst (λ (l : Layout). AreCommands l cpu list) at.layout_is (subst (λ (c : Cpu). AreCommands (arc_value p.layout) c list) at.cpu_is (subst (AreCommands (arc_value p.layout) p.cpu) at.commands_are at.ready.commands))
 
 -- its commands are those of the processor
 fits-own : (layout : Layout) (view : View) (p : Processor) → Fits layout view p → (who p).cpu ≡ p.cpu
@@ -74,6 +77,6 @@ next-keeps layout p after found got turn next = which (option_map courses.bare p
 -- ---- the end
 
 pub served-of : (layout : Layout) (last : State) (seat : Cpu → ℕ) → Holds layout last → AreSeated layout last seat → (p : Processor) → p.cpu.0 < layout.cpus
-    → Fits layout (view_of last (seat p.cpu)) p → p.course ≡ None → IsServed layout (view_of last (seat p.cpu)) p.cpu p.commands p.rows.items
+    → Fits layout (view_of last (seat p.cpu)) p → p.course ≡ None → HasServed layout (view_of last (seat p.cpu)) p.cpu p.commands p.rows.items
 served-of layout last seat holds seated p inside fits none =
     served layout last seat holds seated p.cpu inside p.commands p.rows.items p.local (subst (FitsAt layout (view_of last (seat p.cpu)) p.cpu p.commands p.rows.items p.local) none fits.at)

@@ -1,16 +1,19 @@
 -- What a command comes to where its own task rests: the next frame is taken out of use, or its own task goes on, or its answer is the
 -- command's.
+use Rattle.hwp_cpu_course.specs.hwp_cpu_command.Runs.{Runs}
+use Rattle.hwp_cpu_causes.specs.Beside.{IsOwnServed}
+use Rattle.hwp_cpu_course.specs.hwp_cpu_row.hwp_geom.declared.VSlot.{VSlot}
 use Rattle.hwp_cpu.proofs.Rows.{past-end}
 use Rattle.std.proofs.Common.{arith, inl, subst, ◌≡◌, refl, true, length, ◌<◌, not, ◌≤◌, slice_get, ap, List, ◌⊎◌, false, is_some, ℕ, None, Some, inr, Option, sym, ◌∙◌, nat_lt}
 use Rattle.hwp_cpu_course.specs.hwp_cpu_row.hwp_core_rule.declared.View.{View}
 use Rattle.hwp_cpu_course.specs.hwp_cpu_row.hwp_law_commands.Commands.{is_kernels}
 use Rattle.hwp_cpu.proofs.BesideTurns.{at_rest, own-behind, told-behind, begins-beside, HasNotedAll, goes-behind, way-behind, taken-few}
-use Rattle.hwp_cpu.proofs.Collecting.{collect-fails, collect-left, collect-numbers, collect-halted}
+use Rattle.hwp_cpu.proofs.Collecting.{collects-plain, collect-fails, collect-left, collect-numbers, collect-halted}
 use Rattle.hwp_cpu_course.specs.Dues.{next_due}
 use Rattle.hwp_cpu_course.specs.hwp_cpu_command.Jobs.{told_of}
 use Rattle.hwp_cpu.proofs.OwnRests.{HoldsNone, answer-known, AnswerKnown}
 use Rattle.std.proofs.lemmas.List.{take_all, length-map}
-use Rattle.hwp_cpu.specs.Serving.{KeepsWatch, noting, IsUnderWay, HasAnswered, noted_by, IsRunning, IsPaused, GivesUp, OwnGoesOn, Rests}
+use Rattle.hwp_cpu.specs.Serving.{Pauses, KeepsWatch, noting, IsUnderWay, HasAnswered, noted_by, IsRunning, IsPaused, GivesUp, OwnGoesOn, Rests}
 use Rattle.hwp_cpu_course.specs.hwp_cpu_row.declared.Offlining.{Offlining}
 use Rattle.hwp_cpu_causes.specs.hwp_law_served.Offlinings.{watched_at, left_beside}
 use Rattle.hwp_cpu_causes.specs.hwp_law_served.Causes.{IsAnswerCaused}
@@ -63,8 +66,9 @@ complete-off layout view who list watched c off keeps =
 -- the command is answered so, and all comes to its row
 pub record IsEnding (layout : Layout) (view : View) (cpu : Cpu) (list : List Command) (rows : List Row) (local : Local) (c : Course) (a : Answer) : Type 0 where
   pub command : Command
-  pub way : IsUnderWay layout view cpu list rows local command c
-  pub known : AnswerKnown layout view cpu list rows local command c a
+  pub copies : Option VSlot
+  pub way : IsUnderWay layout view cpu list rows local command copies c
+  pub known : AnswerKnown layout view cpu list rows local command copies c a
   pub none : c.beside ≡ None
   pub all : length c.due.offlined ≡ length c.due.frames
   pub complete : IsComplete layout (watched_at layout list rows (length rows)) c
@@ -81,10 +85,10 @@ none-left layout view who list watched c keeps none =
     omega arith
 
 -- its own task has its answer, and no frame comes next
-module _ (layout : Layout) (view : View) (cpu : Cpu) (list : List Command) (rows : List Row) (local : Local) (command : Command) (c : Course) (way : IsUnderWay layout view cpu list rows local command (at_rest c)) (a : Answer)
-    (known : AnswerKnown layout view cpu list rows local command (at_rest c) a) (complete : IsComplete layout (watched_at layout list rows (length rows)) (at_rest c)) (none : next_due c.due ≡ None) where
+module _ (layout : Layout) (view : View) (cpu : Cpu) (list : List Command) (rows : List Row) (local : Local) (command : Command) (copies : Option VSlot) (c : Course) (way : IsUnderWay layout view cpu list rows local command copies (at_rest c)) (a : Answer)
+    (known : AnswerKnown layout view cpu list rows local command copies (at_rest c) a) (complete : IsComplete layout (watched_at layout list rows (length rows)) (at_rest c)) (none : next_due c.due ≡ None) where
   ending : IsEnding layout view cpu list rows local (at_rest c) a
-  ending = record { command = command; way = way; known = known; none = refl; all = none-left layout view (at_number cpu (length rows)) list (watched_at layout list rows (length rows)) (at_rest c) way.collected none; complete = complete }
+  ending = record { command = command; copies = copies; way = way; known = known; none = refl; all = none-left layout view (at_number cpu (length rows)) list (watched_at layout list rows (length rows)) (at_rest c) way.collected none; complete = complete }
 
   same-own : jobs.resume c.own ≡ c.own
   same-own = answered-resumes c.own (ap is_some known.answered)
@@ -92,7 +96,7 @@ module _ (layout : Layout) (view : View) (cpu : Cpu) (list : List Command) (rows
   pub ends-now : Turned layout view cpu list rows local (going_on c None) (answer (going_on c None))
   ends-now = subst (λ (j : Job). Turned layout view cpu list rows local (record c { own = j; beside = None }) (jobs.answer j)) (sym same-own) (subst (λ (o : Option Answer). Turned layout view cpu list rows local (at_rest c) o) (sym known.answered) ending)
 
-module _ (layout : Layout) (view : View) (cpu : Cpu) (list : List Command) (rows : List Row) (local : Local) (command : Command) (c : Course) (way : IsUnderWay layout view cpu list rows local command (at_rest c)) (holds : HoldsNone view (at_number cpu (length rows)) (at_rest c))
+module _ (layout : Layout) (view : View) (cpu : Cpu) (list : List Command) (rows : List Row) (local : Local) (command : Command) (copies : Option VSlot) (c : Course) (way : IsUnderWay layout view cpu list rows local command copies (at_rest c)) (holds : HoldsNone view (at_number cpu (length rows)) (at_rest c))
     (rests : Rests layout view cpu list rows local command c.own) (noted : HasNotedAll c) (pages : EachMember (λ (f : Frame). is_for_pages layout f ≡ true) c.due.frames) where
   abbrev at : Who
   at = at_number cpu (length rows)
@@ -101,57 +105,64 @@ module _ (layout : Layout) (view : View) (cpu : Cpu) (list : List Command) (rows
   watched = watched_at layout list rows (length rows)
 
   -- the answer is as it was before the frames
-  known-after : (has : HasAnswered layout view cpu list rows local command c.own) → AnswerKnown layout view cpu list rows local command (at_rest c) has.answer
+  known-after : (has : HasAnswered layout view cpu list rows local command c.own) → AnswerKnown layout view cpu list rows local command copies (at_rest c) has.answer
   known-after has = record {
     answered = has.answered;
-    served = has.served;
+    served = subst (λ (o : Option VSlot). IsOwnServed layout (answers_by list rows) o view at command c.own has.answer local.banks) (sym plain) has.served;
     does = has.does;
-    failed = way.account.failed (collect-fails layout at command c.own way.runs has.collects);
+    failed = way.account.failed (collect-fails layout at command c.own plain-runs has.collects);
     on_turn = holds.on_turn;
     hand_is = holds.hand_is;
     paid = holds.paid;
     unowed = holds.unowed;
     left = holds.left ∙ ap (λ (o : Option At). cons_option o (left_beside c.due.offlined)) (sym (collect-left command has.answer has.collects));
-    numbers = λ file inside. collect-numbers layout view at command c.own has.answer local.handles file (number_at file list rows (length rows)) way.runs has.collects (way.serves.handles_are.each file inside);
+    numbers = λ file inside. collect-numbers layout view at command c.own has.answer local.handles file (number_at file list rows (length rows)) plain-runs has.collects (way.serves.handles_are.each file inside);
     halted = λ stopped. collect-halted layout (answers_by list rows) view at command (told_of c.own) (jobs.own_of c.own) has.collects (subst (IsAnswerCaused layout (answers_by list rows) view at command (told_of c.own) (jobs.own_of c.own)) stopped has.served.caused);
   }
+    where
+      -- such a command copies nothing
+      plain : copies ≡ None
+      plain = collects-plain layout at command copies c.own way.runs has.collects
+
+      plain-runs : Runs layout at command None c.own
+      plain-runs = subst (λ (o : Option VSlot). Runs layout at command o c.own) plain way.runs
 
   all-noted : told_notes layout (told_of c.own) ≡ noted_by layout (at_rest c)
   all-noted = ap (told_notes layout) (sym (take_all c.noted (told_of c.own) (omega (arith, noted))))
 
   -- behind a pause
-  behind : IsPaused layout view at command c.own → next_due c.due ≡ None → Turned layout view cpu list rows local (going_on c None) (answer (going_on c None))
+  behind : Pauses layout view at command c.own → next_due c.due ≡ None → Turned layout view cpu list rows local (going_on c None) (answer (going_on c None))
   behind paused none = by (jobs.answer (jobs.resume c.own)) refl
     where
       running : IsRunning layout view cpu list rows local (going_on c None)
-      running = goes-behind layout view cpu list rows local command c way holds paused noted none
+      running = goes-behind layout view cpu list rows local command copies c way holds paused noted none
 
-      own : OwnGoesOn layout view command (going_on c None)
-      own = own-behind layout view cpu list rows local command c way holds paused noted none
+      own : OwnGoesOn layout view command copies (going_on c None)
+      own = own-behind layout view cpu list rows local command copies c way holds paused noted none
 
-      way-now : IsUnderWay layout view cpu list rows local command (going_on c None)
-      way-now = way-behind layout view cpu list rows local command c way holds paused noted none
+      way-now : IsUnderWay layout view cpu list rows local command copies (going_on c None)
+      way-now = way-behind layout view cpu list rows local command copies c way holds paused noted none
 
       by : (o : Option Answer) → jobs.answer (jobs.resume c.own) ≡ o → Turned layout view cpu list rows local (going_on c None) o
       by None is = inl running
       by (Some a) is = record {
-        command = command;
+        command = command; copies = copies;
         way = way-now;
-        known = answer-known layout view cpu list rows local command (going_on c None) way-now own.base own.fits own.prior own.left a is;
+        known = answer-known layout view cpu list rows local command copies (going_on c None) way-now own.base own.fits own.prior own.left a is;
         none = refl;
         all = own.all;
-        complete = complete-by layout view at list watched (going_on c None) way-now.collected (ap (told_notes layout) (sym (take_all c.noted (told_of (jobs.resume c.own)) (let same : length (told_of (jobs.resume c.own)) ≡ length (told_of c.own) = ap length (told-behind layout view cpu list rows local command c way holds paused noted none) in omega (arith, noted, same)))));
+        complete = complete-by layout view at list watched (going_on c None) way-now.collected (ap (told_notes layout) (sym (take_all c.noted (told_of (jobs.resume c.own)) (let same : length (told_of (jobs.resume c.own)) ≡ length (told_of c.own) = ap length (told-behind layout view cpu list rows local command copies c way holds paused noted none) in omega (arith, noted, same)))));
       }
 
   pub go-on : (after : Course) (turn : Turn) → IsGoingOn c after turn → Turned layout view cpu list rows local after (answer after)
   go-on after turn (after_is, turn_is) = subst (λ (d : Course). Turned layout view cpu list rows local d (answer d)) (sym after_is) (which (next_due c.due) refl)
     where
       which : (o : Option Frame) → next_due c.due ≡ o → Turned layout view cpu list rows local (going_on c o) (answer (going_on c o))
-      which (Some frame) is = inl (begins-beside layout view cpu list rows local command c way holds rests noted frame is (within (length c.due.offlined) frame is))
+      which (Some frame) is = inl (begins-beside layout view cpu list rows local command copies c way holds rests noted frame is (within (length c.due.offlined) frame is))
         where
           within : (n : ℕ) (f : Frame) → slice_get c.due.frames n ≡ Some f → f.0 < layout.frames
           within n f there = ltb-true f.0 layout.frames (and_parts (nat_lt f.0 layout.frames) (not (is_kernels layout f)) (pages n f there)).0
       which None none = elim rests [
         | inl paused ↦ behind paused none
-        | inr has ↦ ends-now layout view cpu list rows local command c way has.answer (known-after has) (complete-by layout view at list watched (at_rest c) way.collected all-noted) none
+        | inr has ↦ ends-now layout view cpu list rows local command copies c way has.answer (known-after has) (complete-by layout view at list watched (at_rest c) way.collected all-noted) none
       ]

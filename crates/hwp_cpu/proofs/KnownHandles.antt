@@ -1,4 +1,5 @@
 -- The number of each handle of a processor is 0, or a step of the processor showed so many losses of the file.
+use Rattle.hwp_cpu_course.specs.hwp_cpu_row.hwp_law_commands.Cows.{acting}
 use Rattle.std.proofs.Common.{◌≡◌, ◌⊎◌, inl, inr, ℕ, zero, suc, ◌+◌, ◌<◌, ◌≤◌, ◌==◌, Bool, true, false, cond, List, [], Option, Some, None, length, slice_get, replicate, refl, sym, ap, ◌∙◌, subst, arith}
 use Rattle.std.specs.Prelude.{unwrap_or}
 use Rattle.std.proofs.lemmas.List.{length-set, length-replicate}
@@ -82,3 +83,12 @@ zeros-at (suc n) (suc i) less = zeros-at n i (omega (arith, less))
 
 pub numbers-first : (layout : Layout) (list : List Command) → AreNumbered layout list [] (replicate layout.files 0)
 numbers-first layout list = record { many = length-replicate layout.files 0; each = λ file inside. zeros-at layout.files file.0 inside }
+
+-- a command is acted on by the same answers as to handles
+pub number-acted : (layout : Layout) (earlier : List (Command × Answer)) (file : FileNo) (n : ℕ) (own : Command) (a : Answer) → number_by file n (acting layout earlier own) a ≡ number_by file n own a
+number-acted layout earlier file n (commands.Load thread slot line) a = refl
+number-acted layout earlier file n own a = refl
+
+pub tells-acted : (layout : Layout) (earlier : List (Command × Answer)) (file : FileNo) (own : Command) (a : Answer) → tells_number file (acting layout earlier own) a ≡ tells_number file own a
+tells-acted layout earlier file (commands.Load thread slot line) a = refl
+tells-acted layout earlier file own a = refl

@@ -4,8 +4,8 @@ use Rattle.hwp_cpu_course.specs.hwp_cpu_row.hwp_geom.declared.Who.{Who}
 use Rattle.hwp_cpu_course.specs.hwp_cpu_command.declared.job.Job.{Job}
 use Rattle.hwp_cpu_course.specs.hwp_cpu_row.hwp_core_rule.declared.View.{View}
 use Rattle.hwp_cpu_causes.specs.hwp_law_served.hwp_page.declared.At.{At}
-use Rattle.std.proofs.Common.{refl, ◌≡◌, Option, ap, ◌++◌, subst, sym, Some, List, ◌∙◌, []}
-use Rattle.hwp_cpu_course.proofs.of_hwp_cpu_command.OfKind.{of-evict, of-scrub, of-instruction, of-soft, of-fsync, of-raise, of-spoil, of-unpoison, of-prctl, of-inject, of-nested, of-log}
+use Rattle.std.proofs.Common.{refl, ◌≡◌, Option, None, ap, ◌++◌, subst, sym, Some, List, ◌∙◌, []}
+use Rattle.hwp_cpu_course.proofs.of_hwp_cpu_command.OfKind.{of-evict, of-fork, of-scrub, of-instruction, of-soft, of-fsync, of-raise, of-spoil, of-unpoison, of-prctl, of-inject, of-nested, of-log}
 use Rattle.hwp_cpu_causes.specs.Beside.{ArePrior}
 use Rattle.hwp_cpu_course.specs.hwp_cpu_row.hwp_geom.declared.Layout.{Layout}
 use Rattle.hwp_cpu_course.specs.hwp_cpu_row.hwp_core_rule.declared.Made.{Made}
@@ -28,8 +28,8 @@ use Rattle.hwp_cpu_course.specs.hwp_cpu_command.hwp_soft.declared.SoftAnswer.The
 
 module _ (layout : Layout) (view : View) (who : Who) (j : Job) (a : Answer) (base : List Made) (fits : jobs.FitsFrom base layout view j) (has : jobs.answer j ≡ Some a) where
   -- of another command
-  plain : (command : Command) {k : Job} → Runs layout who command j → j ≡ k → IsNoSoft k → left_by who view ≡ left_among base
-  plain command {k} runs is apart = subst (λ (w : Who). left_by w view ≡ left_among base) (runs-who layout who command j runs) (left-answered base layout view j (subst IsNoSoft (sym is) apart) fits has)
+  plain : (command : Command) {k : Job} → Runs layout who command None j → j ≡ k → IsNoSoft k → left_by who view ≡ left_among base
+  plain command {k} runs is apart = subst (λ (w : Who). left_by w view ≡ left_among base) (runs-who layout who command None j runs) (left-answered base layout view j (subst IsNoSoft (sym is) apart) fits has)
 
   itself : (frame : Frame) (x : SoftAnswer) → moved_at x ≡ left_itself (commands.Soft frame) (soft_answer x)
   itself frame soft_answers.Stopped = refl
@@ -41,8 +41,8 @@ module _ (layout : Layout) (view : View) (who : Who) (j : Job) (a : Answer) (bas
   itself frame (soft_answers.Moved to place cycle) = refl
 
   -- and of that one
-  own-page : (frame : Frame) → Runs layout who (commands.Soft frame) j → base ≡ [] → left_by who view ≡ cons_option (left_itself (commands.Soft frame) a) (left_among base)
-  own-page frame runs none = subst (λ (w : Who). left_by w view ≡ cons_option (left_itself (commands.Soft frame) a) (left_among base)) (sym (ap jobs.who task.1) ∙ runs-who layout who (commands.Soft frame) j runs)
+  own-page : (frame : Frame) → Runs layout who (commands.Soft frame) None j → base ≡ [] → left_by who view ≡ cons_option (left_itself (commands.Soft frame) a) (left_among base)
+  own-page frame runs none = subst (λ (w : Who). left_by w view ≡ cons_option (left_itself (commands.Soft frame) a) (left_among base)) (sym (ap jobs.who task.1) ∙ runs-who layout who (commands.Soft frame) None j runs)
       (left-moved task.0 came.0 (subst (jobs.FitsFrom base layout view) task.1 fits) came.1
       ∙ ap (λ (b : List Made). left_among b ++ cons_option (moved_at came.0) []) none
       ∙ ap (λ (o : Option At). cons_option o []) (itself frame came.0 ∙ ap (left_itself (commands.Soft frame)) came.2)
@@ -54,7 +54,8 @@ module _ (layout : Layout) (view : View) (who : Who) (j : Job) (a : Answer) (bas
       came : (x : SoftAnswer) × (softs.answer task.0 ≡ Some x) × (soft_answer x ≡ a)
       came = mapped soft_answer (softs.answer task.0) (sym (ap jobs.answer task.1) ∙ has)
 
-  pub left-command : (command : Command) → Runs layout who command j → ArePrior layout command base → left_by who view ≡ cons_option (left_itself command a) (left_among base)
+  -- where it copies nothing
+  pub left-command : (command : Command) → Runs layout who command None j → ArePrior layout command base → left_by who view ≡ cons_option (left_itself command a) (left_among base)
   left-command (commands.Load thread slot line) runs prior = plain (commands.Load thread slot line) runs (of-instruction j runs.job_is).1 tt
   left-command (commands.Fetch thread slot line) runs prior = plain (commands.Fetch thread slot line) runs (of-instruction j runs.job_is).1 tt
   left-command (commands.KLoad thread slot line) runs prior = plain (commands.KLoad thread slot line) runs (of-instruction j runs.job_is).1 tt
@@ -66,6 +67,7 @@ module _ (layout : Layout) (view : View) (who : Who) (j : Job) (a : Answer) (bas
   left-command (commands.Fsync file) runs prior = plain (commands.Fsync file) runs (of-fsync j runs.2).1 tt
   left-command (commands.Open file) runs prior = plain (commands.Open file) runs (of-fsync j runs.2).1 tt
   left-command (commands.Prctl thread args) runs prior = plain (commands.Prctl thread args) runs (of-prctl j runs.job_is).1 tt
+  left-command (commands.Fork thread child) runs prior = plain (commands.Fork thread child) runs (of-fork j runs.job_is).1 tt
   left-command (commands.Bad frame line) runs prior = plain (commands.Bad frame line) runs (of-spoil j runs.job_is).1 tt
   left-command (commands.Weak frame line) runs prior = plain (commands.Weak frame line) runs (of-spoil j runs.job_is).1 tt
   left-command (commands.Scrub first last) runs prior = plain (commands.Scrub first last) runs (of-scrub j runs.job_is).1 tt

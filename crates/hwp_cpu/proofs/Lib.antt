@@ -1,6 +1,8 @@
 pub mod Rows
 pub mod KnownHandles
 pub mod KnownPolicies
+pub mod ActingFits
+pub mod FreshChildren
 pub mod EachKind
 pub mod ProcessorNotes
 pub mod Revivals
@@ -8,6 +10,7 @@ pub mod ProcessorKeeps
 pub mod CommandBegins
 pub mod Marks
 pub mod Collected
+pub mod CopyLeaves
 pub mod OwnLines
 pub mod LeftCommand
 pub mod OwnRests

@@ -1,4 +1,14 @@
 -- The command's own task goes on, pauses behind a machine check, or has its answer.
+use Rattle.hwp_cpu_course.specs.hwp_cpu_command.hwp_cpu_copy.declared.Copying.{Copying}
+use Rattle.hwp_cpu_course.specs.hwp_cpu_command.hwp_cpu_copy.Copyings as copyings
+use Rattle.hwp_cpu_course.specs.hwp_cpu_command.hwp_cpu_copy.Fits as copying_fits
+use Rattle.hwp_cpu_course.specs.hwp_cpu_command.hwp_fault.declared.Request.{Request}
+use Rattle.hwp_cpu_course.proofs.of_hwp_cpu_command.of_hwp_cpu_copy.CopyResting as copy-resting
+use Rattle.hwp_cpu_course.proofs.of_hwp_cpu_command.of_hwp_cpu_copy.CopyLaws.{own-after}
+use Rattle.hwp_cpu.proofs.CopyLeaves.{copy-leaves}
+use Rattle.hwp_cpu.proofs.Collecting.{access-plain, copy-kind, copy-leaves-none, left-plain}
+use Rattle.hwp_cpu_course.specs.hwp_cpu_row.hwp_page.declared.At.{At}
+use Rattle.hwp_cpu_course.specs.hwp_cpu_row.hwp_geom.declared.VSlot.{VSlot}
 use Rattle.hwp_cpu_course.proofs.of_hwp_cpu_command.JobEnds.{ends}
 use Rattle.hwp_cpu_causes.proofs.RowServed.{own-does, own-served}
 use Rattle.hwp_cpu_causes.proofs.LeftBeside.{left-paused}
@@ -6,12 +16,12 @@ use Rattle.hwp_cpu_causes.proofs.OnTheWay.{on-the-way, runs-access}
 use Rattle.hwp_cpu_course.proofs.of_hwp_cpu_command.of_hwp_cpu_access.InstructionLaws.{paused}
 use Rattle.hwp_cpu_course.proofs.of_hwp_cpu_command.of_hwp_cpu_access.Resting.{rests}
 use Rattle.hwp_cpu_course.proofs.of_hwp_cpu_command.JobLaws as jobbing
-use Rattle.hwp_cpu.specs.Serving.{IsUnderWay, HasToldAll, IsPaused, OwnGoesOn}
+use Rattle.hwp_cpu.specs.Serving.{HasCopyPaused, left_so_far, IsUnderWay, HasToldAll, IsPaused, OwnGoesOn}
 use Rattle.hwp_cpu_course.specs.hwp_cpu_row.declared.Local.{Local}
-use Rattle.std.proofs.Common.{◌<◌, length, is_some, Some, subst, sym, true, ap, ◌≡◌, List, ◌∙◌, [], ℕ}
+use Rattle.std.proofs.Common.{Option, None, ◌<◌, length, is_some, Some, subst, sym, true, ap, ◌≡◌, List, ◌∙◌, [], ℕ}
 use Rattle.hwp_cpu_course.specs.hwp_cpu_command.hwp_cpu_access.declared.Instruction.{Instruction}
 use Rattle.hwp_cpu_course.specs.hwp_cpu_command.FileHandles.{handles_after}
-use Rattle.hwp_cpu_causes.specs.Beside.{IsOwnServed, ArePrior, DoesSo}
+use Rattle.hwp_cpu_causes.specs.Beside.{IsOwnServed, ArePriorWith, DoesSo}
 use Rattle.hwp_cpu_course.specs.hwp_cpu_command.Stays.{IsHalted, Stepped}
 use Rattle.hwp_cpu_causes.proofs.HandleNumbers.{IsNumbered, numbered}
 use Rattle.hwp_cpu_causes.specs.hwp_law_served.Accounts.{failures}
@@ -38,7 +48,7 @@ use Rattle.hwp_cpu.proofs.LeftCommand.{left-command}
 use Rattle.hwp_cpu_course.specs.hwp_cpu_row.hwp_core_rule.declared.View.{View}
 use Rattle.hwp_cpu_course.proofs.of_hwp_cpu_command_laws.CommandStops.{stopped-halts}
 use Rattle.hwp_cpu_course.specs.declared.Course.{Course}
-use Rattle.hwp_cpu_course.proofs.of_hwp_cpu_command_laws.Beside.{paused-unmarked, paused-unowed}
+use Rattle.hwp_cpu_course.proofs.of_hwp_cpu_command_laws.Beside.{IsAtPause, job-at-pause, paused-unmarked, paused-unowed}
 use Rattle.hwp_cpu_course.specs.hwp_cpu_row.hwp_core_task.Hands.{hand_of, empty}
 use Rattle.hwp_cpu_course.proofs.of_hwp_cpu_command_laws.CommandDeeds.{unowed-at-end}
 use Rattle.hwp_cpu_course.specs.hwp_cpu_command.Runs.{Runs}
@@ -50,15 +60,37 @@ use Rattle.hwp_cpu_course.specs.hwp_cpu_command.hwp_cpu_access.Fits as instructi
 
 -- ---- it goes on
 
-module _ (layout : Layout) (old new : View) (command : Command) (c : Course) (k : Job) (on : OwnGoesOn layout old command c) (made : Stepped layout old new c.own k) (base_is : made.base ≡ on.base) where
+module _ (layout : Layout) (old new : View) (command : Command) (copies : Option VSlot) (c : Course) (k : Job) (on : OwnGoesOn layout old command copies c) (made : Stepped layout old new c.own k) (base_is : made.base ≡ on.base) where
   abbrev next : Course
   next = record c { own = k }
 
   pub fits-still : jobs.FitsFrom on.base layout new k
   fits-still = subst (λ (b : List Made). jobs.FitsFrom b layout new k) base_is ((jobbing.stays made.base layout old new c.own made.step made.found made.got made.fits made.planned made.made).1 k made.turn made.follows).0
 
-  pub own-on : (noted : ℕ) → HasToldAll c.watching k noted → OwnGoesOn layout new command (record next { noted = noted })
-  own-on noted told = record { base = on.base; fits = fits-still; prior = on.prior; left = on.left; all = on.all; told = told }
+  -- the pages that left frames beside it are the same
+  pub left-still : left_so_far on.base new k ≡ left_beside c.due.offlined
+  left-still = by c.own refl on.left made.follows
+    where
+      by : (j : Job) → c.own ≡ j → left_so_far on.base old j ≡ left_beside c.due.offlined → jobs.Next layout (jobs.bare j) made.found made.got k made.turn → left_so_far on.base new k ≡ left_beside c.due.offlined
+      by (kinds.Copying y) own left next =
+          let came : (z : Copying) × (k ≡ kinds.Copying z) × (z.store ≡ y.store) = (next.0, next.1, own-after layout y made.found made.got next.0 made.turn next.2) in
+          ap (left_so_far on.base new) came.1 ∙ ap (λ (r : Request). left_by r.who new) came.2 ∙ copy-leaves layout old new y k (subst (λ (j : Job). Stepped layout old new j k) own made) ∙ left
+      by (kinds.Instruction i) own left next = ap (left_so_far on.base new) next.1 ∙ left
+      by (kinds.Evict e) own left next = ap (left_so_far on.base new) next.1 ∙ left
+      by (kinds.Fsync g) own left next = ap (left_so_far on.base new) next.0 ∙ left
+      by (kinds.Prctl p) own left next = ap (left_so_far on.base new) next.0 ∙ left
+      by (kinds.Fork g) own left next = ap (left_so_far on.base new) next.0 ∙ left
+      by (kinds.Log l) own left next = ap (left_so_far on.base new) next.0 ∙ left
+      by (kinds.Raise r) own left next = ap (left_so_far on.base new) next.1 ∙ left
+      by (kinds.Scrub s) own left next = ap (left_so_far on.base new) next.1 ∙ left
+      by (kinds.Spoil s) own left next = ap (left_so_far on.base new) next.0 ∙ left
+      by (kinds.Nested n) own left next = ap (left_so_far on.base new) next.0 ∙ left
+      by (kinds.Inject i) own left next = ap (left_so_far on.base new) next.1 ∙ left
+      by (kinds.Soft s) own left next = ap (left_so_far on.base new) next.1 ∙ left
+      by (kinds.Unpoison u) own left next = ap (left_so_far on.base new) next.0 ∙ left
+
+  pub own-on : (noted : ℕ) → HasToldAll c.watching k noted → OwnGoesOn layout new command copies (record next { noted = noted })
+  own-on noted told = record { base = on.base; fits = fits-still; prior = on.prior; left = left-still; all = on.all; told = told }
 
 -- ---- it rests
 
@@ -72,16 +104,20 @@ pub record HoldsNone (view : View) (who : Who) (c : Course) : Type 0 where
   pub left : left_by who view ≡ left_beside c.due.offlined
 
 -- an access pauses
-module _ (layout : Layout) (view : View) (who : Who) (command : Command) (c : Course) (runs : Runs layout who command c.own) (base : List Made) (fits : jobs.FitsFrom base layout view c.own) (prior : ArePrior layout command base) (left : left_among base ≡ left_beside c.due.offlined)
+module _ (layout : Layout) (view : View) (who : Who) (command : Command) (copies : Option VSlot) (c : Course) (runs : Runs layout who command copies c.own) (base : List Made) (fits : jobs.FitsFrom base layout view c.own) (prior : ArePriorWith layout command copies base) (left : left_so_far base view c.own ≡ left_beside c.due.offlined)
     (i : Instruction) (is : c.own ≡ kinds.Instruction i) (p : Pause) (paused_is : instructions.pause i ≡ Some p) where
   named : i.request.who ≡ who
-  named = sym (ap jobs.who is) ∙ runs-who layout who command c.own runs
+  named = sym (ap jobs.who is) ∙ runs-who layout who command copies c.own runs
 
   own-fits : instruction_fits.FitsFrom base layout view i
   own-fits = subst (jobs.FitsFrom base layout view) is fits
 
   pauses-now : jobs.pauses c.own ≡ true
   pauses-now = ap jobs.pauses is ∙ ap is_some paused_is
+
+  -- it copies nothing
+  plain : copies ≡ None
+  plain = access-plain layout who command copies c.own runs i is
 
   pub pause-known : IsPaused layout view who command c.own
   pause-known = record {
@@ -90,7 +126,7 @@ module _ (layout : Layout) (view : View) (who : Who) (command : Command) (c : Co
     pause = p;
     paused = paused_is;
     rests = rests i p own-fits paused_is;
-    met = on-the-way base layout view c.own (runs-access layout who command c.own runs pauses-now) fits prior pauses-now;
+    met = on-the-way base layout view c.own (runs-access layout who command c.own (subst (λ (o : Option VSlot). Runs layout who command o c.own) plain runs) pauses-now) fits (subst (λ (o : Option VSlot). ArePriorWith layout command o base) plain prior) pauses-now;
   }
 
   pub pause-holds : HoldsNone view who c
@@ -100,14 +136,45 @@ module _ (layout : Layout) (view : View) (who : Who) (command : Command) (c : Co
     paid = (paused i p own-fits paused_is).paid;
     unowed = ap owed_now is ∙ paused-unowed i paused_is;
     beyond = ap marked_beyond is ∙ paused-unmarked i paused_is;
-    left = subst (λ (w : Who). left_by w view ≡ left_beside c.due.offlined) named (left-paused i p own-fits paused_is ∙ left);
+    left = subst (λ (w : Who). left_by w view ≡ left_beside c.due.offlined) named (left-paused i p own-fits paused_is ∙ sym (ap (left_so_far base view) is) ∙ left);
+  }
+
+-- a copy pauses
+module _ (layout : Layout) (view : View) (who : Who) (command : Command) (copies : Option VSlot) (c : Course) (runs : Runs layout who command copies c.own) (fits : jobs.FitsFrom [] layout view c.own) (left : left_so_far [] view c.own ≡ left_beside c.due.offlined)
+    (y : Copying) (is : c.own ≡ kinds.Copying y) (p : Pause) (paused_is : copyings.pause y ≡ Some p) where
+  copy-fits : copying_fits.FitsFrom [] layout view y
+  copy-fits = subst (jobs.FitsFrom [] layout view) is fits
+
+  copy-who : y.store.who ≡ who
+  copy-who = sym (ap jobs.who is) ∙ runs-who layout who command copies c.own runs
+
+  resting : copying_fits.IsResting [] layout view y p
+  resting = copy-resting.rests y p copy-fits paused_is
+
+  pub copy-known : HasCopyPaused layout view c.own
+  copy-known = record { copying = y; is = is; pause = p; paused = paused_is; rests = resting }
+
+  still : IsAtPause c.own
+  still = job-at-pause c.own (ap jobs.pauses is ∙ ap is_some paused_is)
+
+  access : copying_fits.IsAccessing [] layout view y copy-fits.runs
+  access = subst (copying_fits.FitsAt [] layout view y copy-fits.runs) (copy-resting.at-pause y paused_is).0 copy-fits.at
+
+  pub copy-holds : HoldsNone view who c
+  copy-holds = record {
+    on_turn = subst (IsOnTurn view) copy-who copy-fits.on_turn;
+    hand_is = (paused y.instruction p access.instruction (copy-resting.at-pause y paused_is).1).hand_is;
+    paid = (paused y.instruction p access.instruction (copy-resting.at-pause y paused_is).1).paid;
+    unowed = still.unowed;
+    beyond = still.unmarked;
+    left = subst (λ (w : Who). left_by w view ≡ left_beside c.due.offlined) copy-who (sym (ap (left_so_far [] view) is) ∙ left);
   }
 
 -- it has its answer
-pub record AnswerKnown (layout : Layout) (view : View) (cpu : Cpu) (list : List Command) (rows : List Row) (local : Local) (command : Command) (c : Course) (a : Answer) : Type 0 where
+pub record AnswerKnown (layout : Layout) (view : View) (cpu : Cpu) (list : List Command) (rows : List Row) (local : Local) (command : Command) (copies : Option VSlot) (c : Course) (a : Answer) : Type 0 where
   pub answered : jobs.answer c.own ≡ Some a
-  pub served : IsOwnServed layout (answers_by list rows) view (at_number cpu (length rows)) command c.own a local.banks
-  pub does : DoesSo command c.own a
+  pub served : IsOwnServed layout (answers_by list rows) copies view (at_number cpu (length rows)) command c.own a local.banks
+  pub does : DoesSo layout (answers_by list rows) command c.own a
   pub failed : failures (at_number cpu (length rows)) view ≡ failed_now c.own
   pub on_turn : IsOnTurn view (at_number cpu (length rows))
   pub hand_is : hand_of view ≡ empty
@@ -117,25 +184,33 @@ pub record AnswerKnown (layout : Layout) (view : View) (cpu : Cpu) (list : List 
   pub numbers : (file : FileNo) → file.0 < layout.files → IsNumbered layout view (at_number cpu (length rows)) command a file (number_at file list rows (length rows)) (handles_after c.own local.handles)
   pub halted : a ≡ answers.Stopped → IsHalted view
 
-module _ (layout : Layout) (view : View) (cpu : Cpu) (list : List Command) (rows : List Row) (local : Local) (command : Command) (c : Course) (way : IsUnderWay layout view cpu list rows local command c) (base : List Made) (fits : jobs.FitsFrom base layout view c.own)
-    (prior : ArePrior layout command base) (left : left_among base ≡ left_beside c.due.offlined) (a : Answer) (has : jobs.answer c.own ≡ Some a) where
+module _ (layout : Layout) (view : View) (cpu : Cpu) (list : List Command) (rows : List Row) (local : Local) (command : Command) (copies : Option VSlot) (c : Course) (way : IsUnderWay layout view cpu list rows local command copies c) (base : List Made) (fits : jobs.FitsFrom base layout view c.own)
+    (prior : ArePriorWith layout command copies base) (left : left_so_far base view c.own ≡ left_beside c.due.offlined) (a : Answer) (has : jobs.answer c.own ≡ Some a) where
   abbrev at : Who
   at = at_number cpu (length rows)
 
   owner : jobs.who c.own ≡ at
-  owner = runs-who layout at command c.own way.runs
+  owner = runs-who layout at command copies c.own way.runs
 
-  pub answer-known : AnswerKnown layout view cpu list rows local command c a
+  pub answer-known : AnswerKnown layout view cpu list rows local command copies c a
   answer-known = record {
     answered = has;
-    served = own-served layout (answers_by list rows) view at command c.own base local.banks way.runs fits prior has way.policies local.handles way.handle;
-    does = own-does layout view at command c.own base way.runs fits prior has;
-    failed = failed-end base layout view at command c.own a way.runs fits prior has way.account.failed way.account.losses;
+    served = own-served layout (answers_by list rows) copies view at command c.own base local.banks way.runs fits prior has way.policies local.handles way.handle;
+    does = own-does layout (answers_by list rows) copies view at command c.own base way.runs fits prior has way.policies;
+    failed = failed-end base layout view at command copies c.own a way.runs fits prior has way.account.failed way.account.losses;
     on_turn = subst (IsOnTurn view) owner (on-turn base layout view c.own fits);
     hand_is = (ends base layout view c.own fits has).0;
-    paid = no-loss base layout view at command c.own a way.runs fits prior has way.account.failed way.account.losses;
+    paid = no-loss base layout view at command copies c.own a way.runs fits prior has way.account.failed way.account.losses;
     unowed = unowed-at-end c.own has;
-    left = left-command layout view at c.own a base fits has command way.runs prior ∙ ap (cons_option (left_itself command a)) left;
-    numbers = λ file inside. numbered base layout view at c.own fits has local.handles file (number_at file list rows (length rows)) (way.serves.handles_are.each file inside) command way.runs way.handle;
+    left = left-answered-so copies way.runs prior left;
+    numbers = λ file inside. numbered base layout view at c.own fits has local.handles file (number_at file list rows (length rows)) (way.serves.handles_are.each file inside) command copies way.runs way.handle;
     halted = λ stopped. stopped-halts base layout view c.own fits (has ∙ ap (λ (x : Answer). Some x) stopped);
   }
+    where
+      -- of a copy the view tells it itself
+      left-answered-so : (o : Option VSlot) → Runs layout at command o c.own → ArePriorWith layout command o base → left_so_far base view c.own ≡ left_beside c.due.offlined → left_by at view ≡ cons_option (left_itself command a) (left_beside c.due.offlined)
+      left-answered-so None runs plain left = left-command layout view at c.own a base fits has command runs plain ∙ ap (cons_option (left_itself command a)) (sym (left-plain layout at command c.own runs base view) ∙ left)
+      left-answered-so (Some from) runs none left =
+          let copy = copy-kind layout at command from c.own runs in
+          let own : copy.0.store.who ≡ at = sym (ap jobs.who copy.1) ∙ runs-who layout at command (Some from) c.own runs in
+          subst (λ (w : Who). left_by w view ≡ left_beside c.due.offlined) own (sym (ap (left_so_far base view) copy.1) ∙ left) ∙ ap (λ (l : Option At). cons_option l (left_beside c.due.offlined)) (sym (copy-leaves-none layout at command from c.own a runs))

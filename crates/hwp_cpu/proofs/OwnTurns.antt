@@ -1,10 +1,14 @@
 -- A turn of a command's own task.
+use Rattle.hwp_cpu_course.specs.hwp_cpu_command.hwp_cpu_copy.declared.Copying.{Copying}
+use Rattle.hwp_cpu_course.specs.hwp_cpu_command.Runs.{Runs}
+use Rattle.hwp_cpu_course.specs.hwp_cpu_row.hwp_core_rule.declared.Made.{Made}
+use Rattle.hwp_cpu_course.specs.hwp_cpu_row.hwp_geom.declared.VSlot.{VSlot}
 use Rattle.std.proofs.Common.{zero, ◌++◌, ◌<◌, Some, ◌≡◌, refl, length, ◌≤◌, sym, arith, true≢false, subst, ◌≢◌, ◌==◌, None, inl, ◌&&◌, Option, List, suc, append-nil, ◌⊎◌, inr, true, ℕ, drop, Bool, false, ap, filter_map, ◌∙◌, [], nat_lt}
 use Rattle.hwp_cpu_course.specs.hwp_cpu_row.hwp_core_rule.Lists.{EachMember}
-use Rattle.hwp_cpu.specs.Serving.{noted_by, GoesOn, task, marked_so_far, IsUnderWay, marked_beside, KeepsWatch, OwnGoesOn, HasToldAll}
-use Rattle.hwp_cpu.proofs.OwnRests.{pause-holds, answer-known, own-on, HoldsNone, AnswerKnown, pause-known, fits-still}
+use Rattle.hwp_cpu.specs.Serving.{left_so_far, noted_by, GoesOn, task, marked_so_far, IsUnderWay, marked_beside, KeepsWatch, OwnGoesOn, HasToldAll}
+use Rattle.hwp_cpu.proofs.OwnRests.{copy-holds, copy-known, left-still, pause-holds, answer-known, own-on, HoldsNone, AnswerKnown, pause-known, fits-still}
 use Rattle.hwp_cpu_course.specs.Courses.{going_on, answer, part_of, IsGoingOn, told_since, AfterCollecting, AfterCollectingBy, AfterRest, AfterRestBy, FitsOf, FitsOwn, HasRefused, IsGoing, answer_of, has_more, rests, AfterOwnIf, AfterOwnBy, AfterOwn, passed}
-use Rattle.hwp_cpu_causes.specs.Beside.{CanCollect}
+use Rattle.hwp_cpu_causes.specs.Beside.{ArePriorWith, CanCollect}
 use Rattle.hwp_cpu_course.specs.hwp_cpu_row.Locals.{collects}
 use Rattle.std.specs.List.{cons_option}
 use Rattle.hwp_cpu_course.specs.hwp_cpu_row.hwp_core_rule.declared.View.{View}
@@ -21,11 +25,11 @@ use Rattle.hwp_cpu_course.specs.declared.Course.{Course}
 use Rattle.hwp_cpu_course.specs.hwp_cpu_row.Acts.{acts, told_notes}
 use Rattle.hwp_cpu_course.specs.hwp_cpu_command.Done.{HasCounted, marked_beyond}
 use Rattle.hwp_cpu_course.specs.hwp_cpu_command.declared.job.Job.{Job}
-use Rattle.hwp_cpu.proofs.OwnLines.{none-told, is_access, own-notes, rests-so, goes-so, own-unnoted}
+use Rattle.hwp_cpu.proofs.OwnLines.{HasPause, none-told, is_access, own-notes, rests-so, goes-so, own-unnoted}
 use Rattle.hwp_cpu_causes.specs.hwp_law_served.hwp_page.declared.At.{At}
 use Rattle.hwp_cpu_course.specs.hwp_cpu_row.hwp_geom.declared.Layout.{Layout}
 use Rattle.std.proofs.lemmas.List.{nil_from_length, take_all}
-use Rattle.hwp_cpu.proofs.Collecting.{collect-left, tells-kind}
+use Rattle.hwp_cpu.proofs.Collecting.{IsAccess, plain-copies, collect-left, tells-kind}
 use Rattle.hwp_cpu.proofs.Collected.{keeps-same, by-collector, keeps-noted}
 use Rattle.hwp_cpu_course.specs.hwp_cpu_row.hwp_geom.declared.Who.{Who}
 use Rattle.hwp_cpu_course.proofs.of_hwp_cpu_command.JobEnds.{answered-over}
@@ -78,7 +82,7 @@ more-pages layout new after turn d e same follows rule = subst (EachMember (λ (
     after-frames : after.due.frames ≡ e.due.frames
     after-frames = ap (λ (x : Course). x.due.frames) follows.0 ∙ which (next_due d.due) ∙ ap (λ (x : Course). x.due.frames) same
 
-module _ (layout : Layout) (old new : View) (cpu : Cpu) (list : List Command) (rows : List Row) (local : Local) (command : Command) (c : Course) (k : Job) (way : IsUnderWay layout old cpu list rows local command c) (on : OwnGoesOn layout old command c)
+module _ (layout : Layout) (old new : View) (cpu : Cpu) (list : List Command) (rows : List Row) (local : Local) (command : Command) (copies : Option VSlot) (c : Course) (k : Job) (way : IsUnderWay layout old cpu list rows local command copies c) (on : OwnGoesOn layout old command copies c)
     (rule : courses.Fits layout old c) (beside_is : c.beside ≡ None) (made : Stepped layout old new c.own k) (base_is : made.base ≡ on.base) where
   abbrev at : Who
   at = at_number cpu (length rows)
@@ -89,11 +93,14 @@ module _ (layout : Layout) (old new : View) (cpu : Cpu) (list : List Command) (r
   abbrev next : Course
   next = record c { own = k }
 
-  way-next : IsUnderWay layout new cpu list rows local command next
-  way-next = way-own layout old new cpu list rows local command c k way made beside_is
+  way-next : IsUnderWay layout new cpu list rows local command copies next
+  way-next = way-own layout old new cpu list rows local command copies c k way made beside_is
 
   fits-next : jobs.FitsFrom on.base layout new k
   fits-next = fits-still layout old new command c k on made base_is
+
+  left-next : left_so_far on.base new k ≡ left_beside c.due.offlined
+  left-next = left-still layout old new command copies c k on made base_is
 
   -- its own task goes on
   going : IsGoing layout old c
@@ -114,10 +121,10 @@ module _ (layout : Layout) (old new : View) (cpu : Cpu) (list : List Command) (r
     abbrev past : Course
     past = record next { noted = noted }
 
-    way-past : IsUnderWay layout new cpu list rows local command past
+    way-past : IsUnderWay layout new cpu list rows local command copies past
     way-past = record {
       serves = way-next.serves;
-      there = way-next.there;
+      next = way-next.next;
       runs = way-next.runs;
       handle = way-next.handle;
       policies = way-next.policies;
@@ -135,11 +142,11 @@ module _ (layout : Layout) (old new : View) (cpu : Cpu) (list : List Command) (r
     turned-past = subst (λ (o : Option Soft). Turned layout new cpu list rows local past (answer_of o k)) (sym beside_is) (by (jobs.answer k) refl)
       where
         by : (o : Option Answer) → jobs.answer k ≡ o → Turned layout new cpu list rows local past o
-        by None is = inl (record { command = command; way = way-past; on = subst (GoesOn layout new cpu list rows local command past) (sym beside_is) (own-on layout old new command c k on made base_is noted told) })
+        by None is = inl (record { command = command; copies = copies; way = way-past; on = subst (GoesOn layout new cpu list rows local command copies past) (sym beside_is) (own-on layout old new command c k on made base_is noted told) })
         by (Some a) is = record {
-          command = command;
+          command = command; copies = copies;
           way = way-past;
-          known = answer-known layout new cpu list rows local command past way-past on.base fits-next on.prior on.left a is;
+          known = answer-known layout new cpu list rows local command copies past way-past on.base fits-next on.prior left-next a is;
           none = beside_is;
           all = on.all;
           complete = complete a is;
@@ -168,9 +175,11 @@ module _ (layout : Layout) (old new : View) (cpu : Cpu) (list : List Command) (r
 
           all-told : (j : Job) → is_access j ≡ true → HasToldAll c.watching j (length (told_of j))
           all-told (kinds.Instruction i) is = λ on_now. refl
+          all-told (kinds.Copying y) is = λ on_now. refl
           all-told (kinds.Evict e) is = absurd (true≢false (sym is))
           all-told (kinds.Fsync f) is = absurd (true≢false (sym is))
           all-told (kinds.Prctl p) is = absurd (true≢false (sym is))
+          all-told (kinds.Fork g) is = absurd (true≢false (sym is))
           all-told (kinds.Log l) is = absurd (true≢false (sym is))
           all-told (kinds.Raise r) is = absurd (true≢false (sym is))
           all-told (kinds.Scrub s) is = absurd (true≢false (sym is))
@@ -195,10 +204,10 @@ module _ (layout : Layout) (old new : View) (cpu : Cpu) (list : List Command) (r
       marks : marked_so_far (at_rest d) ≡ marked_so_far next
       marks = ap (λ (o : Option Soft). filter_map act_marking (acts (told_of k) c.due.offlined) ++ (marked_beyond k ++ marked_beside o)) (sym beside_is)
 
-      rest-way : IsUnderWay layout new cpu list rows local command (at_rest d)
+      rest-way : IsUnderWay layout new cpu list rows local command copies (at_rest d)
       rest-way = record {
         serves = way-next.serves;
-        there = way-next.there;
+        next = way-next.next;
         runs = way-next.runs;
         handle = way-next.handle;
         policies = way-next.policies;
@@ -230,10 +239,10 @@ module _ (layout : Layout) (old new : View) (cpu : Cpu) (list : List Command) (r
       holds-rest : HoldsNone new at next → HoldsNone new at (at_rest d)
       holds-rest has = record { on_turn = has.on_turn; hand_is = has.hand_is; paid = has.paid; unowed = has.unowed; beyond = has.beyond; left = has.left }
 
-      known-next : (a : Answer) → jobs.answer k ≡ Some a → AnswerKnown layout new cpu list rows local command next a
-      known-next a is = answer-known layout new cpu list rows local command next way-next on.base fits-next on.prior on.left a is
+      known-next : (a : Answer) → jobs.answer k ≡ Some a → AnswerKnown layout new cpu list rows local command copies next a
+      known-next a is = answer-known layout new cpu list rows local command copies next way-next on.base fits-next on.prior left-next a is
 
-      known-rest : (a : Answer) → jobs.answer k ≡ Some a → AnswerKnown layout new cpu list rows local command (at_rest d) a
+      known-rest : (a : Answer) → jobs.answer k ≡ Some a → AnswerKnown layout new cpu list rows local command copies (at_rest d) a
       known-rest a is = let has = known-next a is in record {
         answered = has.answered;
         served = has.served;
@@ -249,18 +258,19 @@ module _ (layout : Layout) (old new : View) (cpu : Cpu) (list : List Command) (r
       }
 
       rest-due : (a : Answer) → jobs.answer k ≡ Some a → is_access k ≡ false → (frame : Frame) → next_due d.due ≡ Some frame → CanCollect command × (told_of k ≢ [])
-      rest-due a is other frame comes = which (tells-kind layout at command k way-next.runs)
+      rest-due a is other frame comes = which (tells-kind layout at command copies k way-next.runs)
         where
           nothing-due : told_notes layout (told_since next) ≡ [] → ⊥
           nothing-due none = let within : length c.due.offlined < length f = slice_get_within f (length c.due.offlined) frame comes in
               let few : length f ≡ length c.due.frames = ap length (alone none) in let all : length c.due.offlined ≡ length c.due.frames = on.all in omega (arith, within, few, all)
 
-          unnoted : (i : Instruction) → k ≡ kinds.Instruction i → told_notes layout (told_since next) ≡ []
-          unnoted i task = absurd (true≢false (ap is_access (sym task) ∙ other))
+          unnoted : IsAccess k → told_notes layout (told_since next) ≡ []
+          unnoted (inl task) = absurd (true≢false (ap is_access (sym task.1) ∙ other))
+          unnoted (inr task) = absurd (true≢false (ap is_access (sym task.1) ∙ other))
 
-          which : CanCollect command ⊎ (((i : Instruction) × (k ≡ kinds.Instruction i)) ⊎ (told_of k ≡ [])) → CanCollect command × (told_of k ≢ [])
+          which : CanCollect command ⊎ (IsAccess k ⊎ (told_of k ≡ [])) → CanCollect command × (told_of k ≢ [])
           which (inl can) = (can, λ none. nothing-due (dropped-none layout c.noted (told_of k) none))
-          which (inr (inl task)) = absurd (nothing-due (unnoted task.0 task.1))
+          which (inr (inl task)) = absurd (nothing-due (unnoted task))
           which (inr (inr none)) = absurd (nothing-due (dropped-none layout c.noted (told_of k) none))
 
       -- so the command goes on
@@ -271,7 +281,7 @@ module _ (layout : Layout) (old new : View) (cpu : Cpu) (list : List Command) (r
           by-frame a is other (Some frame) comes =
               let so = rest-due a is other frame comes in
               let known = known-next a is in
-              go-on layout new cpu list rows local command d rest-way
+              go-on layout new cpu list rows local command copies d rest-way
               (holds-rest (record {
                 on_turn = known.on_turn;
                 hand_is = known.hand_is;
@@ -282,12 +292,21 @@ module _ (layout : Layout) (old new : View) (cpu : Cpu) (list : List Command) (r
               }))
               (inr (record { answer = a; answered = is; collects = so.0; some = so.1; served = known.served; does = known.does })) is_all pages after turn follows
           by-frame a is other None comes = subst (λ (x : Course). Turned layout new cpu list rows local x (answer x)) (sym (follows.0 ∙ ap (going_on d) comes))
-              (ends-now layout new cpu list rows local command d rest-way a (known-rest a is)
+              (ends-now layout new cpu list rows local command copies d rest-way a (known-rest a is)
               (complete-by layout new at list watched (at_rest d) rest-way.collected (ap (told_notes layout) (sym (take_all n (told_of k) (omega (arith, is_all)))))) comes)
 
-          which : ((i : Instruction) × (p : Pause) × (k ≡ kinds.Instruction i) × (instructions.pause i ≡ Some p)) ⊎ ((is_access k ≡ false) × ((a : Answer) × (jobs.answer k ≡ Some a))) → Turned layout new cpu list rows local after (answer after)
-          which (inl (i, p, task, paused)) = go-on layout new cpu list rows local command d rest-way (holds-rest (pause-holds layout new at command next way-next.runs on.base fits-next on.prior on.left i task p paused))
-              (inl (pause-known layout new at command next way-next.runs on.base fits-next on.prior on.left i task p paused)) is_all pages after turn follows
+          base-none : (o : Option VSlot) → ArePriorWith layout command o on.base → Runs layout at command o k → (y : Copying) → k ≡ kinds.Copying y → on.base ≡ []
+          base-none (Some from) prior runs y task = prior
+          base-none None prior runs y task = absurd (plain-copies layout at command k runs y task)
+
+          which : HasPause k ⊎ ((is_access k ≡ false) × ((a : Answer) × (jobs.answer k ≡ Some a))) → Turned layout new cpu list rows local after (answer after)
+          which (inl (inl (i, p, task, paused))) = go-on layout new cpu list rows local command copies d rest-way (holds-rest (pause-holds layout new at command copies next way-next.runs on.base fits-next on.prior left-next i task p paused))
+              (inl (inl (pause-known layout new at command copies next way-next.runs on.base fits-next on.prior left-next i task p paused))) is_all pages after turn follows
+          which (inl (inr (y, p, task, paused))) =
+              let none : on.base ≡ [] = base-none copies on.prior way-next.runs y task in
+              let fits : jobs.FitsFrom [] layout new k = subst (λ (b : List Made). jobs.FitsFrom b layout new k) none fits-next in
+              let left : left_so_far [] new k ≡ left_beside c.due.offlined = subst (λ (b : List Made). left_so_far b new k ≡ left_beside c.due.offlined) none left-next in
+              go-on layout new cpu list rows local command copies d rest-way (holds-rest (copy-holds layout new at command copies next way-next.runs fits left y task p paused)) (inl (inr (copy-known layout new at command copies next way-next.runs fits left y task p paused))) is_all pages after turn follows
           which (inr (other, (a, is))) = by-frame a is other (next_due d.due) refl
 
     -- the frames so far are for pages
@@ -316,9 +335,9 @@ module _ (layout : Layout) (old new : View) (cpu : Cpu) (list : List Command) (r
         refused more (after_is, turn_is) = subst (λ (x : Course). Turned layout new cpu list rows local x (answer x)) (sym after_is)
             (subst (λ (o : Option Soft). Turned layout new cpu list rows local (record next { own = jobs.give_up k }) (answer_of o (jobs.give_up k))) (sym beside_is)
             (subst (λ (o : Option Answer). Turned layout new cpu list rows local (record next { own = jobs.give_up k }) o) (sym (given-up-unanswered (jobs.give_up k) up)) (inr (record {
-              command = command;
-              there = way-next.there;
-              runs = runs-alike layout at command k (jobs.give_up k) (give-up-goes k) way-next.runs;
+              command = command; copies = copies;
+              next = way-next.next;
+              runs = runs-alike layout at command copies k (jobs.give_up k) (give-up-goes k) way-next.runs;
               up = up;
               none = beside_is;
             }))))

@@ -1,4 +1,6 @@
 -- A processor comes to an end: each turn that doesn't wait lowers what is left.
+use Rattle.hwp_cpu_course.specs.hwp_cpu_row.hwp_geom.declared.VSlot.{VSlot}
+use Rattle.hwp_cpu_course.specs.hwp_cpu_row.CowLists.{acting_in, copied_in}
 use Rattle.hwp_cpu_course.proofs.CourseCosts as course-costs
 use Rattle.hwp_cpu_course.proofs.CourseCosts.{course-below}
 use Rattle.std.proofs.Common.{◌≡◌, ◌≢◌, ℕ, ◌+◌, ◌-◌, ◌*◌, ◌<◌, ◌≤◌, ◌⊎◌, inl, inr, true, false, List, [], ◌∷◌, Option, Some, None, length, option_map, slice_get, refl, sym, ap, ◌∙◌, subst, arith, cond, Bool}
@@ -25,9 +27,9 @@ use Rattle.hwp_cpu_course.specs.hwp_cpu_command.Jobs as jobs
 use Rattle.hwp_cpu_course.proofs.of_hwp_cpu_command_laws.Below.{begins-few}
 use Rattle.hwp_cpu_course.proofs.of_hwp_cpu_command_laws.CommandRuns.{has-begun}
 use Rattle.hwp_cpu.specs.declared.processor.Processor.{Processor}
-use Rattle.hwp_cpu.specs.Processors.{BeginsAt, Follows, IsAnswered, NextOf, aborts, aborts_of, at_number, bare, claims, claims_of, class, class_of, cost, cost_of, plan, plan_of, put_of, who_of}
+use Rattle.hwp_cpu.specs.Processors.{carried_on, BeginsAt, Follows, IsAnswered, NextOf, aborts, aborts_of, at_number, bare, claims, claims_of, class, class_of, cost, cost_of, plan, plan_of, put_of, who_of}
 use Rattle.hwp_cpu.specs.Serving.{Fits, FitsAt, task}
-use Rattle.hwp_cpu_course.specs.Courses.{local_after, part_of, BeginsCourse, part, row_of, gives_up}
+use Rattle.hwp_cpu_course.specs.Courses.{part_of, BeginsCourse, part, row_of, gives_up}
 use Rattle.hwp_cpu_course.specs.hwp_cpu_row.hwp_core_rule.declared.View.{View}
 use Rattle.hwp_cpu_course.specs.hwp_cpu_command.hwp_soft.declared.Soft.{Soft}
 use Rattle.hwp_cpu_course.specs.hwp_cpu_row.hwp_core_rule.declared.Step.{Step}
@@ -40,11 +42,11 @@ use Rattle.hwp_cpu_course.specs.hwp_cpu_command.declared.job.Job.TheVariants as 
 -- ---- one command
 
 -- one that begins has few turns, holds nothing and claims nothing
-begun-cost : (layout : Layout) (a : State) → Holds layout a → (by : Who) (command : Command) (local : Local) (c : Course) → BeginsCourse layout by command local c → courses.cost c (words_at layout a) < command_weight
-begun-cost layout a rule by command local c begins = subst (λ (o : Option Soft). courses.cost_of c o (words_at layout a) < command_weight) (sym (ap (λ (d : Course). d.beside) begins.is)) (which (jobs.plan c.own))
+begun-cost : (layout : Layout) (a : State) → Holds layout a → (by : Who) (command : Command) (copies : Option VSlot) (local : Local) (c : Course) → BeginsCourse layout by command copies local c → courses.cost c (words_at layout a) < command_weight
+begun-cost layout a rule by command copies local c begins = subst (λ (o : Option Soft). courses.cost_of c o (words_at layout a) < command_weight) (sym (ap (λ (d : Course). d.beside) begins.is)) (which (jobs.plan c.own))
   where
-    few : jobs.cost c.own (words_at layout a) < 4 * failure_weight
-    few = begins-few layout a by command local.banks (collects local.watching) c.own rule begins.begins
+    few : jobs.cost c.own (words_at layout a) < 131 * failure_weight
+    few = begins-few layout a by command copies local.banks (collects local.watching) c.own rule begins.begins
 
     flat-few : (j : Job) → courses.flat j ≤ courses.soft_weight * courses.due_room
     flat-few (kinds.Raise r) = omega arith
@@ -53,7 +55,7 @@ begun-cost layout a rule by command local c begins = subst (λ (o : Option Soft)
 
     up : (b : Bool) → cond b 2 (jobs.cost c.own (words_at layout a) + courses.flat c.own + 3) < command_weight
     up true = omega arith
-    up false = let less : jobs.cost c.own (words_at layout a) < 4 * failure_weight = few in let most : courses.flat c.own ≤ courses.soft_weight * courses.due_room = flat-few c.own in omega (arith, less, most)
+    up false = let less : jobs.cost c.own (words_at layout a) < 131 * failure_weight = few in let most : courses.flat c.own ≤ courses.soft_weight * courses.due_room = flat-few c.own in omega (arith, less, most)
 
     which : (o : Option Step) → courses.own_cost c.own o (words_at layout a) < command_weight
     which None = omega arith
@@ -61,7 +63,7 @@ begun-cost layout a rule by command local c begins = subst (λ (o : Option Soft)
 
 begun-idle : (layout : Layout) (a : State) → Holds layout a → (by : Who) (o : Option Command) (local : Local) (x : Option Course) → BeginsAt layout by o local x → (cost_of x (words_at layout a) < command_weight) × (class_of x ≡ 4) × (claims_of x ≡ None)
 begun-idle layout a rule by (Some command) local (Some c) begins = (
-  begun-cost layout a rule by command local c begins,
+  begun-cost layout a rule by (acting_in layout local.cows command) (copied_in local.cows command) local c begins,
   subst (λ (b : Option Soft). jobs.class (part_of b c.own) ≡ 4) (sym alone) idle.0,
   subst (λ (b : Option Soft). jobs.claims (part_of b c.own) ≡ None) (sym alone) idle.1,
 )
@@ -70,15 +72,15 @@ begun-idle layout a rule by (Some command) local (Some c) begins = (
     alone = ap (λ (d : Course). d.beside) begins.is
 
     idle : (jobs.class c.own ≡ 4) × (jobs.claims c.own ≡ None)
-    idle = (has-begun layout by command local.banks (collects local.watching) c.own begins.begins).idle
+    idle = (has-begun layout by (acting_in layout local.cows command) (copied_in local.cows command) local.banks (collects local.watching) c.own begins.begins).idle
 begun-idle layout a rule by None local None begins = (omega arith, refl, refl)
 begun-idle layout a rule by (Some command) local None begins = absurd begins
 begun-idle layout a rule by None local (Some c) begins = absurd begins
 
 -- the command that runs is one of the processor
 known-within : (layout : Layout) (view : View) (cpu : Cpu) (list : List Command) (rows : List Row) (local : Local) (c : Course) → FitsAt layout view cpu list rows local (Some c) → length rows < length list
-known-within layout view cpu list rows local c (rule, inl run) = slice_get_within list (length rows) run.command run.way.there
-known-within layout view cpu list rows local c (rule, inr up) = slice_get_within list (length rows) up.command up.there
+known-within layout view cpu list rows local c (rule, inl run) = slice_get_within list (length rows) run.command run.way.next.there
+known-within layout view cpu list rows local c (rule, inr up) = slice_get_within list (length rows) up.command up.next.there
 
 -- ---- a turn
 
@@ -96,8 +98,8 @@ module _ {layout : Layout} {seat : ℕ} {a b : State} {p q : Processor} {turn : 
 
   -- where the command that ran was answered, the next one is at its beginning, or all are over
   answered-idle : (k : Course) (answer : Answer) → IsAnswered (bare p) k answer q → (cost_of q.course (words_at layout b) < command_weight) × (class q ≡ 4) × (claims q ≡ None)
-  answered-idle k answer answered = begun-idle layout b made.kept (at_number p.cpu (length rows + 1)) (slice_get p.commands (length rows + 1)) (local_after k answer p.local) q.course
-      (subst (λ (l : Layout). BeginsAt l (at_number p.cpu (length rows + 1)) (slice_get p.commands (length rows + 1)) (local_after k answer p.local) q.course) made.fits.layout_is answered.begins)
+  answered-idle k answer answered = begun-idle layout b made.kept (at_number p.cpu (length rows + 1)) (slice_get p.commands (length rows + 1)) (carried_on p k answer) q.course
+      (subst (λ (l : Layout). BeginsAt l (at_number p.cpu (length rows + 1)) (slice_get p.commands (length rows + 1)) (carried_on p k answer) q.course) made.fits.layout_is answered.begins)
 
   -- and this is left
   answered-falls : (c k : Course) (answer : Answer) → FitsAt layout (view_of a seat) p.cpu p.commands rows p.local (Some c) → IsAnswered (bare p) k answer q → cost q (words_at layout b) < command_weight * (length p.commands - length rows)

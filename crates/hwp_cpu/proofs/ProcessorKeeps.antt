@@ -1,4 +1,6 @@
 -- A step of the command that runs leaves what the processor keeps.
+use Rattle.hwp_cpu_course.specs.hwp_cpu_row.hwp_law_commands.Cows.{Cow}
+use Rattle.hwp_cpu_course.specs.hwp_cpu_row.hwp_geom.declared.VSlot.{VSlot}
 use Rattle.hwp_cpu_causes.proofs.BesideKeeps.{offlinings-stay}
 use Rattle.std.proofs.Common.{◌≡◌, ◌≢◌, ℕ, ◌⊎◌, inl, inr, false, List, [], Some, length, slice_get, refl, subst, sym, ap, ◌∙◌, arith, None, ◌<◌, map, Option, append-nil}
 use Rattle.std.proofs.lemmas.Option.{none-some}
@@ -71,10 +73,11 @@ module _ (layout : Layout) (old new : View) (cpu : Cpu) (list : List Command) (r
   pub other : (n : ℕ) → n ≢ length rows → at_number cpu n ≢ jobs.who j
   other n differs same = differs (ap (λ (w : Who). w.seq) (same ∙ own))
 
-  pub serves-on : (before : Banks) (handles : List ℕ) → (HasStopped rows → IsHalted new) → Serves layout old cpu list rows before handles → Serves layout new cpu list rows before handles
-  serves-on before handles halted was = record {
+  pub serves-on : (before : Banks) (handles : List ℕ) (cows : List Cow) → (HasStopped rows → IsHalted new) → Serves layout old cpu list rows before handles cows → Serves layout new cpu list rows before handles cows
+  serves-on before handles cows halted was = record {
     rows_are = rows-stay layout old new cpu (length rows)
-        (λ n earlier c b row d less served. row-stays can made.made (at_number cpu n) (other n (λ same. absurd (omega arith))) earlier c b row d served) [] 0 empty_banks list rows before (omega arith) was.rows_are;
+        (λ n earlier copied c b row d less served. row-stays can made.made (at_number cpu n) (other n (λ same. absurd (omega arith))) earlier copied c b row d served) [] 0 empty_banks list rows before (omega arith) was.rows_are;
+    remembers = was.remembers;
     stays = was.stays;
     halted = halted;
     numbers = numbers-stay can made.made cpu list rows (let same : (jobs.who j).seq ≡ length rows = ap (λ (w : Who). w.seq) own in omega (arith, same)) was.numbers;
@@ -105,7 +108,7 @@ module _ (layout : Layout) (old new : View) (cpu : Cpu) (list : List Command) (r
 
 -- ---- its own task goes on
 
-module _ (layout : Layout) (old new : View) (cpu : Cpu) (list : List Command) (rows : List Row) (local : Local) (command : Command) (c : Course) (k : Job) (way : IsUnderWay layout old cpu list rows local command c) (made : Stepped layout old new c.own k) where
+module _ (layout : Layout) (old new : View) (cpu : Cpu) (list : List Command) (rows : List Row) (local : Local) (command : Command) (copies : Option VSlot) (c : Course) (k : Job) (way : IsUnderWay layout old cpu list rows local command copies c) (made : Stepped layout old new c.own k) where
   abbrev at : Who
   at = at_number cpu (length rows)
 
@@ -113,10 +116,10 @@ module _ (layout : Layout) (old new : View) (cpu : Cpu) (list : List Command) (r
   next = record c { own = k }
 
   pub own : jobs.who c.own ≡ at
-  own = runs-who layout at command c.own way.runs
+  own = runs-who layout at command copies c.own way.runs
 
-  runs-still : Runs layout at command k
-  runs-still = runs-on layout at command c.own k made.found made.got made.turn way.runs made.follows
+  runs-still : Runs layout at command copies k
+  runs-still = runs-on layout at command copies c.own k made.found made.got made.turn way.runs made.follows
 
   -- what the banks held before the command is as it was
   before : banks_before k local.banks ≡ banks_before c.own local.banks
@@ -150,8 +153,8 @@ module _ (layout : Layout) (old new : View) (cpu : Cpu) (list : List Command) (r
       by-it itself (inl was) = early (way.stops i who was)
       by-it itself (inr last) = inr (record {
         has = itself.has;
-        can = can-stop made.base layout new at command k runs-still fits-still itself.has;
-        who_is = runs-who layout at command k runs-still ∙ sym own ∙ last;
+        can = can-stop made.base layout new at command copies k runs-still fits-still itself.has;
+        who_is = runs-who layout at command copies k runs-still ∙ sym own ∙ last;
         first = λ some. no-own-stop (way.stopped some).0 itself;
       })
         where
@@ -162,14 +165,14 @@ module _ (layout : Layout) (old new : View) (cpu : Cpu) (list : List Command) (r
       which (inl same) = early (way.stops i who (sym (ap (λ (l : List Who). slice_get l i) same) ∙ there))
       which (inr itself) = by-it itself (at_push old.stops (jobs.who c.own) who i (sym (ap (λ (l : List Who). slice_get l i) itself.stops_are) ∙ there))
 
-  pub way-own : c.beside ≡ None → IsUnderWay layout new cpu list rows local command next
+  pub way-own : c.beside ≡ None → IsUnderWay layout new cpu list rows local command copies next
   way-own none = record {
-    serves = subst (λ (b : Banks). Serves layout new cpu list rows b local.handles) (sym before)
-        (serves-on layout old new cpu list rows c.own k own made (banks_before c.own local.banks) local.handles (λ some. (halted-stays made (way.serves.halted some) (way.stopped some)).0) way.serves);
-    there = way.there;
+    serves = subst (λ (b : Banks). Serves layout new cpu list rows b local.handles local.cows) (sym before)
+        (serves-on layout old new cpu list rows c.own k own made (banks_before c.own local.banks) local.handles local.cows (λ some. (halted-stays made (way.serves.halted some) (way.stopped some)).0) way.serves);
+    next = way.next;
     runs = runs-still;
     handle = handle-stays layout local.handles c.own k made.found made.got made.turn made.follows way.handle;
-    policies = counted-on made (λ (thread : Thread). settings thread (answers_by list rows)) way.policies;
+    policies = counted-on made (λ (thread : Thread). settings layout thread (answers_by list rows)) way.policies;
     stopped = λ some. (halted-stays made (way.serves.halted some) (way.stopped some)).1;
     looked = looked;
     stops = stops;
@@ -189,7 +192,7 @@ module _ (layout : Layout) (old new : View) (cpu : Cpu) (list : List Command) (r
 
 -- ---- a frame is taken out of use beside it
 
-module _ (layout : Layout) (old new : View) (cpu : Cpu) (list : List Command) (rows : List Row) (local : Local) (command : Command) (c : Course) (s t : Soft) (way : IsUnderWay layout old cpu list rows local command c) (own : s.who ≡ at_number cpu (length rows))
+module _ (layout : Layout) (old new : View) (cpu : Cpu) (list : List Command) (rows : List Row) (local : Local) (command : Command) (copies : Option VSlot) (c : Course) (s t : Soft) (way : IsUnderWay layout old cpu list rows local command copies c) (own : s.who ≡ at_number cpu (length rows))
     (made : Stepped layout old new (kinds.Soft s) (kinds.Soft t)) (is : c.beside ≡ Some s) (adds : AddsBeside (at_number cpu (length rows)) old new) where
   abbrev later : Course
   later = record c { beside = Some t }
@@ -201,13 +204,13 @@ module _ (layout : Layout) (old new : View) (cpu : Cpu) (list : List Command) (r
   left = soft-leaves s made.planned made.made
 
   -- the policies that each thread has set are as they were
-  counted-same : AreCounted (λ (thread : Thread). settings thread (answers_by list rows)) new c.own
+  counted-same : AreCounted (λ (thread : Thread). settings layout thread (answers_by list rows)) new c.own
   counted-same thread = ap (λ (l : List Setting). map (λ (x : Setting). x.policy) (settings_of thread l)) left.rest.settings ∙ way.policies thread
 
-  pub way-beside : IsUnderWay layout new cpu list rows local command later
+  pub way-beside : IsUnderWay layout new cpu list rows local command copies later
   way-beside = record {
-    serves = serves-on layout old new cpu list rows (kinds.Soft s) (kinds.Soft t) own made (banks_before c.own local.banks) local.handles (λ some. still-halted made (way.serves.halted some)) way.serves;
-    there = way.there;
+    serves = serves-on layout old new cpu list rows (kinds.Soft s) (kinds.Soft t) own made (banks_before c.own local.banks) local.handles local.cows (λ some. still-halted made (way.serves.halted some)) way.serves;
+    next = way.next;
     runs = way.runs;
     handle = way.handle;
     policies = counted-same;

@@ -1,4 +1,5 @@
 -- A processor is a task: where it fits, its step can be made, and what follows fits.
+use Rattle.hwp_cpu_course.specs.hwp_cpu_row.hwp_geom.declared.VSlot.{VSlot}
 use Rattle.hwp_cpu_course.proofs.CourseLaws.{lawful}
 use Rattle.std.proofs.Common.{◌≡◌, ℕ, ◌+◌, ◌≤◌, List, [], ◌∷◌, ◌++◌, Option, Some, None, length, option_map, slice_get, vec_capacity, refl, sym, ap, ◌∙◌, subst, inr, false, true, true≢false, ◌⊎◌, ◌<◌, inl, Bool}
 use Rattle.std.proofs.lemmas.Option.{none-some, slice_get_within}
@@ -22,15 +23,15 @@ use Rattle.hwp_cpu_course.proofs.of_hwp_cpu_command_laws.CommandRuns.{runs-who, 
 use Rattle.hwp_cpu_course.specs.hwp_cpu_row.declared.Row.{Row}
 use Rattle.hwp_cpu_course.specs.hwp_cpu_row.declared.Local.{Local}
 use Rattle.hwp_cpu.specs.declared.processor.Processor.{Processor}
-use Rattle.hwp_cpu.specs.Processors.{AreCommands, BeginsAt, Follows, IsAnswered, IsReady, Next, NextOf, Shows, ShowsOf, at_number, bare, left_of, plan, plan_of, put, put_of, who, who_of}
-use Rattle.hwp_cpu.specs.Serving.{Fits, FitsAt, IsRunning, GivesUp, OwnGoesOn, GoesOn, RunsBeside}
+use Rattle.hwp_cpu.specs.Processors.{carried_on, told_local, AreCommands, BeginsAt, Follows, IsAnswered, IsReady, Next, NextOf, Shows, ShowsOf, at_number, bare, left_of, plan, plan_of, put, put_of, who, who_of}
+use Rattle.hwp_cpu.specs.Serving.{IsActedOn, Fits, FitsAt, IsRunning, GivesUp, OwnGoesOn, GoesOn, RunsBeside}
 use Rattle.hwp_cpu.proofs.CommandBegins.{settled}
 use Rattle.hwp_cpu.proofs.ProcessorKeeps.{later-none}
 use Rattle.hwp_cpu_course.specs.Courses.{local_after, FitsOf, IsGoing, rests, row_of, AfterOwn, AfterOwnIf, FitsOwn, AfterSoft, bare_of, AfterOwnBy, answer_of, part, with_result, part_of, answer, passed}
 use Rattle.hwp_cpu.proofs.BesideEnds.{beside-on, rests-on, holds-done, way-done}
 use Rattle.hwp_cpu_course.specs.hwp_cpu_row.Locals.{collects}
 use Rattle.hwp_cpu_course.proofs.of_hwp_cpu_command_laws.Beside.{given-up-unanswered, given-up-stays}
-use Rattle.hwp_cpu.proofs.GoingOn.{go-on, Turned}
+use Rattle.hwp_cpu.proofs.GoingOn.{IsEnding, go-on, Turned}
 use Rattle.hwp_cpu.proofs.OwnLines.{given-up-goes}
 use Rattle.hwp_cpu.proofs.OwnTurns.{own-turn}
 use Rattle.hwp_cpu_course.specs.declared.Course.{Course}
@@ -53,8 +54,8 @@ can layout view p step fits is = which p.course fits.at is
 
 -- the command is one of the processor
 pub own-cpu : (layout : Layout) (view : View) (cpu : Cpu) (list : List Command) (rows : List Row) (local : Local) (x : Option Course) → FitsAt layout view cpu list rows local x → (who_of cpu x).cpu ≡ cpu
-own-cpu layout view cpu list rows local (Some c) (rule, inl run) = ap (λ (w : Who). w.cpu) (runs-who layout (at_number cpu (length rows)) run.command c.own run.way.runs)
-own-cpu layout view cpu list rows local (Some c) (rule, inr up) = ap (λ (w : Who). w.cpu) (runs-who layout (at_number cpu (length rows)) up.command c.own up.runs)
+own-cpu layout view cpu list rows local (Some c) (rule, inl run) = ap (λ (w : Who). w.cpu) (runs-who layout (at_number cpu (length rows)) run.command run.copies c.own run.way.runs)
+own-cpu layout view cpu list rows local (Some c) (rule, inr up) = ap (λ (w : Who). w.cpu) (runs-who layout (at_number cpu (length rows)) up.command up.copies c.own up.runs)
 own-cpu layout view cpu list rows local None at = refl
 
 -- a processor that can run its commands can run them after an answer
@@ -84,6 +85,7 @@ bare-beside layout c s found got d turn some so = subst (λ (o : Option Soft). c
 bare-change : (j : Job) → HasChangeWithin j → HasChangeWithin (jobs.bare j)
 bare-change (kinds.Log l) has = has
 bare-change (kinds.Instruction i) has = tt
+bare-change (kinds.Copying y) has = tt
 bare-change (kinds.Evict e) has = tt
 bare-change (kinds.Raise r) has = tt
 bare-change (kinds.Scrub s) has = tt
@@ -91,6 +93,7 @@ bare-change (kinds.Inject i) has = tt
 bare-change (kinds.Soft s) has = tt
 bare-change (kinds.Fsync f) has = tt
 bare-change (kinds.Prctl p) has = tt
+bare-change (kinds.Fork g) has = tt
 bare-change (kinds.Spoil s) has = tt
 bare-change (kinds.Nested n) has = tt
 bare-change (kinds.Unpoison u) has = tt
@@ -104,12 +107,12 @@ module _ (layout : Layout) (old new : View) (cpu : Cpu) (list : List Command) (r
   -- of its own task
   own-side : (run : IsRunning layout old cpu list rows local c) (none : c.beside ≡ None) → (k : Job) (t : Turn) → jobs.Next layout (jobs.bare c.own) found got k t → (d : Course) (turn : Turn) → courses.Fits layout new d → AfterOwn layout (record c { own = k }) t d turn → After d
   own-side run none k t next d turn rule_after follows = (
-    own-turn layout old new cpu list rows local run.command c k run.way on rule none stepped refl t d turn rule_after follows,
-    later-none layout old new cpu list rows c.own k (runs-who layout (at_number cpu (length rows)) run.command c.own run.way.runs) stepped,
+    own-turn layout old new cpu list rows local run.command run.copies c k run.way on rule none stepped refl t d turn rule_after follows,
+    later-none layout old new cpu list rows c.own k (runs-who layout (at_number cpu (length rows)) run.command run.copies c.own run.way.runs) stepped,
   )
     where
-      on : OwnGoesOn layout old run.command c
-      on = subst (GoesOn layout old cpu list rows local run.command c) none run.on
+      on : OwnGoesOn layout old run.command run.copies c
+      on = subst (GoesOn layout old cpu list rows local run.command run.copies c) none run.on
 
       planned : jobs.plan c.own ≡ Some step
       planned = subst (λ (o : Option Soft). jobs.plan (part_of o c.own) ≡ Some step) none is
@@ -125,13 +128,13 @@ module _ (layout : Layout) (old new : View) (cpu : Cpu) (list : List Command) (r
   beside-side run s some k t next d turn rule_after follows = (by (softs.answer k) refl follows, later-none layout old new cpu list rows (kinds.Soft s) (kinds.Soft k) on.who_is stepped)
     where
       on : RunsBeside layout old cpu list rows local run.command c s
-      on = subst (GoesOn layout old cpu list rows local run.command c) some run.on
+      on = subst (GoesOn layout old cpu list rows local run.command run.copies c) some run.on
 
       planned : softs.plan s ≡ Some step
       planned = subst (λ (o : Option Soft). jobs.plan (part_of o c.own) ≡ Some step) some is
 
       named : jobs.who c.own ≡ s.who
-      named = runs-who layout (at_number cpu (length rows)) run.command c.own run.way.runs ∙ sym on.who_is
+      named = runs-who layout (at_number cpu (length rows)) run.command run.copies c.own run.way.runs ∙ sym on.who_is
 
       soft-made : Steps layout s.who step (logs (softs.put s)) old new found got
       soft-made = subst (λ (w : Who). Steps layout w step (logs (softs.put s)) old new found got) named (subst (λ (o : Option Soft). Steps layout (jobs.who c.own) step (logs (jobs.put (part_of o c.own))) old new found got) some made)
@@ -143,15 +146,15 @@ module _ (layout : Layout) (old new : View) (cpu : Cpu) (list : List Command) (r
       pages = rule.for_pages (length c.due.offlined) k.frame (on.next ∙ ap (λ (f : Frame). Some f) (sym (ap (λ (x : Soft). x.frame) next.0)))
 
       by : (o : Option SoftAnswer) → softs.answer k ≡ o → AfterSoft (record c { beside = Some k }) k o t d turn → Turned layout new cpu list rows local d (answer d)
-      by None still (after_is, turn_is) = subst (λ (x : Course). Turned layout new cpu list rows local x (answer x)) (sym after_is) (inl (beside-on layout old new cpu list rows local run.command c s run.way on some step found got planned soft-made k t next))
-      by (Some x) over goes = go-on layout new cpu list rows local run.command (with_result (record c { beside = Some k }) k.frame x)
-          (way-done layout old new cpu list rows local run.command c s run.way on some step found got planned soft-made k t next x over pages)
-          (holds-done layout old new cpu list rows local run.command c s run.way on some step found got planned soft-made k t next x over pages)
-          (rests-on layout old new cpu list rows local run.command c s run.way on some step found got planned soft-made k t next) on.all rule.for_pages d turn goes
+      by None still (after_is, turn_is) = subst (λ (x : Course). Turned layout new cpu list rows local x (answer x)) (sym after_is) (inl (beside-on layout old new cpu list rows local run.command run.copies c s run.way on some step found got planned soft-made k t next))
+      by (Some x) over goes = go-on layout new cpu list rows local run.command run.copies (with_result (record c { beside = Some k }) k.frame x)
+          (way-done layout old new cpu list rows local run.command run.copies c s run.way on some step found got planned soft-made k t next x over pages)
+          (holds-done layout old new cpu list rows local run.command run.copies c s run.way on some step found got planned soft-made k t next x over pages)
+          (rests-on layout old new cpu list rows local run.command run.copies c s run.way on some step found got planned soft-made k t next) on.all rule.for_pages d turn goes
 
   -- and of one that gives up
   gives-side : (up : GivesUp layout old cpu list rows c) → (k : Job) (t : Turn) → jobs.Next layout (jobs.bare c.own) found got k t → (d : Course) (turn : Turn) → AfterOwn layout (record c { own = k }) t d turn → After d
-  gives-side up k t next d turn follows = (which (collects c.watching) follows, later-none layout old new cpu list rows c.own k (runs-who layout (at_number cpu (length rows)) up.command c.own up.runs) stepped)
+  gives-side up k t next d turn follows = (which (collects c.watching) follows, later-none layout old new cpu list rows c.own k (runs-who layout (at_number cpu (length rows)) up.command up.copies c.own up.runs) stepped)
     where
       planned : jobs.plan c.own ≡ Some step
       planned = subst (λ (o : Option Soft). jobs.plan (part_of o c.own) ≡ Some step) up.none is
@@ -172,8 +175,9 @@ module _ (layout : Layout) (old new : View) (cpu : Cpu) (list : List Command) (r
       gives n = subst (λ (o : Option Soft). Turned layout new cpu list rows local (record c { own = k; noted = n }) (answer_of o k)) (sym up.none)
           (subst (λ (o : Option Answer). Turned layout new cpu list rows local (record c { own = k; noted = n }) o) (sym (given-up-unanswered k still-up)) (inr (record {
             command = up.command;
-            there = up.there;
-            runs = runs-on layout (at_number cpu (length rows)) up.command c.own k found got t up.runs next;
+            copies = up.copies;
+            next = up.next;
+            runs = runs-on layout (at_number cpu (length rows)) up.command up.copies c.own k found got t up.runs next;
             up = still-up;
             none = up.none;
           })))
@@ -207,12 +211,12 @@ module _ (layout : Layout) (old new : View) (p : Processor) (step : Step) (found
   of-course = lawful.stays layout old new c step found got at.0 is made
 
   -- the command that the processor has come to
-  known : (command : Command) × (slice_get p.commands (length rows) ≡ Some command) × Runs layout (at_number p.cpu (length rows)) command c.own
+  known : (command : Command) × (copies : Option VSlot) × IsActedOn layout p.commands rows command copies × Runs layout (at_number p.cpu (length rows)) command copies c.own
   known = which at.1
     where
-      which : IsRunning layout old p.cpu p.commands rows p.local c ⊎ GivesUp layout old p.cpu p.commands rows c → (command : Command) × (slice_get p.commands (length rows) ≡ Some command) × Runs layout (at_number p.cpu (length rows)) command c.own
-      which (inl run) = (run.command, run.way.there, run.way.runs)
-      which (inr up) = (up.command, up.there, up.runs)
+      which : IsRunning layout old p.cpu p.commands rows p.local c ⊎ GivesUp layout old p.cpu p.commands rows c → (command : Command) × (copies : Option VSlot) × IsActedOn layout p.commands rows command copies × Runs layout (at_number p.cpu (length rows)) command copies c.own
+      which (inl run) = (run.command, run.copies, run.way.next, run.way.runs)
+      which (inr up) = (up.command, up.copies, up.next, up.runs)
 
   -- the turn of the command that runs, and what the processor comes to by it
   follows : (d : Course) (t : Turn) → courses.Next layout (courses.bare c) found got d t → (o : Option Answer) → answer d ≡ o → (after : Processor) (turn : Turn) → Follows (bare p) d o t after turn
@@ -248,9 +252,18 @@ module _ (layout : Layout) (old new : View) (p : Processor) (step : Step) (found
             local_is = answered.local_is;
           }
 
-          here : FitsAt layout new p.cpu p.commands (rows ++ row_of d a ∷ []) (left_of after.course (local_after d a p.local)) after.course
-          here = settled layout new p.cpu p.commands rows p.local d a (subst (Turned layout new p.cpu p.commands rows p.local d) some came.0) came.1 ready.commands.few answered.round after.course
-              (subst (λ (l : Layout). BeginsAt l (at_number p.cpu (length rows + 1)) (slice_get p.commands (length rows + 1)) (local_after d a p.local) after.course) same answered.begins)
+          ends : IsEnding layout new p.cpu p.commands rows p.local d a
+          ends = subst (Turned layout new p.cpu p.commands rows p.local d) some came.0
+
+          -- what the processor carries on, by the command that is answered
+          carried : carried_on p d a ≡ told_local layout (Some ends.way.next.own) a (local_after d a p.local)
+          carried = ap (λ (l : Layout). told_local l (slice_get p.commands (length rows)) a (local_after d a p.local)) same ∙ ap (λ (o : Option Command). told_local layout o a (local_after d a p.local)) ends.way.next.there
+
+          here : FitsAt layout new p.cpu p.commands (rows ++ row_of d a ∷ []) (left_of after.course (carried_on p d a)) after.course
+          here = subst (λ (l : Local). FitsAt layout new p.cpu p.commands (rows ++ row_of d a ∷ []) (left_of after.course l) after.course) (sym carried)
+              (settled layout new p.cpu p.commands rows p.local d a ends came.1 (subst (λ (l : Layout). AreCommands l p.cpu p.commands) same ready.commands) answered.round after.course
+              (subst (λ (l : Local). BeginsAt layout (at_number p.cpu (length rows + 1)) (slice_get p.commands (length rows + 1)) l after.course) carried
+              (subst (λ (l : Layout). BeginsAt l (at_number p.cpu (length rows + 1)) (slice_get p.commands (length rows + 1)) (carried_on p d a) after.course) same answered.begins)))
 
           there : FitsAt layout new after.cpu after.commands after.rows.items after.local after.course
           there = subst (λ (n : Cpu). FitsAt layout new n after.commands after.rows.items after.local after.course) (sym answered.cpu_is)
@@ -268,7 +281,7 @@ module _ (layout : Layout) (old new : View) (p : Processor) (step : Step) (found
   running : ShowsOf (bare p) (Some (courses.bare c)) found got
       × ((after : Processor) (turn : Turn) → NextOf layout (bare p) (Some (courses.bare c)) found got after turn → Fits layout new after × ((who after).cpu ≡ (jobs.who c.own).cpu))
   running = (
-    (of-course.0, bare-within (runs-within layout (at_number p.cpu (length rows)) known.0 c.own known.2), record { sound = ready.sound; commands = ready.commands; room = ready.room }, slice_get_within p.commands (length rows) known.0 known.1),
+    (of-course.0, bare-within (runs-within layout (at_number p.cpu (length rows)) known.0 known.1 c.own known.3), record { sound = ready.sound; commands = ready.commands; room = ready.room }, slice_get_within p.commands (length rows) known.2.own known.2.there),
     λ after turn next. follows next.0 next.1 next.2 (answer next.0) refl after turn next.3,
   )
 

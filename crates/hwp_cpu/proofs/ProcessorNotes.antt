@@ -11,7 +11,13 @@ use Rattle.std.proofs.lemmas.List.Elements.{filter_map-append}
 use Rattle.std.proofs.lemmas.Option.{none-some, same_Some}
 use Rattle.hwp_cpu_course.specs.hwp_cpu_row.hwp_geom.declared.Cpu.{Cpu}
 use Rattle.hwp_cpu_course.specs.hwp_cpu_row.hwp_geom.declared.Frame.{Frame}
+use Rattle.hwp_cpu_course.specs.hwp_cpu_row.hwp_geom.declared.Damage.{Damage}
+use Rattle.hwp_cpu_course.specs.hwp_cpu_row.hwp_geom.declared.Damage.TheVariants as damages
 use Rattle.hwp_cpu_course.specs.hwp_cpu_row.hwp_geom.declared.Layout.{Layout}
+use Rattle.hwp_cpu_course.specs.hwp_cpu_row.hwp_geom.declared.VSlot.{VSlot}
+use Rattle.hwp_cpu_course.specs.hwp_cpu_row.hwp_script_lines.declared.Command.TheVariants as commands
+use Rattle.hwp_cpu_course.specs.hwp_cpu_row.hwp_law_commands.Cows.{acting}
+use Rattle.hwp_cpu_causes.specs.hwp_law_served.Handles.{answers_by}
 use Rattle.hwp_cpu_course.specs.hwp_cpu_row.hwp_geom.declared.Page.{Page}
 use Rattle.hwp_cpu_course.specs.hwp_cpu_row.hwp_geom.declared.Who.{Who}
 use Rattle.hwp_cpu_course.specs.hwp_cpu_row.hwp_geom.Pairs.{Pairs}
@@ -68,7 +74,7 @@ use Rattle.hwp_cpu_course.proofs.of_hwp_cpu_command_laws.CommandStops.{has-spoil
 use Rattle.hwp_cpu_course.proofs.of_hwp_cpu_command_laws.TaskLeaves.{soft-leaves}
 use Rattle.hwp_cpu_course.specs.declared.Course.{Course}
 use Rattle.hwp_cpu_course.specs.Courses.{begin, part_of}
-use Rattle.hwp_cpu_causes.specs.Beside.{AddsBeside, ArePrior}
+use Rattle.hwp_cpu_causes.specs.Beside.{AddsBeside, ArePriorWith}
 use Rattle.hwp_cpu_causes.specs.hwp_law.Pairings.{is_soft}
 use Rattle.hwp_cpu_causes.specs.hwp_law_served.Accounts.{IsHow, IsNote, act_marking, failures, is_same, marking_by, markings, markings_in, own_marking}
 use Rattle.hwp_cpu_causes.specs.hwp_law_served.Owed.{OwesOwn, loss_of, losses_by}
@@ -269,20 +275,41 @@ noted-end view cpu rows c row are marked =
     joined (x ∷ xs) ys [] ns first second = absurd first
     joined (x ∷ xs) ys (m ∷ ms) ns first second = (first.0, joined xs ys ms ns first.1 second)
 
+abbrev is_spoil : Command → Bool
+is_spoil (commands.Bad frame line) = true
+is_spoil (commands.Weak frame line) = true
+is_spoil command = false
+
+spoils-so : (damage : Damage) (frame : Frame) (line : ℕ) → is_spoil (spoiling damage frame line) ≡ true
+spoils-so damages.Bad frame line = refl
+spoils-so damages.Weak frame line = refl
+
+no-spoil : {command : Command} (damage : Damage) (frame : Frame) (line : ℕ) → command ≡ spoiling damage frame line → is_spoil command ≡ false → ⊥
+no-spoil damage frame line is none = true≢false (sym (spoils-so damage frame line) ∙ sym (ap is_spoil is) ∙ none)
+
+-- a command that spoils a line is acted on as it stands
+spoiling-acted : (layout : Layout) (earlier : List (Command × Answer)) (own : Command) (s : Spoiled) → acting layout earlier own ≡ spoiling s.damage s.frame s.line → own ≡ spoiling s.damage s.frame s.line
+spoiling-acted layout earlier (commands.Load thread slot line) s is = absurd (no-spoil s.damage s.frame s.line is refl)
+spoiling-acted layout earlier (commands.Fetch thread slot line) s is = absurd (no-spoil s.damage s.frame s.line is refl)
+spoiling-acted layout earlier (commands.KLoad thread slot line) s is = absurd (no-spoil s.damage s.frame s.line is refl)
+spoiling-acted layout earlier (commands.Store thread slot line word) s is = absurd (no-spoil s.damage s.frame s.line is refl)
+spoiling-acted layout earlier (commands.Free slot) s is = absurd (no-spoil s.damage s.frame s.line is refl)
+spoiling-acted layout earlier own s is = is
+
 -- a line that the command has spoiled is one of a command that is answered
-pub spoils-end : (layout : Layout) (cpu : Cpu) (list : List Command) (rows : List Row) (command : Command) (j : Job) (a : Answer) (offlined : List Offlining) (s : Spoiled) → slice_get list (length rows) ≡ Some command → Runs layout (at_number cpu (length rows)) command j
+pub spoils-end : (layout : Layout) (cpu : Cpu) (list : List Command) (rows : List Row) (own command : Command) (copies : Option VSlot) (j : Job) (a : Answer) (offlined : List Offlining) (s : Spoiled) → slice_get list (length rows) ≡ Some own → command ≡ acting layout (answers_by list rows) own → Runs layout (at_number cpu (length rows)) command copies j
     → jobs.answer j ≡ Some a → IsOwnSpoil cpu list rows s ⊎ HasSpoiled j s → IsOwnSpoil cpu list (rows ++ jobs.row_of j a offlined ∷ []) s
-spoils-end layout cpu list rows command j a offlined s there runs is (inl own) = spoil-more cpu list rows (jobs.row_of j a offlined) s own
-spoils-end layout cpu list rows command j a offlined s there runs is (inr has) = record {
+spoils-end layout cpu list rows own command copies j a offlined s there acts runs is (inl early) = spoil-more cpu list rows (jobs.row_of j a offlined) s early
+spoils-end layout cpu list rows own command copies j a offlined s there acts runs is (inr has) = record {
   cpu_is = ap (λ (w : Who). w.cpu) by.0;
-  there = ap (slice_get list) number ∙ there ∙ ap (λ (c : Command). Some c) by.1;
+  there = ap (slice_get list) number ∙ there ∙ ap (λ (c : Command). Some c) (spoiling-acted layout (answers_by list rows) own s (sym acts ∙ by.1));
   row = jobs.row_of j a offlined;
   row_is = ap (slice_get (rows ++ jobs.row_of j a offlined ∷ [])) number ∙ at_last rows (jobs.row_of j a offlined);
   answered = same_Some a answers.Done (sym is ∙ has-spoiled j s has);
 }
   where
     by : (s.stamp.who ≡ at_number cpu (length rows)) × (command ≡ spoiling s.damage s.frame s.line)
-    by = spoils-line layout (at_number cpu (length rows)) command j s runs has
+    by = spoils-line layout (at_number cpu (length rows)) command copies j s runs has
 
     number : s.stamp.who.seq ≡ length rows
     number = ap (λ (w : Who). w.seq) by.0
@@ -303,13 +330,13 @@ unfailed-lossless view who none = sum-zero loss_of (deeds who view) (λ i m at. 
     by page place what is = refl
 
 -- when a command is answered its failures are those that it knows of
-module _ (base : List Made) (layout : Layout) (view : View) (who : Who) (command : Command) (j : Job) (a : Answer) (runs : Runs layout who command j) (fits : jobs.FitsFrom base layout view j) (prior : ArePrior layout command base) (has : jobs.answer j ≡ Some a)
+module _ (base : List Made) (layout : Layout) (view : View) (who : Who) (command : Command) (copies : Option VSlot) (j : Job) (a : Answer) (runs : Runs layout who command copies j) (fits : jobs.FitsFrom base layout view j) (prior : ArePriorWith layout command copies base) (has : jobs.answer j ≡ Some a)
     (failed : can_fail j ≡ true → failures who view ≡ failed_now j) (owes : OwesOwn who view) where
   own-who : jobs.who j ≡ who
-  own-who = runs-who layout who command j runs
+  own-who = runs-who layout who command copies j runs
 
   pub failed-end : failures who view ≡ failed_now j
-  failed-end = subst (λ (w : Who). failures w view ≡ failed_now j) own-who (failures-at-end layout view j fits (prior-none layout who command j base runs prior) has (λ fails. subst (λ (w : Who). failures w view ≡ failed_now j) (sym own-who) (failed fails)))
+  failed-end = subst (λ (w : Who). failures w view ≡ failed_now j) own-who (failures-at-end layout view j fits (prior-none layout who command copies j base runs prior) has (λ fails. subst (λ (w : Who). failures w view ≡ failed_now j) (sym own-who) (failed fails)))
 
   -- it owes no loss: a command that may make some owes none by then, and the others make none
   pub no-loss : view.owed.losses ≡ []

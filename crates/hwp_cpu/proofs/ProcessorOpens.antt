@@ -1,10 +1,16 @@
 -- At opening a processor fits: it has made no step, and its first command begins.
+use Rattle.hwp_cpu_course.specs.hwp_cpu_row.hwp_geom.declared.VSlot.{VSlot}
+use Rattle.hwp_cpu_course.specs.hwp_cpu_row.CowLists.{KnowsCows, acting_in, copied_in, first_cows}
+use Rattle.hwp_cpu_course.proofs.of_hwp_cpu_row.CowListLaws.{acting-known, copied-known, first-are, first-known}
+use Rattle.hwp_cpu_course.specs.hwp_cpu_command.Runs.{CanFork}
+use Rattle.hwp_cpu_course.specs.hwp_cpu_row.hwp_report_text.declared.Answer.{Answer}
+use Rattle.hwp_cpu.proofs.ActingFits.{at-least, fork-acted}
+use Rattle.hwp_cpu.proofs.FreshChildren.{can-fork}
 use Rattle.std.proofs.Common.{◌≡◌, ℕ, zero, suc, ◌<◌, ◌≤◌, inl, List, [], ◌∷◌, Option, Some, None, length, slice_get, refl, sym, ap, subst, arith, Bool, true≢false, false, true, ◌∙◌}
 use Rattle.std.proofs.lemmas.Option.{none-some, same_Some, slice_get_within}
 use Rattle.hwp_cpu_course.specs.hwp_cpu_row.hwp_geom.declared.Cpu.{Cpu}
 use Rattle.hwp_cpu_course.specs.hwp_cpu_row.hwp_geom.declared.Layout.{Layout}
 use Rattle.hwp_cpu_course.specs.hwp_cpu_row.hwp_geom.declared.Thread.{Thread}
-use Rattle.hwp_cpu_course.specs.hwp_cpu_row.hwp_geom.Limits.{command_limit}
 use Rattle.hwp_cpu_course.specs.hwp_cpu_row.hwp_script_lines.declared.Command.{Command}
 use Rattle.hwp_cpu_course.specs.hwp_cpu_row.hwp_core_rule.declared.Part.{Part}
 use Rattle.hwp_cpu_course.specs.hwp_cpu_row.hwp_core_rule.declared.View.{View}
@@ -20,11 +26,11 @@ use Rattle.hwp_cpu_course.specs.hwp_cpu_row.declared.Local.{Local}
 use Rattle.hwp_cpu_course.specs.hwp_cpu_row.Locals.{IsWatching, IsFirst, collects, HasRoom}
 use Rattle.hwp_cpu_course.specs.hwp_cpu_row.hwp_law_commands.Settings.{settings}
 use Rattle.hwp_cpu_causes.specs.hwp_law_served.Handles.{answers_by}
-use Rattle.hwp_cpu_causes.specs.hwp_law_served.Served.{AreRowsServed}
+use Rattle.hwp_cpu_causes.specs.hwp_law_served.Served.{AreRowsActed}
 use Rattle.hwp_cpu_causes.proofs.of_hwp_law_served.Handles.{numbers-begin}
 use Rattle.hwp_cpu_causes.proofs.of_hwp_law_served.lines.ScrubBank.{empty-free}
-use Rattle.hwp_cpu.specs.Processors.{BeginsAt, at_number, left_of}
-use Rattle.hwp_cpu.specs.Serving.{FitsAt, IsDone, IsListed, Serves, AreNumbered, GoesOn, IsUnderWay}
+use Rattle.hwp_cpu.specs.Processors.{AreCommands, BeginsAt, at_number, left_of}
+use Rattle.hwp_cpu.specs.Serving.{FitsAt, IsActedOn, IsDone, IsListed, Remembers, Serves, AreNumbered, GoesOn, IsUnderWay}
 use Rattle.hwp_cpu.proofs.KnownHandles.{handle-known, numbers-first}
 use Rattle.hwp_cpu.proofs.KnownPolicies.{counted-starts, setting-left}
 use Rattle.hwp_cpu.proofs.Rows.{past-end}
@@ -43,7 +49,7 @@ use Rattle.hwp_cpu_course.specs.hwp_cpu_command.hwp_scrub.Visits.{AreBanks}
 use Rattle.hwp_cpu_course.specs.declared.Course.{Course}
 use Rattle.hwp_cpu_course.specs.hwp_cpu_command.Jobs as jobs
 
-module _ (layout : Layout) (cpu : Cpu) (list : List Command) (few : length list ≤ command_limit) (at-first : Local) (is_first : IsFirst layout.files (list_any is_watch list) layout.frames at-first) where
+module _ (layout : Layout) (cpu : Cpu) (list : List Command) (are : AreCommands layout cpu list) (at-first : Local) (is_first : IsFirst layout (list_any is_watch list) at-first) where
   abbrev view : View
   view = opening_view cpu.0
 
@@ -63,20 +69,28 @@ module _ (layout : Layout) (cpu : Cpu) (list : List Command) (few : length list 
   listed n = record { marked = λ i m at. absurd (none-some m at); set = λ i s at. absurd (none-some s at) }
 
   -- no thread has set a policy
-  unset : (thread : Thread) → policies_in thread view ≡ settings thread (answers_by list [])
-  unset thread = ap (settings thread) (none-yet list)
-    where
-      none-yet : (l : List Command) → [] ≡ answers_by l []
-      none-yet [] = refl
-      none-yet (c ∷ cs) = refl
+  unset : (thread : Thread) → policies_in thread view ≡ settings layout thread (answers_by list [])
+  unset thread = ap (settings layout thread) (none-yet list)
+
+  none-yet : (l : List Command) → [] ≡ answers_by l []
+  none-yet [] = refl
+  none-yet (c ∷ cs) = refl
+
+  -- nothing is frozen
+  remembers : Remembers layout list [] at-first.cows
+  remembers = subst (Remembers layout list []) (sym is_first.cows) (record {
+    are = first-are layout;
+    known = subst (λ (l : List (Command × Answer)). KnowsCows layout l (first_cows layout)) (none-yet list) (first-known layout);
+  })
 
   -- none is answered, so the banks and the handles are as at first
   numbered : AreNumbered layout list [] at-first.handles
   numbered = subst (AreNumbered layout list []) (sym is_first.handles) (numbers-first layout list)
 
-  serves : (banks : Banks) → banks ≡ empty_banks → Serves layout view cpu list [] banks at-first.handles
+  serves : (banks : Banks) → banks ≡ empty_banks → Serves layout view cpu list [] banks at-first.handles at-first.cows
   serves banks none = record {
     rows_are = by list;
+    remembers = remembers;
     stays = λ i j row later less first second stopped. absurd (none-some _ first);
     halted = λ some. absurd (none-some _ some.2);
     numbers = numbers-begin layout view cpu list;
@@ -84,7 +98,7 @@ module _ (layout : Layout) (cpu : Cpu) (list : List Command) (few : length list 
     due = λ n row there. absurd (none-some row there);
   }
     where
-      by : (l : List Command) → AreRowsServed layout [] view cpu 0 empty_banks l [] banks
+      by : (l : List Command) → AreRowsActed layout [] view cpu 0 empty_banks l [] banks
       by [] = none
       by (c ∷ cs) = none
 
@@ -113,28 +127,41 @@ module _ (layout : Layout) (cpu : Cpu) (list : List Command) (few : length list 
       which true None is has = absurd has
       which false w is has = absurd (true≢false (sym is))
 
-  module _ (command : Command) (c : Course) (there : slice_get list 0 ≡ Some command) (begins : BeginsCourse layout (at_number cpu 0) command at-first c) where
+  module _ (own : Command) (c : Course) (there : slice_get list 0 ≡ Some own) (begins : BeginsCourse layout (at_number cpu 0) (acting_in layout at-first.cows own) (copied_in at-first.cows own) at-first c) where
+    abbrev command : Command
+    command = acting_in layout at-first.cows own
+
+    abbrev copies : Option VSlot
+    copies = copied_in at-first.cows own
+
+    next : IsActedOn layout list [] command copies
+    next = record { own = own; there = there; acts = acting-known layout (answers_by list []) at-first.cows own remembers.known; copies_are = copied-known layout (answers_by list []) at-first.cows own remembers.known }
+
+    -- nothing is frozen, so it is the script's own
+    forks-so : CanFork layout view (at_number cpu 0) command
+    forks-so = fork-acted layout at-first.cows own (can-fork layout cpu list [] are.forks are.once view unset own there (at-least list 0 own are.named there))
+
     start : IsAtStop c.own
-    start = begins-stop layout (at_number cpu 0) command at-first.banks (collects at-first.watching) c.own begins.begins
+    start = begins-stop layout (at_number cpu 0) command copies at-first.banks (collects at-first.watching) c.own begins.begins
 
     own-fits : jobs.FitsFrom [] layout view c.own
-    own-fits = begins-fits layout view (at_number cpu 0) command at-first.banks (collects at-first.watching) c.own begins.begins (subst AreBanks (sym is_first.banks) empty-free) (record {
+    own-fits = begins-fits layout view (at_number cpu 0) command copies at-first.banks (collects at-first.watching) c.own begins.begins (subst AreBanks (sym is_first.banks) empty-free) (record {
       on_turn = first-turn;
       hand_is = refl;
       paid = refl;
       made = refl;
       unmarked = refl;
-      left = setting-left list [] view unset (let within : 0 < length list = slice_get_within list 0 command there in omega (arith, few, within));
+      left = setting-left layout list [] view unset (let within : 0 < length list = slice_get_within list 0 command there in omega (arith, few, within));
       revivals = revival-left layout view cpu list [] empty_banks (serves empty_banks refl).rows_are tt (omega arith);
-    }) (handle-known layout view cpu list [] at-first.handles c.own (numbers-begin layout view cpu list) numbered (omega arith) begins.handle)
+    }) (handle-known layout view cpu list [] at-first.handles c.own (numbers-begin layout view cpu list) numbered (omega arith) begins.handle) forks-so
 
-    way : IsUnderWay layout view cpu list [] (local_left c at-first) command c
+    way : IsUnderWay layout view cpu list [] (local_left c at-first) command copies c
     way = record {
-      serves = serves (banks_before c.own (left_in c.own at-first.banks)) (before-begins layout (at_number cpu 0) command at-first.banks (collects at-first.watching) c.own begins.begins ∙ is_first.banks);
-      there = there;
-      runs = begins-runs layout (at_number cpu 0) command at-first.banks (collects at-first.watching) c.own begins.begins;
+      serves = serves (banks_before c.own (left_in c.own at-first.banks)) (before-begins layout (at_number cpu 0) command copies at-first.banks (collects at-first.watching) c.own begins.begins ∙ is_first.banks);
+      next = next;
+      runs = begins-runs layout (at_number cpu 0) command copies at-first.banks (collects at-first.watching) c.own begins.begins;
       handle = begins.handle;
-      policies = counted-starts (λ (thread : Thread). settings thread (answers_by list [])) view c.own start unset;
+      policies = counted-starts (λ (thread : Thread). settings layout thread (answers_by list [])) view c.own start unset;
       stopped = λ some. absurd (none-some _ some.2);
       looked = inl (inl start, untold-at-start c.own start);
       stops = λ i who at. absurd (none-some who at);
@@ -147,11 +174,12 @@ module _ (layout : Layout) (cpu : Cpu) (list : List Command) (few : length list 
 
     running : FitsAt layout view cpu list [] (local_left c at-first) (Some c)
     running = (
-      course-begins layout view (at_number cpu 0) command at-first c begins own-fits (of-machine layout (watched_at layout list [] 0) at-first.watching watching),
+      course-begins layout view (at_number cpu 0) command copies at-first c begins own-fits (of-machine layout (watched_at layout list [] 0) at-first.watching watching),
       inl (record {
         command = command;
+        copies = copies;
         way = way;
-        on = subst (GoesOn layout view cpu list [] (local_left c at-first) command c) (sym (ap (λ (d : Course). d.beside) begins.is)) (own-starts layout view command c at-first.watching begins.is start own-fits);
+        on = subst (GoesOn layout view cpu list [] (local_left c at-first) command copies c) (sym (ap (λ (d : Course). d.beside) begins.is)) (own-starts layout view command copies c at-first.watching begins.is start own-fits refl);
       }),
     )
 

@@ -29,7 +29,7 @@ use Rattle.hwp_cpu.specs.Processors.{at_number}
 use Rattle.hwp_cpu_course.specs.hwp_cpu_row.Acts.{Act, Told, acts, Offlined, acts_from}
 use Rattle.hwp_cpu_causes.specs.hwp_law_served.hwp_report_text.declared.OfflineResult.{OfflineResult}
 use Rattle.hwp_cpu_course.specs.hwp_cpu_row.hwp_core_rule.Lists.{EachMember}
-use Rattle.hwp_cpu_causes.specs.hwp_law_served.Served.{IsOffliningServed, AreRowsServed}
+use Rattle.hwp_cpu_causes.specs.hwp_law_served.Served.{IsOffliningServed, AreRowsActed}
 use Rattle.hwp_cpu_course.specs.hwp_cpu_row.hwp_script_lines.declared.Command.{Command}
 use Rattle.hwp_cpu_course.specs.hwp_cpu_row.hwp_banks.Banks.{empty_banks, Banks}
 use Rattle.hwp_cpu_course.specs.hwp_cpu_row.hwp_geom.declared.Layout.{Layout}
@@ -158,7 +158,7 @@ row-few layout view who row each =
     let few : sum_by taken_back (cons_option (own_note who row.own) []) ≤ 1 = own-few who row.own in
     omega (arith, both, none, few)
 
-rows-few : (layout : Layout) (earlier : List (Command × Answer)) (view : View) (cpu : Cpu) (n : ℕ) (before : Banks) (commands : List Command) (rows : List Row) (after : Banks) → AreRowsServed layout earlier view cpu n before commands rows after → sum_by taken_back (notes_from cpu n rows) ≤ length rows
+rows-few : (layout : Layout) (earlier : List (Command × Answer)) (view : View) (cpu : Cpu) (n : ℕ) (before : Banks) (commands : List Command) (rows : List Row) (after : Banks) → AreRowsActed layout earlier view cpu n before commands rows after → sum_by taken_back (notes_from cpu n rows) ≤ length rows
 rows-few layout earlier view cpu n before commands [] after are = omega arith
 rows-few layout earlier view cpu n before [] (row ∷ rows) after are = absurd are
 rows-few layout earlier view cpu n before (command ∷ commands) (row ∷ rows) after are =
@@ -169,7 +169,7 @@ rows-few layout earlier view cpu n before (command ∷ commands) (row ∷ rows) 
     omega (arith, both, first, rest)
 
 -- where all marks are noted, and fewer commands answered than a processor may have, it can take a poison back
-pub revival-left : (layout : Layout) (view : View) (cpu : Cpu) (list : List Command) (rows : List Row) (after : Banks) → AreRowsServed layout [] view cpu 0 empty_banks list rows after → Pairs IsNote (notes_from cpu 0 rows) view.marks → length rows < command_limit → HasRevivalLeft cpu view
+pub revival-left : (layout : Layout) (view : View) (cpu : Cpu) (list : List Command) (rows : List Row) (after : Banks) → AreRowsActed layout [] view cpu 0 empty_banks list rows after → Pairs IsNote (notes_from cpu 0 rows) view.marks → length rows < command_limit → HasRevivalLeft cpu view
 revival-left layout view cpu list rows after are noted within =
     let marks : revivals_by cpu view.marks ≤ sum_by taken_back (notes_from cpu 0 rows) = marks-taken cpu (notes_from cpu 0 rows) view.marks noted in
     let few : sum_by taken_back (notes_from cpu 0 rows) ≤ length rows = rows-few layout [] view cpu 0 empty_banks list rows after are in

@@ -1,9 +1,11 @@
 -- What is so of some rows is so of them and one more.
-use Rattle.std.proofs.Common.{◌≡◌, ℕ, zero, suc, ◌+◌, ◌<◌, ◌≤◌, ◌⊎◌, inl, inr, List, [], ◌∷◌, ◌++◌, Some, None, length, slice_get, get_or, append-nil, append_assoc, refl, sym, ap, ◌∙◌, subst, arith}
+use Rattle.std.proofs.Common.{◌≡◌, ℕ, zero, suc, ◌+◌, ◌<◌, ◌≤◌, ◌⊎◌, inl, inr, List, [], ◌∷◌, ◌++◌, Option, Some, None, length, slice_get, get_or, append-nil, append_assoc, refl, sym, ap, ◌∙◌, subst, arith}
 use Rattle.std.proofs.lemmas.Option.{none-some, same_Some, slice_get-get_or, slice_get_within}
 use Rattle.hwp_cpu_course.specs.hwp_cpu_row.hwp_geom.declared.Cpu.{Cpu}
 use Rattle.hwp_cpu_course.specs.hwp_cpu_row.hwp_geom.declared.Layout.{Layout}
+use Rattle.hwp_cpu_course.specs.hwp_cpu_row.hwp_geom.declared.VSlot.{VSlot}
 use Rattle.hwp_cpu_course.specs.hwp_cpu_row.hwp_geom.declared.Who.{Who}
+use Rattle.hwp_cpu_course.specs.hwp_cpu_row.hwp_law_commands.Cows.{acting, copied_from}
 use Rattle.hwp_cpu_course.specs.hwp_cpu_row.hwp_script_lines.declared.Command.{Command}
 use Rattle.hwp_cpu_course.specs.hwp_cpu_row.hwp_report_text.declared.Answer.{Answer}
 use Rattle.hwp_cpu_course.specs.hwp_cpu_row.hwp_report_text.declared.Answer.TheVariants as answers
@@ -14,7 +16,9 @@ use Rattle.hwp_cpu_course.specs.hwp_cpu_row.declared.Row.{Row}
 use Rattle.hwp_cpu_course.specs.hwp_cpu_row.hwp_banks.Banks.{Banks}
 use Rattle.hwp_cpu_causes.specs.hwp_law_served.Handles.{answers_by}
 use Rattle.hwp_cpu_causes.specs.hwp_law_served.Rows.{Note, notes_from, row_notes}
-use Rattle.hwp_cpu_causes.specs.hwp_law_served.Served.{AreRowsServed, IsOwnSpoil, IsOwnStop, IsRowServed, StaysStopped}
+use Rattle.hwp_cpu_causes.specs.hwp_law_served.Served.{AreRowsActed, IsOwnSpoil, IsOwnStop, IsRowServed, StaysStopped}
+use Rattle.hwp_cpu_causes.proofs.of_hwp_law_served.lines.ScrubBank.{with-free}
+use Rattle.hwp_cpu_course.specs.hwp_cpu_command.hwp_scrub.Visits.{AreBanks}
 use Rattle.hwp_cpu.specs.Processors.{at_number}
 use Rattle.hwp_cpu.specs.Serving.{HasStopped}
 
@@ -30,36 +34,47 @@ past-end [] i none = omega arith
 past-end (x ∷ xs) zero none = absurd (none-some x (sym none))
 past-end (x ∷ xs) (suc i) none = let few : length xs ≤ i = past-end xs i none in omega arith
 
+-- the row of a command of the script behind these, by the command that is acted on
+abbrev pub IsRowActed : Layout → List (Command × Answer) → View → Who → Command → Banks → Row → Banks → Type 0
+IsRowActed layout earlier view who own before row after = IsRowServed layout earlier (copied_from layout earlier own) view who (acting layout earlier own) before row after
+
 -- one row more, which goes on from what the banks held
 pub rows-more : (layout : Layout) (earlier : List (Command × Answer)) (view : View) (cpu : Cpu) (n : ℕ) (before : Banks) (commands : List Command) (rows : List Row) (between : Banks) (m : ℕ) (command : Command) (row : Row) (after : Banks)
-    → m ≡ n + length rows → AreRowsServed layout earlier view cpu n before commands rows between → slice_get commands (length rows) ≡ Some command
-    → IsRowServed layout (earlier ++ answers_by commands rows) view (at_number cpu m) command between row after → AreRowsServed layout earlier view cpu n before commands (rows ++ row ∷ []) after
+    → m ≡ n + length rows → AreRowsActed layout earlier view cpu n before commands rows between → slice_get commands (length rows) ≡ Some command
+    → IsRowActed layout (earlier ++ answers_by commands rows) view (at_number cpu m) command between row after → AreRowsActed layout earlier view cpu n before commands (rows ++ row ∷ []) after
 rows-more layout earlier view cpu n before [] [] between m command row after is are there served = absurd (none-some command there)
 rows-more layout earlier view cpu n before [] (r ∷ rs) between m command row after is are there served = absurd (none-some command there)
 rows-more layout earlier view cpu n before (c ∷ cs) [] between m command row after is are there served = (
   after,
-  subst (λ (d : Command). IsRowServed layout earlier view (at_number cpu n) d before row after) (sym (same_Some c command there))
-      (subst (λ (b : Banks). IsRowServed layout earlier view (at_number cpu n) command b row after) are
-      (subst (λ (k : ℕ). IsRowServed layout earlier view (at_number cpu k) command between row after) (let same : m ≡ n = omega arith in same)
-      (subst (λ (l : List (Command × Answer)). IsRowServed layout l view (at_number cpu m) command between row after) (append-nil earlier) served))),
+  subst (λ (d : Command). IsRowActed layout earlier view (at_number cpu n) d before row after) (sym (same_Some c command there))
+      (subst (λ (b : Banks). IsRowActed layout earlier view (at_number cpu n) command b row after) are
+      (subst (λ (k : ℕ). IsRowActed layout earlier view (at_number cpu k) command between row after) (let same : m ≡ n = omega arith in same)
+      (subst (λ (l : List (Command × Answer)). IsRowActed layout l view (at_number cpu m) command between row after) (append-nil earlier) served))),
   refl,
 )
 rows-more layout earlier view cpu n before (c ∷ cs) (r ∷ rs) between m command row after is are there served = (
   are.0,
   are.1,
   rows-more layout (earlier ++ (c, r.answer) ∷ []) view cpu (n + 1) are.0 cs rs between m command row after (omega arith) are.2 there
-      (subst (λ (l : List (Command × Answer)). IsRowServed layout l view (at_number cpu m) command between row after) (sym (append_assoc earlier ((c, r.answer) ∷ []) (answers_by cs rs))) served),
+      (subst (λ (l : List (Command × Answer)). IsRowActed layout l view (at_number cpu m) command between row after) (sym (append_assoc earlier ((c, r.answer) ∷ []) (answers_by cs rs))) served),
 )
 
 -- rows stay right where each of them does
 pub rows-stay : (layout : Layout) (old new : View) (cpu : Cpu) (m : ℕ)
-    → ((k : ℕ) (earlier : List (Command × Answer)) (c : Command) (before : Banks) (row : Row) (after : Banks) → k < m → IsRowServed layout earlier old (at_number cpu k) c before row after → IsRowServed layout earlier new (at_number cpu k) c before row after)
-    → (earlier : List (Command × Answer)) (n : ℕ) (before : Banks) (commands : List Command) (rows : List Row) (after : Banks) → n + length rows ≤ m → AreRowsServed layout earlier old cpu n before commands rows after → AreRowsServed layout earlier new cpu n before commands rows after
+    → ((k : ℕ) (earlier : List (Command × Answer)) (copied : Option VSlot) (c : Command) (before : Banks) (row : Row) (after : Banks) → k < m → IsRowServed layout earlier copied old (at_number cpu k) c before row after → IsRowServed layout earlier copied new (at_number cpu k) c before row after)
+    → (earlier : List (Command × Answer)) (n : ℕ) (before : Banks) (commands : List Command) (rows : List Row) (after : Banks) → n + length rows ≤ m → AreRowsActed layout earlier old cpu n before commands rows after → AreRowsActed layout earlier new cpu n before commands rows after
 rows-stay layout old new cpu m stay earlier n before [] [] after few are = are
 rows-stay layout old new cpu m stay earlier n before (c ∷ cs) [] after few are = are
 rows-stay layout old new cpu m stay earlier n before [] (r ∷ rs) after few are = absurd are
 rows-stay layout old new cpu m stay earlier n before (c ∷ cs) (r ∷ rs) after few are =
-    (are.0, stay n earlier c before r are.0 (omega arith) are.1, rows-stay layout old new cpu m stay (earlier ++ (c, r.answer) ∷ []) (n + 1) are.0 cs rs after (omega arith) are.2)
+    (are.0, stay n earlier (copied_from layout earlier c) (acting layout earlier c) before r are.0 (omega arith) are.1, rows-stay layout old new cpu m stay (earlier ++ (c, r.answer) ∷ []) (n + 1) are.0 cs rs after (omega arith) are.2)
+
+-- the banks stay such as there may be
+pub banks-acted : (layout : Layout) (earlier : List (Command × Answer)) (view : View) (cpu : Cpu) (n : ℕ) (before : Banks) (commands : List Command) (rows : List Row) (after : Banks) → AreRowsActed layout earlier view cpu n before commands rows after → AreBanks before → AreBanks after
+banks-acted layout earlier view cpu n before cs [] after same are = subst AreBanks (sym same) are
+banks-acted layout earlier view cpu n before [] (row ∷ rows) after served are = absurd served
+banks-acted layout earlier view cpu n before (c ∷ cs) (row ∷ rows) after (between, served, rest) are =
+    banks-acted layout (earlier ++ (c, row.answer) ∷ []) view cpu (n + 1) between cs rows after rest (with-free layout view (at_number cpu n) (copied_from layout earlier c) (acting layout earlier c) row.answer before row.told between served.told are)
 
 -- the notes of one row more
 pub notes-more : (cpu : Cpu) (n : ℕ) (rows : List Row) (m : ℕ) (row : Row) → m ≡ n + length rows → notes_from cpu n (rows ++ row ∷ []) ≡ notes_from cpu n rows ++ row_notes (at_number cpu m) row

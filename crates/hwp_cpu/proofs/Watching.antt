@@ -1,4 +1,6 @@
 -- The collector of a processor and the frames that are due, from one command to the next.
+use Rattle.hwp_cpu_course.specs.hwp_cpu_row.hwp_geom.declared.VSlot.{VSlot}
+use Rattle.hwp_cpu_course.specs.hwp_cpu_row.hwp_core_task.Known.{HasMadeNone}
 use Rattle.hwp_cpu_course.specs.hwp_cpu_row.hwp_banks.declared.Event.{Event}
 use Rattle.hwp_cpu.proofs.BesideEnds.{due-none}
 use Rattle.hwp_cpu_causes.proofs.of_hwp_law_commands.NoteLaws.{told-none}
@@ -9,13 +11,14 @@ use Rattle.hwp_cpu_course.specs.hwp_cpu_row.declared.Row.{Row}
 use Rattle.hwp_cpu_course.specs.hwp_cpu_row.hwp_geom.declared.Who.{Who}
 use Rattle.hwp_cpu_course.specs.hwp_cpu_row.hwp_script_lines.declared.Command.{Command}
 use Rattle.std.proofs.lemmas.Option.{same_Some, slice_get_within, none-some}
-use Rattle.hwp_cpu_course.proofs.of_hwp_cpu_command.OfKind.{of-fsync, of-raise, of-spoil, of-prctl, of-unpoison, of-scrub, of-nested, of-instruction, of-log, of-soft, of-inject, of-evict}
+use Rattle.hwp_cpu_course.proofs.of_hwp_cpu_command.OfKind.{of-copying, of-fork, of-fsync, of-raise, of-spoil, of-prctl, of-unpoison, of-scrub, of-nested, of-instruction, of-log, of-soft, of-inject, of-evict}
 use Rattle.hwp_cpu_course.specs.hwp_cpu_row.hwp_geom.declared.Layout.{Layout}
 use Rattle.hwp_cpu_course.specs.hwp_cpu_command.Stays.{IsAtStop}
 use Rattle.hwp_cpu_course.specs.hwp_cpu_command.hwp_cpu_raise.declared.Log.{Log}
 use Rattle.hwp_cpu_course.specs.Courses.{begin, IsOfMachine}
-use Rattle.hwp_cpu_causes.specs.hwp_law_served.Offlinings.{KnowsDue, watched_at, AreDue, watched_along}
-use Rattle.hwp_cpu.specs.Serving.{noting, HasToldAll, OwnGoesOn, KeepsWatch}
+use Rattle.hwp_cpu_causes.specs.hwp_law_served.Offlinings.{KnowsDue, left_among, watched_at, AreDue, watched_along}
+use Rattle.hwp_cpu.specs.Serving.{noting, HasToldAll, OwnGoesOn, KeepsWatch, left_so_far}
+use Rattle.hwp_cpu_causes.specs.Beside.{ArePriorWith}
 use Rattle.hwp_cpu_course.specs.hwp_cpu_command.Runs.{Runs}
 use Rattle.hwp_cpu_course.specs.hwp_cpu_row.hwp_law_commands.Commands.{is_watch}
 use Rattle.std.proofs.lemmas.List.{take-append-le, take_all, length-append, length-map, length-replicate, get_or-replicate}
@@ -155,30 +158,39 @@ module _ (frames : ℕ) (notes : List Frame) (watched : Option Watched) (w : Opt
   of-job command a j k same left = subst (λ (x : Job). Left command a (watching_after x a w)) (sym same) left
 
   -- after a command with this answer
-  pub watching-ends : (layout : Layout) (who : Who) (command : Command) (j : Job) (a : Answer) → Runs layout who command j → StandsOn j a w → (is_watch command ≡ true → IsSome w) → Left command a (watching_after j a w)
-  watching-ends layout who (commands.Load thread slot line) j a runs stands room = let task = of-instruction j runs.job_is in of-job (commands.Load thread slot line) a j _ task.1 is
-  watching-ends layout who (commands.Fetch thread slot line) j a runs stands room = let task = of-instruction j runs.job_is in of-job (commands.Fetch thread slot line) a j _ task.1 is
-  watching-ends layout who (commands.KLoad thread slot line) j a runs stands room = let task = of-instruction j runs.job_is in of-job (commands.KLoad thread slot line) a j _ task.1 is
-  watching-ends layout who (commands.Store thread slot line word) j a runs stands room = let task = of-instruction j runs.job_is in of-job (commands.Store thread slot line word) a j _ task.1 is
-  watching-ends layout who (commands.Free slot) j a runs stands room = let task = of-evict j runs.1.job_is in of-job (commands.Free slot) a j _ task.1 is
-  watching-ends layout who (commands.Drop page) j a runs stands room = let task = of-evict j runs.job_is in of-job (commands.Drop page) a j _ task.1 is
-  watching-ends layout who (commands.Sync page) j a runs stands room = let task = of-evict j runs.job_is in of-job (commands.Sync page) a j _ task.1 is
-  watching-ends layout who (commands.Out page) j a runs stands room = let task = of-evict j runs.job_is in of-job (commands.Out page) a j _ task.1 is
-  watching-ends layout who (commands.Fsync file) j a runs stands room = let task = of-fsync j runs.2 in of-job (commands.Fsync file) a j _ task.1 is
-  watching-ends layout who (commands.Open file) j a runs stands room = let task = of-fsync j runs.2 in of-job (commands.Open file) a j _ task.1 is
-  watching-ends layout who (commands.Prctl thread args) j a runs stands room = let task = of-prctl j runs.job_is in of-job (commands.Prctl thread args) a j _ task.1 is
-  watching-ends layout who (commands.Bad frame line) j a runs stands room = let task = of-spoil j runs.job_is in of-job (commands.Bad frame line) a j _ task.1 is
-  watching-ends layout who (commands.Weak frame line) j a runs stands room = let task = of-spoil j runs.job_is in of-job (commands.Weak frame line) a j _ task.1 is
-  watching-ends layout who (commands.RaiseUser thread ripv eipv) j a runs stands room = let task = of-raise j runs.job_is in of-job (commands.RaiseUser thread ripv eipv) a j _ task.1 is
-  watching-ends layout who (commands.RaiseKernel ripv eipv) j a runs stands room = let task = of-raise j runs.job_is in of-job (commands.RaiseKernel ripv eipv) a j _ task.1 is
-  watching-ends layout who commands.RaiseNested j a runs stands room = let task = of-nested j runs in of-job commands.RaiseNested a j _ task.1 is
-  watching-ends layout who (commands.Inject frame) j a runs stands room = let task = of-inject j runs.job_is in of-job (commands.Inject frame) a j _ task.1 is
-  watching-ends layout who (commands.Soft frame) j a runs stands room = let task = of-soft j runs.job_is in of-job (commands.Soft frame) a j _ task.1 is
-  watching-ends layout who (commands.Unpoison frame) j a runs stands room = let task = of-unpoison j runs.job_is in of-job (commands.Unpoison frame) a j _ task.1 is
-  watching-ends layout who (commands.Log status addr misc) j a runs stands room = let task = of-log j runs.job_is in of-job (commands.Log status addr misc) a j _ task.1 (log-left status addr misc a task.0 (ap (λ (l : Log). l.change) task.2))
-  watching-ends layout who (commands.Watch threshold window) j a runs stands room = let task = of-log j runs.job_is in
+  plain-ends : (layout : Layout) (who : Who) (command : Command) (j : Job) (a : Answer) → Runs layout who command None j → StandsOn j a w → (is_watch command ≡ true → IsSome w) → Left command a (watching_after j a w)
+  plain-ends layout who (commands.Load thread slot line) j a runs stands room = let task = of-instruction j runs.job_is in of-job (commands.Load thread slot line) a j _ task.1 is
+  plain-ends layout who (commands.Fetch thread slot line) j a runs stands room = let task = of-instruction j runs.job_is in of-job (commands.Fetch thread slot line) a j _ task.1 is
+  plain-ends layout who (commands.KLoad thread slot line) j a runs stands room = let task = of-instruction j runs.job_is in of-job (commands.KLoad thread slot line) a j _ task.1 is
+  plain-ends layout who (commands.Store thread slot line word) j a runs stands room = let task = of-instruction j runs.job_is in of-job (commands.Store thread slot line word) a j _ task.1 is
+  plain-ends layout who (commands.Free slot) j a runs stands room = let task = of-evict j runs.1.job_is in of-job (commands.Free slot) a j _ task.1 is
+  plain-ends layout who (commands.Drop page) j a runs stands room = let task = of-evict j runs.job_is in of-job (commands.Drop page) a j _ task.1 is
+  plain-ends layout who (commands.Sync page) j a runs stands room = let task = of-evict j runs.job_is in of-job (commands.Sync page) a j _ task.1 is
+  plain-ends layout who (commands.Out page) j a runs stands room = let task = of-evict j runs.job_is in of-job (commands.Out page) a j _ task.1 is
+  plain-ends layout who (commands.Fsync file) j a runs stands room = let task = of-fsync j runs.2 in of-job (commands.Fsync file) a j _ task.1 is
+  plain-ends layout who (commands.Open file) j a runs stands room = let task = of-fsync j runs.2 in of-job (commands.Open file) a j _ task.1 is
+  plain-ends layout who (commands.Prctl thread args) j a runs stands room = let task = of-prctl j runs.job_is in of-job (commands.Prctl thread args) a j _ task.1 is
+  plain-ends layout who (commands.Fork thread child) j a runs stands room = let task = of-fork j runs.job_is in of-job (commands.Fork thread child) a j _ task.1 is
+  plain-ends layout who (commands.Bad frame line) j a runs stands room = let task = of-spoil j runs.job_is in of-job (commands.Bad frame line) a j _ task.1 is
+  plain-ends layout who (commands.Weak frame line) j a runs stands room = let task = of-spoil j runs.job_is in of-job (commands.Weak frame line) a j _ task.1 is
+  plain-ends layout who (commands.RaiseUser thread ripv eipv) j a runs stands room = let task = of-raise j runs.job_is in of-job (commands.RaiseUser thread ripv eipv) a j _ task.1 is
+  plain-ends layout who (commands.RaiseKernel ripv eipv) j a runs stands room = let task = of-raise j runs.job_is in of-job (commands.RaiseKernel ripv eipv) a j _ task.1 is
+  plain-ends layout who commands.RaiseNested j a runs stands room = let task = of-nested j runs in of-job commands.RaiseNested a j _ task.1 is
+  plain-ends layout who (commands.Inject frame) j a runs stands room = let task = of-inject j runs.job_is in of-job (commands.Inject frame) a j _ task.1 is
+  plain-ends layout who (commands.Soft frame) j a runs stands room = let task = of-soft j runs.job_is in of-job (commands.Soft frame) a j _ task.1 is
+  plain-ends layout who (commands.Unpoison frame) j a runs stands room = let task = of-unpoison j runs.job_is in of-job (commands.Unpoison frame) a j _ task.1 is
+  plain-ends layout who (commands.Log status addr misc) j a runs stands room = let task = of-log j runs.job_is in of-job (commands.Log status addr misc) a j _ task.1 (log-left status addr misc a task.0 (ap (λ (l : Log). l.change) task.2))
+  plain-ends layout who (commands.Watch threshold window) j a runs stands room = let task = of-log j runs.job_is in
       of-job (commands.Watch threshold window) a j _ task.1 (subst (λ (c : LocalChange). Left (commands.Watch threshold window) a (watched_by c a w)) (sym (ap (λ (l : Log). l.change) task.2)) (watch-left threshold window a (room refl)))
-  watching-ends layout who (commands.Scrub first last) j a runs stands room = let task = of-scrub j runs.job_is in of-job (commands.Scrub first last) a j _ task.1 (scrub-left first last a (subst (λ (x : Job). StandsOn x a w) task.1 stands))
+  plain-ends layout who (commands.Scrub first last) j a runs stands room = let task = of-scrub j runs.job_is in of-job (commands.Scrub first last) a j _ task.1 (scrub-left first last a (subst (λ (x : Job). StandsOn x a w) task.1 stands))
+
+  copy-ends : (layout : Layout) (who : Who) (command : Command) (from : VSlot) (j : Job) (a : Answer) → Runs layout who command (Some from) j → Left command a (watching_after j a w)
+  copy-ends layout who (commands.Store thread slot line word) from j a runs = let task = of-copying j runs.job_is in of-job (commands.Store thread slot line word) a j _ task.1 is
+  copy-ends layout who command from j a runs = absurd runs
+
+  pub watching-ends : (layout : Layout) (who : Who) (command : Command) (copies : Option VSlot) (j : Job) (a : Answer) → Runs layout who command copies j → StandsOn j a w → (is_watch command ≡ true → IsSome w) → Left command a (watching_after j a w)
+  watching-ends layout who command None j a runs stands room = plain-ends layout who command j a runs stands room
+  watching-ends layout who command (Some from) j a runs stands room = copy-ends layout who command from j a runs
 
 -- a collector stays one
 pub room-stays : (j : Job) (a : Answer) (w : Option Watching) → IsSome w → IsSome (watching_after j a w)
@@ -218,19 +230,30 @@ watch-starts layout view who list watched c watching is start watches room = sub
     none-noted None at = at
     none-noted (Some v) at = subst (λ (y : Watched). IsWatching layout.frames (Some y) watching) (sym (told-none v)) at
 
+-- no entry stands before its own task's
+pub prior-none : (layout : Layout) (command : Command) (copies : Option VSlot) → ArePriorWith layout command copies []
+prior-none layout command None = prior-begins layout command
+prior-none layout command (Some from) = refl
+
 -- its own task fits, and no frame is due
-pub own-starts : (layout : Layout) (view : View) (command : Command) (c : Course) (watching : Option Watching) → c ≡ begin c.own watching layout.frames → IsAtStop c.own → jobs.FitsFrom [] layout view c.own → OwnGoesOn layout view command c
-own-starts layout view command c watching is start fits = subst (OwnGoesOn layout view command) (sym is) (record {
+pub own-starts : (layout : Layout) (view : View) (command : Command) (copies : Option VSlot) (c : Course) (watching : Option Watching) → c ≡ begin c.own watching layout.frames → IsAtStop c.own → jobs.FitsFrom [] layout view c.own → HasMadeNone view (jobs.who c.own)
+    → OwnGoesOn layout view command copies c
+own-starts layout view command copies c watching is start fits made = subst (OwnGoesOn layout view command copies) (sym is) (record {
   base = [];
   fits = fits;
-  prior = prior-begins layout command;
-  left = refl;
+  prior = prior-none layout command copies;
+  left = none-left c.own made;
   all = refl;
   told = none-told c.own start;
 })
   where
+    none-left : (j : Job) → HasMadeNone view (jobs.who j) → left_so_far [] view j ≡ []
+    none-left (kinds.Copying y) none = ap left_among none
+    none-left _ none = refl
+
     none-told : (j : Job) → IsAtStop j → HasToldAll watching j 0
     none-told (kinds.Instruction i) at = λ on. sym (ap length (untold-at-start (kinds.Instruction i) at))
+    none-told (kinds.Copying y) at = λ on. sym (ap length (untold-at-start (kinds.Copying y) at))
     none-told _ at = refl
 
 -- the collector is of the machine

@@ -1,6 +1,6 @@
 -- The commands of one processor as one task: in all that it plans, shows and needs it is the command that runs, with the frames that are
 -- taken out of use beside it, until that is answered; then the next one begins.
-use Rattle.std.specs.Prelude.{◌≡◌, ℕ, ◌+◌, ◌-◌, ◌*◌, ◌<◌, ◌≤◌, Bool, false, List, [], ◌∷◌, ◌++◌, Option, Some, None, All, length, option_map, slice_get, vec_capacity}
+use Rattle.std.specs.Prelude.{◌≡◌, ℕ, ◌+◌, ◌-◌, ◌*◌, ◌<◌, ◌≤◌, Bool, false, List, [], ◌∷◌, ◌++◌, Option, Some, None, All, count_by, length, option_map, slice_get, vec_capacity}
 use Rattle.std.specs.Arc.{arc_value}
 use Rattle.std.specs.List.{list_any}
 use Rattle.hwp_cpu_course.specs.hwp_cpu_row.hwp_geom.declared.Cpu.{Cpu}
@@ -12,7 +12,8 @@ use Rattle.hwp_cpu_course.specs.hwp_cpu_row.hwp_geom.Limits.{command_limit}
 use Rattle.hwp_cpu_course.specs.hwp_cpu_row.hwp_page.History.{BodyValue}
 use Rattle.hwp_cpu_course.specs.hwp_cpu_row.hwp_script_lines.declared.Command.{Command}
 use Rattle.hwp_cpu_course.specs.hwp_cpu_row.hwp_law_commands.Commands.{is_watch}
-use Rattle.hwp_cpu_course.specs.hwp_cpu_row.hwp_script_read.Valid.{IsCommandOf}
+use Rattle.hwp_cpu_course.specs.hwp_cpu_row.hwp_script_read.Forks.{is_fork_of}
+use Rattle.hwp_cpu_course.specs.hwp_cpu_row.hwp_script_read.Valid.{AreForksFit, AreTwinsFit, IsCommandOf}
 use Rattle.hwp_cpu_course.specs.hwp_cpu_row.hwp_report_text.declared.Answer.{Answer}
 use Rattle.hwp_cpu_course.specs.hwp_cpu_row.hwp_core_rule.declared.Step.{Step}
 use Rattle.hwp_cpu_course.specs.hwp_cpu_row.hwp_core_rule.Words.{Words}
@@ -25,6 +26,7 @@ use Rattle.hwp_cpu_course.specs.declared.Course.{Course}
 use Rattle.hwp_cpu_course.specs.Courses as courses
 use Rattle.hwp_cpu_course.specs.Courses.{BeginsCourse, local_after, local_left, part, row_of}
 use Rattle.hwp_cpu_course.specs.hwp_cpu_row.declared.Local.{Local}
+use Rattle.hwp_cpu_course.specs.hwp_cpu_row.CowLists.{acting_in, copied_in, told_in}
 use Rattle.hwp_cpu_course.specs.hwp_cpu_row.Locals.{IsFirst}
 use Rattle.hwp_cpu.specs.declared.processor.Processor.{Processor}
 
@@ -32,10 +34,18 @@ use Rattle.hwp_cpu.specs.declared.processor.Processor.{Processor}
 abbrev pub at_number : Cpu → ℕ → Who
 at_number cpu n = record { cpu = cpu; seq = n }
 
--- commands of the processor, which name what the layout declares, no more than a script has
+-- no process is forked twice
+abbrev pub AreForkedOnce : List Command → Type 0
+AreForkedOnce list = (process : ℕ) → count_by (is_fork_of process) list ≤ 1
+
+-- commands of the processor, which name what the layout declares, no more than a script has; its forks and the layout's twins are such as
+-- there may be
 pub record AreCommands (layout : Layout) (cpu : Cpu) (list : List Command) : Type 0 where
   pub named : All (IsCommandOf layout cpu.0) list
   pub few : length list ≤ command_limit
+  pub twins : AreTwinsFit layout
+  pub forks : AreForksFit layout cpu.0 list
+  pub once : AreForkedOnce list
 
 -- the processor can run its commands, and has memory for a row of each
 pub record IsReady (p : Processor) : Type 0 where
@@ -43,10 +53,11 @@ pub record IsReady (p : Processor) : Type 0 where
   pub commands : AreCommands (arc_value p.layout) p.cpu p.commands
   pub room : length p.commands ≤ vec_capacity p.rows
 
--- the command is at its beginning, of a processor that carries this: it begins with what the banks hold, and with the number of its
--- file's handle, knows whether the processor collects, and has the collector while it runs; past the last command none runs
+-- the command is at its beginning, of a processor that carries this: it is acted on through the translations that stand for those it names,
+-- and copies from one that is frozen; it begins with what the banks hold, and with the number of its file's handle, knows whether the
+-- processor collects, and has the collector while it runs; past the last command none runs
 abbrev pub BeginsAt : Layout → Who → Option Command → Local → Option Course → Type 0
-BeginsAt layout who (Some command) local (Some c) = BeginsCourse layout who command local c
+BeginsAt layout who (Some command) local (Some c) = BeginsCourse layout who (acting_in layout local.cows command) (copied_in local.cows command) local c
 BeginsAt layout who None local None = Unit {0}
 BeginsAt layout who _ local _ = ⊥
 
@@ -64,7 +75,7 @@ pub record AtBeginning (layout : Layout) (cpu : Cpu) (list : List Command) (p : 
   pub ready : IsReady p
   pub no_row : p.rows.items ≡ []
   pub first : Local
-  pub is_first : IsFirst layout.files (list_any is_watch list) layout.frames first
+  pub is_first : IsFirst layout (list_any is_watch list) first
   pub begins : BeginsAt layout (at_number cpu 0) (slice_get list 0) first p.course
   pub local_is : p.local ≡ left_of p.course first
 
@@ -134,6 +145,15 @@ ShowsOf p None found got = Unit {0}
 abbrev pub Shows : Processor → ℕ → Option BodyValue → Type 0
 Shows p found got = ShowsOf p p.course found got
 
+-- what the processor carries on behind this command with this answer: it knows what is frozen and switched
+abbrev pub told_local : Layout → Option Command → Answer → Local → Local
+told_local layout None answer local = local
+told_local layout (Some command) answer local = record local { cows = told_in layout command answer local.cows }
+
+-- the same behind the command of this number, that comes to its end
+abbrev pub carried_on : Processor → Course → Answer → Local
+carried_on p c answer = told_local (arc_value p.layout) (slice_get p.commands (length p.rows.items)) answer (local_after c answer p.local)
+
 -- the command that ran is answered so, its row is the last one, and the next command begins with what it left, perhaps in a new round of
 -- the collector
 pub record IsAnswered (p : Processor) (c : Course) (answer : Answer) (after : Processor) : Type 0 where
@@ -143,8 +163,8 @@ pub record IsAnswered (p : Processor) (c : Course) (answer : Answer) (after : Pr
   pub rows_are : after.rows.items ≡ p.rows.items ++ row_of c answer ∷ []
   pub room : vec_capacity after.rows ≡ vec_capacity p.rows
   pub round : StandsOn c.own answer c.watching
-  pub begins : BeginsAt (arc_value p.layout) (at_number p.cpu (length p.rows.items + 1)) (slice_get p.commands (length p.rows.items + 1)) (local_after c answer p.local) after.course
-  pub local_is : after.local ≡ left_of after.course (local_after c answer p.local)
+  pub begins : BeginsAt (arc_value p.layout) (at_number p.cpu (length p.rows.items + 1)) (slice_get p.commands (length p.rows.items + 1)) (carried_on p c answer) after.course
+  pub local_is : after.local ≡ left_of after.course (carried_on p c answer)
 
 -- the turn is that of the command, until the command has its answer
 abbrev pub Follows : Processor → Course → Option Answer → Turn → Processor → Turn → Type 0

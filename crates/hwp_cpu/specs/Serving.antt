@@ -7,11 +7,13 @@ use Rattle.hwp_cpu_course.specs.hwp_cpu_row.hwp_geom.declared.FileNo.{FileNo}
 use Rattle.hwp_cpu_course.specs.hwp_cpu_row.hwp_geom.declared.Frame.{Frame}
 use Rattle.hwp_cpu_course.specs.hwp_cpu_row.hwp_geom.declared.Layout.{Layout}
 use Rattle.hwp_cpu_course.specs.hwp_cpu_row.hwp_geom.declared.Thread.{Thread}
+use Rattle.hwp_cpu_course.specs.hwp_cpu_row.hwp_geom.declared.VSlot.{VSlot}
 use Rattle.hwp_cpu_course.specs.hwp_cpu_row.hwp_geom.declared.Who.{Who}
 use Rattle.hwp_cpu_course.specs.hwp_cpu_row.hwp_geom.Pairs.{Pairs}
 use Rattle.hwp_cpu_course.specs.hwp_cpu_row.hwp_script_lines.declared.Command.{Command}
 use Rattle.hwp_cpu_course.specs.hwp_cpu_row.hwp_report_text.declared.Answer.{Answer}
 use Rattle.hwp_cpu_course.specs.hwp_cpu_row.hwp_report_text.declared.Answer.TheVariants as answers
+use Rattle.hwp_cpu_course.specs.hwp_cpu_row.hwp_page.declared.At.{At}
 use Rattle.hwp_cpu_course.specs.hwp_cpu_row.hwp_core_rule.declared.Made.{Made}
 use Rattle.hwp_cpu_course.specs.hwp_cpu_row.hwp_core_rule.declared.Mark.{Mark}
 use Rattle.hwp_cpu_course.specs.hwp_cpu_row.hwp_core_rule.declared.Setting.{Setting}
@@ -27,9 +29,11 @@ use Rattle.hwp_cpu_course.specs.hwp_cpu_row.declared.Local.{Local}
 use Rattle.hwp_cpu_course.specs.hwp_cpu_row.declared.Row.{Row}
 use Rattle.hwp_cpu_course.specs.hwp_cpu_row.declared.Watching.{Watching}
 use Rattle.hwp_cpu_course.specs.hwp_cpu_row.hwp_banks.Banks.{Banks, empty_banks}
+use Rattle.hwp_cpu_course.specs.hwp_cpu_row.hwp_law_commands.Cows.{Cow, acting, copied_from}
 use Rattle.hwp_cpu_course.specs.hwp_cpu_row.hwp_law_commands.Settings.{settings}
 use Rattle.hwp_cpu_course.specs.hwp_cpu_row.declared.Offlining.{Offlining}
 use Rattle.hwp_cpu_course.specs.hwp_cpu_row.Acts.{AreInTime, acts, told_notes}
+use Rattle.hwp_cpu_course.specs.hwp_cpu_row.CowLists.{AreCowsOf, KnowsCows}
 use Rattle.hwp_cpu_course.specs.hwp_cpu_row.Locals.{IsWatching, collects}
 use Rattle.hwp_cpu_course.specs.hwp_cpu_row.hwp_cec.Ages.{Note}
 use Rattle.hwp_cpu_course.specs.hwp_cpu_row.hwp_law_commands.Commands.{is_watch}
@@ -38,6 +42,9 @@ use Rattle.hwp_cpu_course.specs.hwp_cpu_command.hwp_cpu_access.declared.Instruct
 use Rattle.hwp_cpu_course.specs.hwp_cpu_command.hwp_cpu_access.declared.instruction.Pause.{Pause}
 use Rattle.hwp_cpu_course.specs.hwp_cpu_command.hwp_cpu_access.Fits.{IsResting}
 use Rattle.hwp_cpu_course.specs.hwp_cpu_command.hwp_cpu_access.Instructions as instructions
+use Rattle.hwp_cpu_course.specs.hwp_cpu_command.hwp_cpu_copy.declared.Copying.{Copying}
+use Rattle.hwp_cpu_course.specs.hwp_cpu_command.hwp_cpu_copy.Copyings as copyings
+use Rattle.hwp_cpu_course.specs.hwp_cpu_command.hwp_cpu_copy.Fits as copying_fits
 use Rattle.hwp_cpu_course.specs.hwp_cpu_command.hwp_soft.declared.Soft.{Soft}
 use Rattle.hwp_cpu_course.specs.hwp_cpu_command.hwp_soft.Done as soft_done
 use Rattle.hwp_cpu_course.specs.hwp_cpu_command.hwp_soft.Offline as offline
@@ -54,14 +61,14 @@ use Rattle.hwp_cpu_course.specs.hwp_cpu_command.Stays.{EndsAtOnce, HasGivenUp, H
 use Rattle.hwp_cpu_course.specs.declared.Course.{Course}
 use Rattle.hwp_cpu_course.specs.Courses as courses
 use Rattle.hwp_cpu_course.specs.Courses.{is_abandoned, part}
-use Rattle.hwp_cpu_causes.specs.Beside.{ArePrior, CanCollect, DoesSo, IsOwnServed}
+use Rattle.hwp_cpu_causes.specs.Beside.{ArePriorWith, CanCollect, DoesSo, IsOwnServed}
 use Rattle.hwp_cpu_causes.specs.hwp_law_served.Causes.{HasOnlyMet}
 use Rattle.hwp_cpu_causes.specs.hwp_law_served.Accounts.{IsNote, act_marking, failures, markings, policies_set}
 use Rattle.hwp_cpu_causes.specs.hwp_law_served.Handles.{KnowsNumbers, answers_by, number_at}
-use Rattle.hwp_cpu_causes.specs.hwp_law_served.Offlinings.{KnowsDue, left_among, left_beside, watched_at}
+use Rattle.hwp_cpu_causes.specs.hwp_law_served.Offlinings.{KnowsDue, left_among, left_beside, left_by, watched_at}
 use Rattle.hwp_cpu_causes.specs.hwp_law_served.Owed.{OwesOwn}
 use Rattle.hwp_cpu_causes.specs.hwp_law_served.Rows.{notes_from}
-use Rattle.hwp_cpu_causes.specs.hwp_law_served.Served.{AreRowsServed, CanStop, IsOffliningServed, IsOneOf, IsOwnSpoil, IsOwnStop, SawRunning, StaysStopped}
+use Rattle.hwp_cpu_causes.specs.hwp_law_served.Served.{AreRowsActed, CanStop, IsOffliningServed, IsOneOf, IsOwnSpoil, IsOwnStop, SawRunning, StaysStopped}
 use Rattle.hwp_cpu.specs.declared.processor.Processor.{Processor}
 use Rattle.hwp_cpu.specs.Processors.{IsReady, Next, Shows, aborts, at_number, bare, claims, class, cost, plan, put, who}
 
@@ -108,11 +115,17 @@ pub record AreNumbered (layout : Layout) (list : List Command) (rows : List Row)
   pub many : length handles ≡ layout.files
   pub each : (file : FileNo) → file.0 < layout.files → slice_get handles file.0 ≡ Some (number_at file list rows (length rows))
 
--- what holds of the rows so far, which lead from empty banks to these, and from handles at 0 to these: each is right, and after a
--- `stopped` all are, on a machine that has stopped; each number that they tell was shown; and the frames that were taken out of use
--- beside the commands are those that were due
-pub record Serves (layout : Layout) (view : View) (cpu : Cpu) (list : List Command) (rows : List Row) (banks : Banks) (handles : List ℕ) : Type 0 where
-  pub rows_are : AreRowsServed layout [] view cpu 0 empty_banks list rows banks
+-- the processor remembers what the answers so far froze and switched
+pub record Remembers (layout : Layout) (list : List Command) (rows : List Row) (cows : List Cow) : Type 0 where
+  pub are : AreCowsOf layout cows
+  pub known : KnowsCows layout (answers_by list rows) cows
+
+-- what holds of the rows so far, which lead from empty banks to these, and from handles at 0 to these: each is right for the command that
+-- was acted on, and after a `stopped` all are, on a machine that has stopped; each number that they tell was shown; and the frames that
+-- were taken out of use beside the commands are those that were due
+pub record Serves (layout : Layout) (view : View) (cpu : Cpu) (list : List Command) (rows : List Row) (banks : Banks) (handles : List ℕ) (cows : List Cow) : Type 0 where
+  pub rows_are : AreRowsActed layout [] view cpu 0 empty_banks list rows banks
+  pub remembers : Remembers layout list rows cows
   pub stays : StaysStopped rows
   pub halted : HasStopped rows → IsHalted view
   pub numbers : KnowsNumbers layout view cpu list rows
@@ -148,19 +161,25 @@ pub record KeepsWatch (layout : Layout) (view : View) (who : Who) (list : List C
   pub offlined : EachMember (IsOffliningServed layout view who) c.due.offlined
   pub behind : AreInTime 0 (length (told_of c.own)) c.due.offlined
 
--- an access that goes on has told the collector all, where its processor collects; of another task the collector gets nothing while that
--- goes on
+-- an access or a copy that goes on has told the collector all, where its processor collects; of another task the collector gets nothing
+-- while that goes on
 abbrev pub HasToldAll : Option Watching → Job → ℕ → Type 0
 HasToldAll watching (kinds.Instruction i) noted = collects watching ≡ true → noted ≡ length i.lines.told
+HasToldAll watching (kinds.Copying y) noted = collects watching ≡ true → noted ≡ length y.instruction.lines.told
 HasToldAll watching j noted = noted ≡ 0
+
+-- where pages left frames that were taken out of use beside it
+abbrev pub left_so_far : List Made → View → Job → List At
+left_so_far base view (kinds.Copying y) = left_by y.store.who view
+left_so_far base view j = left_among base
 
 -- its own task goes on, behind entries that may stand before its answer: those of frames that were taken out of use are those that the
 -- course tells, and no frame is left to be taken out of use
-pub record OwnGoesOn (layout : Layout) (view : View) (command : Command) (c : Course) : Type 0 where
+pub record OwnGoesOn (layout : Layout) (view : View) (command : Command) (copies : Option VSlot) (c : Course) : Type 0 where
   pub base : List Made
   pub fits : jobs.FitsFrom base layout view c.own
-  pub prior : ArePrior layout command base
-  pub left : left_among base ≡ left_beside c.due.offlined
+  pub prior : ArePriorWith layout command copies base
+  pub left : left_so_far base view c.own ≡ left_beside c.due.offlined
   pub all : length c.due.offlined ≡ length c.due.frames
   pub told : HasToldAll c.watching c.own c.noted
 
@@ -173,17 +192,28 @@ pub record IsPaused (layout : Layout) (view : View) (who : Who) (command : Comma
   pub rests : IsResting layout view instruction pause
   pub met : HasOnlyMet layout view who command
 
+-- a copy pauses behind a machine check of one of its accesses
+pub record HasCopyPaused (layout : Layout) (view : View) (j : Job) : Type 0 where
+  pub copying : Copying
+  pub is : j ≡ kinds.Copying copying
+  pub pause : Pause
+  pub paused : copyings.pause copying ≡ Some pause
+  pub rests : copying_fits.IsResting [] layout view copying pause
+
+abbrev pub Pauses : Layout → View → Who → Command → Job → Type 0
+Pauses layout view who command j = IsPaused layout view who command j ⊎ HasCopyPaused layout view j
+
 -- its own task has its answer, and that has its cause; frames may be due behind it
 pub record HasAnswered (layout : Layout) (view : View) (cpu : Cpu) (list : List Command) (rows : List Row) (local : Local) (command : Command) (j : Job) : Type 0 where
   pub answer : Answer
   pub answered : jobs.answer j ≡ Some answer
   pub collects : CanCollect command
   pub some : told_of j ≢ []
-  pub served : IsOwnServed layout (answers_by list rows) view (at_number cpu (length rows)) command j answer local.banks
-  pub does : DoesSo command j answer
+  pub served : IsOwnServed layout (answers_by list rows) None view (at_number cpu (length rows)) command j answer local.banks
+  pub does : DoesSo layout (answers_by list rows) command j answer
 
 abbrev pub Rests : Layout → View → Cpu → List Command → List Row → Local → Command → Job → Type 0
-Rests layout view cpu list rows local command j = IsPaused layout view (at_number cpu (length rows)) command j ⊎ HasAnswered layout view cpu list rows local command j
+Rests layout view cpu list rows local command j = Pauses layout view (at_number cpu (length rows)) command j ⊎ HasAnswered layout view cpu list rows local command j
 
 -- the next frame is taken out of use, behind these entries, while its own task rests and has told the collector all
 pub record RunsBeside (layout : Layout) (view : View) (cpu : Cpu) (list : List Command) (rows : List Row) (local : Local) (command : Command) (c : Course) (s : Soft) : Type 0 where
@@ -196,18 +226,25 @@ pub record RunsBeside (layout : Layout) (view : View) (cpu : Cpu) (list : List C
   pub paid : is_abandoned s.at ≡ false → view.owed.losses ≡ []
   pub rests : Rests layout view cpu list rows local command c.own
 
-abbrev pub GoesOn : Layout → View → Cpu → List Command → List Row → Local → Command → Course → Option Soft → Type 0
-GoesOn layout view cpu list rows local command c None = OwnGoesOn layout view command c
-GoesOn layout view cpu list rows local command c (Some s) = RunsBeside layout view cpu list rows local command c s
+abbrev pub GoesOn : Layout → View → Cpu → List Command → List Row → Local → Command → Option VSlot → Course → Option Soft → Type 0
+GoesOn layout view cpu list rows local command copies c None = OwnGoesOn layout view command copies c
+GoesOn layout view cpu list rows local command copies c (Some s) = RunsBeside layout view cpu list rows local command c s
+
+-- the command that is acted on, and the translation that it copies from, are those of the script's command that comes next
+pub record IsActedOn (layout : Layout) (list : List Command) (rows : List Row) (command : Command) (copies : Option VSlot) : Type 0 where
+  pub own : Command
+  pub there : slice_get list (length rows) ≡ Some own
+  pub acts : command ≡ acting layout (answers_by list rows) own
+  pub copies_are : copies ≡ copied_from layout (answers_by list rows) own
 
 -- what is so of the command after those that are answered, whether its own task goes on or rests: it knows what those left; it has yet
 -- to look whether the machine has stopped, or is answered `stopped`, or saw the machine running
-pub record IsUnderWay (layout : Layout) (view : View) (cpu : Cpu) (list : List Command) (rows : List Row) (local : Local) (command : Command) (c : Course) : Type 0 where
-  pub serves : Serves layout view cpu list rows (banks_before c.own local.banks) local.handles
-  pub there : slice_get list (length rows) ≡ Some command
-  pub runs : Runs layout (at_number cpu (length rows)) command c.own
+pub record IsUnderWay (layout : Layout) (view : View) (cpu : Cpu) (list : List Command) (rows : List Row) (local : Local) (command : Command) (copies : Option VSlot) (c : Course) : Type 0 where
+  pub serves : Serves layout view cpu list rows (banks_before c.own local.banks) local.handles local.cows
+  pub next : IsActedOn layout list rows command copies
+  pub runs : Runs layout (at_number cpu (length rows)) command copies c.own
   pub handle : HasHandle local.handles c.own
-  pub policies : AreCounted (λ (thread : Thread). settings thread (answers_by list rows)) view c.own
+  pub policies : AreCounted (λ (thread : Thread). settings layout thread (answers_by list rows)) view c.own
   pub stopped : HasStopped rows → EndsAtOnce c.own
   pub looked : EndsAtOnce c.own ⊎ SawRunning view (at_number cpu (length rows))
   pub stops : EachMember (λ (who : Who). IsOwnStop layout cpu list rows who ⊎ HasStoppedIt layout command rows c.own who) view.stops
@@ -220,20 +257,22 @@ pub record IsUnderWay (layout : Layout) (view : View) (cpu : Cpu) (list : List C
 -- the command runs
 pub record IsRunning (layout : Layout) (view : View) (cpu : Cpu) (list : List Command) (rows : List Row) (local : Local) (c : Course) : Type 0 where
   pub command : Command
-  pub way : IsUnderWay layout view cpu list rows local command c
-  pub on : GoesOn layout view cpu list rows local command c c.beside
+  pub copies : Option VSlot
+  pub way : IsUnderWay layout view cpu list rows local command copies c
+  pub on : GoesOn layout view cpu list rows local command copies c c.beside
 
 -- memory ran out for the frames that were due: the command's own task gives up, and it is never answered
 pub record GivesUp (layout : Layout) (view : View) (cpu : Cpu) (list : List Command) (rows : List Row) (c : Course) : Type 0 where
   pub command : Command
-  pub there : slice_get list (length rows) ≡ Some command
-  pub runs : Runs layout (at_number cpu (length rows)) command c.own
+  pub copies : Option VSlot
+  pub next : IsActedOn layout list rows command copies
+  pub runs : Runs layout (at_number cpu (length rows)) command copies c.own
   pub up : HasGivenUp c.own
   pub none : c.beside ≡ None
 
 -- all commands are answered, none past them was begun, and nothing is held or owed
 pub record IsDone (layout : Layout) (view : View) (cpu : Cpu) (list : List Command) (rows : List Row) (local : Local) : Type 0 where
-  pub serves : Serves layout view cpu list rows local.banks local.handles
+  pub serves : Serves layout view cpu list rows local.banks local.handles local.cows
   pub all : length rows ≡ length list
   pub made : (k : ℕ) → length list ≤ k → HasMadeNone view (at_number cpu k)
   pub hand_is : hand_of view ≡ empty
@@ -242,7 +281,7 @@ pub record IsDone (layout : Layout) (view : View) (cpu : Cpu) (list : List Comma
   pub listed : IsListed view cpu (length list)
   pub noted : Pairs IsNote (notes_from cpu 0 rows) view.marks
   pub spoiled : EachMember (IsOwnSpoil cpu list rows) view.spoiled
-  pub policies : (thread : Thread) → policies_in thread view ≡ settings thread (answers_by list rows)
+  pub policies : (thread : Thread) → policies_in thread view ≡ settings layout thread (answers_by list rows)
 
 abbrev pub FitsAt : Layout → View → Cpu → List Command → List Row → Local → Option Course → Type 0
 FitsAt layout view cpu list rows local (Some c) = courses.Fits layout view c × (IsRunning layout view cpu list rows local c ⊎ GivesUp layout view cpu list rows c)

@@ -4,7 +4,7 @@ ghost use Rattle.std.specs.Arc.{arc_value};
 ghost use Rattle.hwp_cpu_course.specs.hwp_cpu_row.hwp_geom.Layout.{IsSound};
 ghost use Rattle.hwp_cpu_course.specs.hwp_cpu_row.hwp_law_commands.Commands.{is_watch};
 ghost use Rattle.hwp_cpu_course.specs.hwp_cpu_command.FileHandles.{HasChangeWithin};
-ghost use Rattle.hwp_cpu.specs.Processors.{AreCommands, AtBeginning, BeginsAt, IsAnswered, IsReady, at_number, left_of};
+ghost use Rattle.hwp_cpu.specs.Processors.{AreCommands, AtBeginning, BeginsAt, IsAnswered, IsReady, at_number, left_of, told_local};
 
 use hwp_cpu_course::{
     Answer, Body, Command, Course, Cpu, Layout, List, Local, OutOfMemory, Ranked, Row, Scheduled,
@@ -44,7 +44,7 @@ impl Processor {
         let layout = layout.clone()?;
         let list = List::from_vec(Vec::from_slice(alloc, commands)?);
         let rows = Vec::with_capacity(alloc, commands.len())?;
-        let mut local = Local::new(alloc, layout.files, has_watch(commands), layout.frames)?;
+        let mut local = Local::new(alloc, &layout, has_watch(commands))?;
         let course = first(alloc, &layout, cpu, commands, &mut local);
         Ok(Processor {
             alloc,
@@ -96,6 +96,7 @@ impl Processor {
         let number = self.rows.len();
         self.rows.push_reserved(row);
         let commands = self.commands.as_slice();
+        remember(&self.layout, commands, number, answer, &mut self.local);
         begin_next(
             self.alloc,
             &self.layout,
@@ -105,6 +106,15 @@ impl Processor {
             &mut self.local,
             &mut self.course,
         );
+    }
+}
+
+/// The processor knows what is frozen and switched behind the command of this number, which got this answer.
+fn remember(layout: &Layout, commands: &[Command], number: usize, answer: Answer, local: &mut Local)
+    ensures { local.new ≡ told_local layout.now (slice_get commands.now number) answer local.old }
+{
+    if let Some(command) = commands.get(number) {
+        local.cows.told(layout, command, answer);
     }
 }
 
@@ -118,7 +128,8 @@ fn has_watch(commands: &[Command]) -> bool
 }
 
 /// The first command at its beginning; `None` where there is none. It takes what the banks hold, if it can add to that, gets the number
-/// of its file's handle, and has the processor's collector while it runs.
+/// of its file's handle, and has the processor's collector while it runs. It is acted on through the translations that stand for those that
+/// it names.
 fn first(
     alloc: Global,
     layout: &Layout,
@@ -135,7 +146,9 @@ fn first(
         return None;
     };
     let who = Who { cpu, seq: 0 };
-    Some(Course::new(alloc, layout, who, *command, local))
+    let copies = local.cows.copied_from(command);
+    let acting = local.cows.acting(layout, command);
+    Some(Course::new(alloc, layout, who, acting, copies, local))
 }
 
 /// The command of this number begins in the same way, in place of the one that runs; past the last none runs.
@@ -163,8 +176,10 @@ fn begin_next(
         cpu,
         seq: number as u32,
     };
+    let copies = local.cows.copied_from(command);
+    let acting = local.cows.acting(layout, command);
     match course {
-        Some(running) => running.begin_next(alloc, layout, who, *command, local),
+        Some(running) => running.begin_next(alloc, layout, who, acting, copies, local),
         None => unreachable!(),
     }
 }

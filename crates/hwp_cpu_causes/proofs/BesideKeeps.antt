@@ -414,7 +414,8 @@ module _ {layout : Layout} {who : Who} {step : Step} {put : Option Log} {old new
   untold : (thread : Option Thread) (how : Arrival) (answer : Answer) (before : Banks) (told : List EventOutcome) (after : Banks) → IsRaiseTold layout old who thread how answer before told after → (page : Page) → answer ≡ answers.Gone page → told ≡ []
   untold thread how answer before told after has page is = (subst (λ (a : Answer). IsRaiseTold layout old who thread how a before told after) is has).0
 
-  pub own-stays : (earlier : List (Command × Answer)) (command : Command) (j : Job) (a : Answer) (kept : Banks) → CanCollect command → (told_of j ≡ [] → ⊥) → IsOwnServed layout earlier old who command j a kept → IsOwnServed layout earlier new who command j a kept
+  -- none of these copies
+  pub own-stays : (earlier : List (Command × Answer)) (command : Command) (j : Job) (a : Answer) (kept : Banks) → CanCollect command → (told_of j ≡ [] → ⊥) → IsOwnServed layout earlier None old who command j a kept → IsOwnServed layout earlier None new who command j a kept
   own-stays earlier (commands.RaiseUser thread ripv eipv) j a kept can some has = record {
     caused = user-stays earlier thread ripv eipv (told_of j) (own_of j) a some (untold (Some thread) (arrival_of (commands.RaiseUser thread ripv eipv)) a (banks_before j kept) (told_of j) (banks_after j kept) has.told) has.caused;
     told = raise-stays (Some thread) (arrival_of (commands.RaiseUser thread ripv eipv)) a (banks_before j kept) (told_of j) (banks_after j kept) has.told;

@@ -229,7 +229,7 @@ spoil-caused layout earlier view told did {who} {frame} {line} {damage} j {a} ru
 -- ---- calls of prctl(2)
 
 -- the last policy of some settings is that of their policies
-last-same : (d : Policy) (l : List Setting) → last_policy d l ≡ fold (λ earlier later. later) d (map (λ (s : Setting). s.policy) l)
+pub last-same : (d : Policy) (l : List Setting) → last_policy d l ≡ fold (λ earlier later. later) d (map (λ (s : Setting). s.policy) l)
 last-same d [] = refl
 last-same d (s ∷ l) = last-same s.policy l
 
@@ -240,26 +240,26 @@ own-set thread (x ∷ xs) =
     ap (λ (b : Bool). cons_option (cond b (Some x) None) (of_thread thread (map (λ (policy : Policy). (thread, policy)) xs))) (eq-eqb thread.0 thread.0 refl)
     ∙ ap (λ (l : List Policy). x ∷ l) (own-set thread xs)
 
-module _ (earlier : List (Command × Answer)) (view : View) (p : Prctl) (counted : AreCounted (λ (t : Thread). settings t earlier) view (jobs.Prctl p)) where
-  counted-so : policies_in p.thread view ≡ settings p.thread earlier ++ set_at p.at
-  counted-so = counted p.thread ∙ ap (λ (l : List Policy). settings p.thread earlier ++ l) (own-set p.thread (set_at p.at))
+module _ (layout : Layout) (earlier : List (Command × Answer)) (view : View) (p : Prctl) (counted : AreCounted (λ (t : Thread). settings layout t earlier) view (jobs.Prctl p)) where
+  counted-so : policies_in p.thread view ≡ settings layout p.thread earlier ++ set_at p.at
+  counted-so = counted p.thread ∙ ap (λ (l : List Policy). settings layout p.thread earlier ++ l) (own-set p.thread (set_at p.at))
 
   -- what was set before the call is what the earlier commands set
   before-is : (policy : Policy) (before : List Setting) (last : Setting) → settings_of p.thread view.settings ≡ before ++ last ∷ [] → p.at ≡ prctl_at.Over (prctl_answers.Replied (replies.Set policy))
-      → map (λ (s : Setting). s.policy) before ≡ settings p.thread earlier
-  before-is policy before last all over = (same_from_push (map (λ (s : Setting). s.policy) before) (settings p.thread earlier) last.policy policy (
+      → map (λ (s : Setting). s.policy) before ≡ settings layout p.thread earlier
+  before-is policy before last all over = (same_from_push (map (λ (s : Setting). s.policy) before) (settings layout p.thread earlier) last.policy policy (
       sym (map-append (λ (s : Setting). s.policy) before (last ∷ []))
       ∙ sym (ap (map (λ (s : Setting). s.policy)) all)
       ∙ counted-so
-      ∙ ap (λ (x : PrctlAt). settings p.thread earlier ++ set_at x) over
+      ∙ ap (λ (x : PrctlAt). settings layout p.thread earlier ++ set_at x) over
       )).0
 
-  now-is : set_at p.at ≡ [] → policies_in p.thread view ≡ settings p.thread earlier
-  now-is none = counted-so ∙ ap (λ (x : List Policy). settings p.thread earlier ++ x) none ∙ append-nil (settings p.thread earlier)
+  now-is : set_at p.at ≡ [] → policies_in p.thread view ≡ settings layout p.thread earlier
+  now-is none = counted-so ∙ ap (λ (x : List Policy). settings layout p.thread earlier ++ x) none ∙ append-nil (settings layout p.thread earlier)
 
   -- the reply to the policies that were set before
   replied-so : (r : Reply) → p.at ≡ prctl_at.Over (prctl_answers.Replied r) → prctls.WasReplied view p.who p.thread p.arguments r
-      → r ≡ reply (laws.last_policy (settings p.thread earlier)) p.arguments
+      → r ≡ reply (laws.last_policy (settings layout p.thread earlier)) p.arguments
   replied-so (replies.Set policy) over has =
       sym has.says ∙ ap (λ (x : Policy). reply x p.arguments) (last-same policy_names.Default has.before ∙ ap laws.last_policy (before-is policy has.before has.last has.all over))
   replied-so (replies.Is policy) over has =
@@ -276,12 +276,12 @@ module _ {layout : Layout} (earlier : List (Command × Answer)) {view : View} (t
   replied-caused same (replies.Is policy) has = subst (λ (given : List ℕ). IsReplied layout earlier view p.who p.thread given (reply_answer (replies.Is policy))) same has
   replied-caused same replies.Einval has = subst (λ (given : List ℕ). IsReplied layout earlier view p.who p.thread given (reply_answer replies.Einval)) same has
 
-  called : {args : PrctlArgs} → p.arguments ≡ arguments args → (x : PrctlAnswer) → p.at ≡ prctl_at.Over x → prctls.FitsOver view p.who p.thread p.process p.arguments x → AreCounted (λ (t : Thread). settings t earlier) view (jobs.Prctl p)
+  called : {args : PrctlArgs} → p.arguments ≡ arguments args → (x : PrctlAnswer) → p.at ≡ prctl_at.Over x → prctls.FitsOver view p.who p.thread p.process p.arguments x → AreCounted (λ (t : Thread). settings layout t earlier) view (jobs.Prctl p)
       → IsAnswerCaused layout earlier view p.who (commands.Prctl p.thread args) told did (prctl_answer x)
   called {args} same prctl_answers.Stopped over has counted = found-stopped layout (commands.Prctl p.thread args) view p.who (inl has) fits.made
   called same (prctl_answers.Gone page) over has counted = (record { ended = going has }, fits.made)
   called same (prctl_answers.Replied r) over has counted =
-      replied-caused same r (record { going = going has.0; made = fits.made; replied = ap reply_answer (replied-so earlier view p counted r over has.1) })
+      replied-caused same r (record { going = going has.0; made = fits.made; replied = ap reply_answer (replied-so layout earlier view p counted r over has.1) })
 
 -- what is known of a call that has its answer
 pub record KnowsPrctl (layout : Layout) (view : View) (who : Who) (thread : Thread) (args : PrctlArgs) (j : Job) (answer : Answer) : Type 0 where
@@ -317,13 +317,13 @@ knows-prctl {layout} {view} {who} {thread} {args} j {a} runs fits is = record {
     own = mapped prctl_answer (prctls.answer task.0) (sym (ap answer task.1) ∙ is)
 
 pub prctl-caused : {layout : Layout} (earlier : List (Command × Answer)) (view : View) (told : List EventOutcome) (did : Option FrameChange) {who : Who} {thread : Thread} {args : PrctlArgs} (j : Job) {a : Answer} → BeginsPrctl layout who thread args (anew j) → FitsFrom [] layout view j → answer j ≡ Some a
-    → AreCounted (λ (t : Thread). settings t earlier) view j → IsAnswerCaused layout earlier view who (commands.Prctl thread args) told did a
+    → AreCounted (λ (t : Thread). settings layout t earlier) view j → IsAnswerCaused layout earlier view who (commands.Prctl thread args) told did a
 prctl-caused {layout} earlier view told did {who} {thread} {args} j {a} runs fits is counted =
     subst (λ (w : Who). IsAnswerCaused layout earlier view w (commands.Prctl thread args) told did a) k.who_is
     (subst (λ (t : Thread). IsAnswerCaused layout earlier view k.task.who (commands.Prctl t args) told did a) k.thread_is
     (subst (IsAnswerCaused layout earlier view k.task.who (commands.Prctl k.task.thread args) told did) k.answer_is
     (called earlier told did k.task k.fits k.arguments_are k.own k.over (subst (prctls.FitsAt view k.task.who k.task.thread k.task.process k.task.arguments) k.over k.fits.at)
-    (subst (AreCounted (λ (t : Thread). settings t earlier) view) k.job_is counted))))
+    (subst (AreCounted (λ (t : Thread). settings layout t earlier) view) k.job_is counted))))
   where
     k : KnowsPrctl layout view who thread args j a
     k = knows-prctl j runs fits is

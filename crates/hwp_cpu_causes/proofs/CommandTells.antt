@@ -1,6 +1,7 @@
 -- What a command that is answered tells of its machine checks, and what it leaves in the banks of its processor.
-use Rattle.std.proofs.Common.{◌≡◌, ℕ, true, List, [], Option, Some, refl, sym, ap, ◌∙◌, subst, true≢false}
+use Rattle.std.proofs.Common.{◌≡◌, ℕ, true, List, [], Option, None, Some, refl, sym, ap, ◌∙◌, subst, true≢false}
 use Rattle.hwp_law_served.specs.hwp_geom.declared.Layout.{Layout}
+use Rattle.hwp_law_served.specs.hwp_geom.declared.VSlot.{VSlot}
 use Rattle.hwp_law_served.specs.hwp_geom.declared.Who.{Who}
 use Rattle.hwp_law_served.specs.hwp_core_rule.declared.Made.{Made}
 use Rattle.hwp_law_served.specs.hwp_core_rule.declared.View.{View}
@@ -25,17 +26,18 @@ use Rattle.hwp_cpu_command.specs.Begins.{BeginsLog}
 use Rattle.hwp_cpu_command.specs.Jobs.{FitsFrom, answer, banks_after, banks_before, told_of}
 use Rattle.hwp_cpu_command.specs.Runs.{Runs, anew}
 use Rattle.hwp_cpu_command.proofs.JobEnds.{mapped}
-use Rattle.hwp_cpu_command.proofs.OfKind.{of-evict, of-fsync, of-inject, of-log, of-nested, of-prctl, of-soft, of-spoil, of-unpoison}
-use Rattle.hwp_law_served.specs.Told.{AreToldBy}
-use Rattle.hwp_cpu_causes.specs.Beside.{ArePrior}
+use Rattle.hwp_cpu_command.proofs.OfKind.{of-evict, of-fork, of-fsync, of-inject, of-log, of-nested, of-prctl, of-soft, of-spoil, of-unpoison}
+use Rattle.hwp_law_served.specs.Told.{AreToldBy, AreToldWith}
+use Rattle.hwp_cpu_causes.specs.Beside.{ArePrior, ArePriorWith}
 use Rattle.hwp_cpu_causes.proofs.CauseLaws.{from-none}
 use Rattle.hwp_cpu_causes.proofs.AccessCauses.{access-heeded, access-told, knows-access}
+use Rattle.hwp_cpu_causes.proofs.copied.CopyCauses.{copy-heeded, copy-told, knows-copy}
 use Rattle.hwp_cpu_causes.proofs.RaiseCauses.{knows-kernel-raise, knows-user-raise, raise-heeded, raise-told}
 use Rattle.hwp_cpu_causes.proofs.ScrubCauses.{knows-scrub, scrub-heeded, scrub-told}
 
 -- what the command tells is right; and where one of its events stopped the machine, it is answered `stopped`
-pub record TellsRight (layout : Layout) (view : View) (who : Who) (command : Command) (j : Job) (a : Answer) (kept : Banks) : Type 0 where
-  pub told : AreToldBy layout view who command a (banks_before j kept) (told_of j) (banks_after j kept)
+pub record TellsRight (layout : Layout) (copied : Option VSlot) (view : View) (who : Who) (command : Command) (j : Job) (a : Answer) (kept : Banks) : Type 0 where
+  pub told : AreToldWith layout copied view who command a (banks_before j kept) (told_of j) (banks_after j kept)
   pub heeded : halts (told_of j) ≡ true → a ≡ report_answers.Stopped
 
 -- what a `log` or a `watch` leaves in the banks
@@ -55,7 +57,7 @@ watch-told layout view who threshold window l banks_are x said = (refl, banks_ar
 
 module _ {layout : Layout} {view : View} {who : Who} {a : Answer} (kept : Banks) where
   -- a command that tells nothing
-  by-kind : (command : Command) {j k : Job} → j ≡ k → told_of k ≡ [] → AreToldBy layout view who command a (banks_before k kept) (told_of k) (banks_after k kept) → TellsRight layout view who command j a kept
+  by-kind : (command : Command) {j k : Job} → j ≡ k → told_of k ≡ [] → AreToldBy layout view who command a (banks_before k kept) (told_of k) (banks_after k kept) → TellsRight layout None view who command j a kept
   by-kind command {j} {k} is none told = record {
     told = subst (λ (q : Job). AreToldBy layout view who command a (banks_before q kept) (told_of q) (banks_after q kept)) (sym is) told;
     heeded = λ halted. absurd (true≢false (sym halted ∙ ap (λ (q : Job). halts (told_of q)) is ∙ ap halts none));
@@ -63,7 +65,7 @@ module _ {layout : Layout} {view : View} {who : Who} {a : Answer} (kept : Banks)
 
   -- one that changes its processor alone leaves its banks as its answer says
   log-told : (command : Command) {change : LocalChange} {banks : Banks} (j : Job) → BeginsLog layout who change banks (anew j) → FitsFrom [] layout view j → answer j ≡ Some a
-      → ((l : Log) → l.banks ≡ logs.logged_by (logs.answer l) change l.before.value → ((x : ReadStopAnswer) → logs.answer l ≡ Some x → AreToldBy layout view who command (read_stop_answer x) l.before.value [] l.banks)) → TellsRight layout view who command j a kept
+      → ((l : Log) → l.banks ≡ logs.logged_by (logs.answer l) change l.before.value → ((x : ReadStopAnswer) → logs.answer l ≡ Some x → AreToldBy layout view who command (read_stop_answer x) l.before.value [] l.banks)) → TellsRight layout None view who command j a kept
   log-told command {change} {banks} j runs fits is right = by-kind command task.1 refl (subst (λ (x : Answer). AreToldBy layout view who command x task.0.before.value [] task.0.banks) own.2 (right task.0 (fit.banks_are ∙ ap (λ (l : Log). logs.logged_by (logs.answer task.0) l.change task.0.before.value) task.2) own.0 own.1))
     where
       task : (l : Log) × (j ≡ jobs.Log l) × (logs.begin l.read.who l.change l.before.value ≡ logs.begin who change banks)
@@ -75,26 +77,38 @@ module _ {layout : Layout} {view : View} {who : Who} {a : Answer} (kept : Banks)
       fit : logs.Fits layout view task.0
       fit = (subst (FitsFrom [] layout view) task.1 fits).1
 
-pub tells : (layout : Layout) (view : View) (who : Who) (command : Command) (j : Job) {a : Answer} (base : List Made) (kept : Banks) → Runs layout who command j → FitsFrom base layout view j → ArePrior layout command base → answer j ≡ Some a → TellsRight layout view who command j a kept
-tells layout view who (commands.Load thread slot line) j base kept runs fits prior is = let k = knows-access j runs fits is in record { told = access-told k kept; heeded = access-heeded k }
-tells layout view who (commands.Fetch thread slot line) j base kept runs fits prior is = let k = knows-access j runs fits is in record { told = access-told k kept; heeded = access-heeded k }
-tells layout view who (commands.KLoad thread slot line) j base kept runs fits prior is = let k = knows-access j runs fits is in record { told = access-told k kept; heeded = access-heeded k }
-tells layout view who (commands.Store thread slot line word) j base kept runs fits prior is = let k = knows-access j runs fits is in record { told = access-told k kept; heeded = access-heeded k }
-tells layout view who (commands.Free slot) j base kept runs fits prior is = by-kind kept (commands.Free slot) (of-evict j runs.1.job_is).1 refl (refl, refl)
-tells layout view who (commands.Drop page) j base kept runs fits prior is = by-kind kept (commands.Drop page) (of-evict j runs.job_is).1 refl (refl, refl)
-tells layout view who (commands.Sync page) j base kept runs fits prior is = by-kind kept (commands.Sync page) (of-evict j runs.job_is).1 refl (refl, refl)
-tells layout view who (commands.Out page) j base kept runs fits prior is = by-kind kept (commands.Out page) (of-evict j runs.job_is).1 refl (refl, refl)
-tells layout view who (commands.Fsync file) j base kept runs fits prior is = by-kind kept (commands.Fsync file) (of-fsync j runs.2).1 refl (refl, refl)
-tells layout view who (commands.Open file) j base kept runs fits prior is = by-kind kept (commands.Open file) (of-fsync j runs.2).1 refl (refl, refl)
-tells layout view who (commands.Prctl thread args) j base kept runs fits prior is = by-kind kept (commands.Prctl thread args) (of-prctl j runs.job_is).1 refl (refl, refl)
-tells layout view who (commands.Bad frame line) j base kept runs fits prior is = by-kind kept (commands.Bad frame line) (of-spoil j runs.job_is).1 refl (refl, refl)
-tells layout view who (commands.Weak frame line) j base kept runs fits prior is = by-kind kept (commands.Weak frame line) (of-spoil j runs.job_is).1 refl (refl, refl)
-tells layout view who (commands.Scrub first last) j base kept runs fits prior is = let k = knows-scrub j runs (from-none layout view j prior fits) is in record { told = scrub-told k kept; heeded = scrub-heeded k }
-tells layout view who (commands.Log status addr misc) j base kept runs fits prior is = log-told kept (commands.Log status addr misc) j runs (from-none layout view j prior fits) is (event-told layout view who status addr misc)
-tells layout view who (commands.Watch threshold window) j base kept runs fits prior is = log-told kept (commands.Watch threshold window) j runs (from-none layout view j prior fits) is (watch-told layout view who threshold window)
-tells layout view who (commands.RaiseUser thread ripv eipv) j base kept runs fits prior is = let k = knows-user-raise j runs (from-none layout view j prior fits) is in record { told = raise-told k.knows kept; heeded = raise-heeded k.knows }
-tells layout view who (commands.RaiseKernel ripv eipv) j base kept runs fits prior is = let k = knows-kernel-raise j runs (from-none layout view j prior fits) is in record { told = raise-told k kept; heeded = raise-heeded k }
-tells layout view who commands.RaiseNested j base kept runs fits prior is = by-kind kept commands.RaiseNested (of-nested j runs).1 refl (refl, refl)
-tells layout view who (commands.Inject frame) j base kept runs fits prior is = by-kind kept (commands.Inject frame) (of-inject j runs.job_is).1 refl (refl, refl)
-tells layout view who (commands.Soft frame) j base kept runs fits prior is = by-kind kept (commands.Soft frame) (of-soft j runs.job_is).1 refl (refl, refl)
-tells layout view who (commands.Unpoison frame) j base kept runs fits prior is = by-kind kept (commands.Unpoison frame) (of-unpoison j runs.job_is).1 refl (refl, refl)
+-- of a command that copies nothing
+plain-tells : (layout : Layout) (view : View) (who : Who) (command : Command) (j : Job) {a : Answer} (base : List Made) (kept : Banks) → Runs layout who command None j → FitsFrom base layout view j → ArePrior layout command base → answer j ≡ Some a → TellsRight layout None view who command j a kept
+plain-tells layout view who (commands.Load thread slot line) j base kept runs fits prior is = let k = knows-access j runs fits is in record { told = access-told k kept; heeded = access-heeded k }
+plain-tells layout view who (commands.Fetch thread slot line) j base kept runs fits prior is = let k = knows-access j runs fits is in record { told = access-told k kept; heeded = access-heeded k }
+plain-tells layout view who (commands.KLoad thread slot line) j base kept runs fits prior is = let k = knows-access j runs fits is in record { told = access-told k kept; heeded = access-heeded k }
+plain-tells layout view who (commands.Store thread slot line word) j base kept runs fits prior is = let k = knows-access j runs fits is in record { told = access-told k kept; heeded = access-heeded k }
+plain-tells layout view who (commands.Free slot) j base kept runs fits prior is = by-kind kept (commands.Free slot) (of-evict j runs.1.job_is).1 refl (refl, refl)
+plain-tells layout view who (commands.Drop page) j base kept runs fits prior is = by-kind kept (commands.Drop page) (of-evict j runs.job_is).1 refl (refl, refl)
+plain-tells layout view who (commands.Sync page) j base kept runs fits prior is = by-kind kept (commands.Sync page) (of-evict j runs.job_is).1 refl (refl, refl)
+plain-tells layout view who (commands.Out page) j base kept runs fits prior is = by-kind kept (commands.Out page) (of-evict j runs.job_is).1 refl (refl, refl)
+plain-tells layout view who (commands.Fsync file) j base kept runs fits prior is = by-kind kept (commands.Fsync file) (of-fsync j runs.2).1 refl (refl, refl)
+plain-tells layout view who (commands.Open file) j base kept runs fits prior is = by-kind kept (commands.Open file) (of-fsync j runs.2).1 refl (refl, refl)
+plain-tells layout view who (commands.Prctl thread args) j base kept runs fits prior is = by-kind kept (commands.Prctl thread args) (of-prctl j runs.job_is).1 refl (refl, refl)
+plain-tells layout view who (commands.Fork thread child) j base kept runs fits prior is = by-kind kept (commands.Fork thread child) (of-fork j runs.job_is).1 refl (refl, refl)
+plain-tells layout view who (commands.Bad frame line) j base kept runs fits prior is = by-kind kept (commands.Bad frame line) (of-spoil j runs.job_is).1 refl (refl, refl)
+plain-tells layout view who (commands.Weak frame line) j base kept runs fits prior is = by-kind kept (commands.Weak frame line) (of-spoil j runs.job_is).1 refl (refl, refl)
+plain-tells layout view who (commands.Scrub first last) j base kept runs fits prior is = let k = knows-scrub j runs (from-none layout view j prior fits) is in record { told = scrub-told k kept; heeded = scrub-heeded k }
+plain-tells layout view who (commands.Log status addr misc) j base kept runs fits prior is = log-told kept (commands.Log status addr misc) j runs (from-none layout view j prior fits) is (event-told layout view who status addr misc)
+plain-tells layout view who (commands.Watch threshold window) j base kept runs fits prior is = log-told kept (commands.Watch threshold window) j runs (from-none layout view j prior fits) is (watch-told layout view who threshold window)
+plain-tells layout view who (commands.RaiseUser thread ripv eipv) j base kept runs fits prior is = let k = knows-user-raise j runs (from-none layout view j prior fits) is in record { told = raise-told k.knows kept; heeded = raise-heeded k.knows }
+plain-tells layout view who (commands.RaiseKernel ripv eipv) j base kept runs fits prior is = let k = knows-kernel-raise j runs (from-none layout view j prior fits) is in record { told = raise-told k kept; heeded = raise-heeded k }
+plain-tells layout view who commands.RaiseNested j base kept runs fits prior is = by-kind kept commands.RaiseNested (of-nested j runs).1 refl (refl, refl)
+plain-tells layout view who (commands.Inject frame) j base kept runs fits prior is = by-kind kept (commands.Inject frame) (of-inject j runs.job_is).1 refl (refl, refl)
+plain-tells layout view who (commands.Soft frame) j base kept runs fits prior is = by-kind kept (commands.Soft frame) (of-soft j runs.job_is).1 refl (refl, refl)
+plain-tells layout view who (commands.Unpoison frame) j base kept runs fits prior is = by-kind kept (commands.Unpoison frame) (of-unpoison j runs.job_is).1 refl (refl, refl)
+
+-- of a store that copies
+copying-tells : (layout : Layout) (view : View) (who : Who) (command : Command) (from : VSlot) (j : Job) {a : Answer} (kept : Banks) → Runs layout who command (Some from) j → FitsFrom [] layout view j → answer j ≡ Some a → TellsRight layout (Some from) view who command j a kept
+copying-tells layout view who (commands.Store thread slot line word) from j kept runs fits is = let k = knows-copy j runs fits is in record { told = copy-told k kept; heeded = copy-heeded k }
+copying-tells layout view who command from j kept runs fits is = absurd runs
+
+pub tells : (layout : Layout) (copied : Option VSlot) (view : View) (who : Who) (command : Command) (j : Job) {a : Answer} (base : List Made) (kept : Banks) → Runs layout who command copied j → FitsFrom base layout view j → ArePriorWith layout command copied base → answer j ≡ Some a
+    → TellsRight layout copied view who command j a kept
+tells layout None view who command j base kept runs fits prior is = plain-tells layout view who command j base kept runs fits prior is
+tells layout (Some from) view who command j base kept runs fits prior is = copying-tells layout view who command from j kept runs (from-none layout view j prior fits) is

@@ -1,9 +1,10 @@
 -- When a command is answered, each handle of its processor has the number that the answer gives it, and where the answer tells the
 -- number a step of the command showed it.
-use Rattle.std.proofs.Common.{◌≡◌, ℕ, ◌+◌, ◌<◌, ◌==◌, eq-eqb, Bool, true, false, cond, List, Some, slice_get, slice_set, unwrap_or, refl, sym, ap, ◌∙◌, subst, arith}
+use Rattle.std.proofs.Common.{◌≡◌, ℕ, ◌+◌, ◌<◌, ◌==◌, eq-eqb, Bool, true, false, cond, List, Option, None, Some, slice_get, slice_set, unwrap_or, refl, sym, ap, ◌∙◌, subst, arith}
 use Rattle.std.proofs.lemmas.Bool.{both_ways, eqb-true}
 use Rattle.hwp_law_served.specs.hwp_geom.declared.FileNo.{FileNo}
 use Rattle.hwp_law_served.specs.hwp_geom.declared.Layout.{Layout}
+use Rattle.hwp_law_served.specs.hwp_geom.declared.VSlot.{VSlot}
 use Rattle.hwp_law_served.specs.hwp_geom.declared.Who.{Who}
 use Rattle.hwp_law_served.specs.hwp_core_rule.declared.Made.{Made}
 use Rattle.hwp_law_served.specs.hwp_core_rule.declared.View.{View}
@@ -28,7 +29,7 @@ use Rattle.hwp_cpu_command.specs.FileHandles.{HasHandle, IsToldBy, handles_after
 use Rattle.hwp_cpu_command.specs.Jobs.{FitsFrom, answer}
 use Rattle.hwp_cpu_command.specs.Runs.{Runs, anew}
 use Rattle.hwp_cpu_command.proofs.JobEnds.{fsync-over, mapped}
-use Rattle.hwp_cpu_command.proofs.OfKind.{of-evict, of-fsync, of-inject, of-instruction, of-log, of-nested, of-prctl, of-raise, of-scrub, of-soft, of-spoil, of-unpoison}
+use Rattle.hwp_cpu_command.proofs.OfKind.{of-copying, of-evict, of-fork, of-fsync, of-inject, of-instruction, of-log, of-nested, of-prctl, of-raise, of-scrub, of-soft, of-spoil, of-unpoison}
 
 -- a handle that had the number m has the number that the answer gives it; where the answer tells it, it was shown
 pub record IsNumbered (layout : Layout) (view : View) (who : Who) (command : Command) (a : Answer) (file : FileNo) (m : ℕ) (after : List ℕ) : Type 0 where
@@ -130,10 +131,19 @@ tells-opened : (file other : FileNo) (a : Answer) → tells_number file (command
 tells-opened file other (answers.Opened lost) is = eqb-true other.0 file.0 is
 tells-opened file other _ is = absurd (both_ways false refl is)
 
-pub tells-inside : (layout : Layout) (who : Who) (command : Command) (j : Job) (a : Answer) (file : FileNo) → Runs layout who command j → tells_number file command a ≡ true → file.0 < layout.files
-tells-inside layout who (commands.Fsync other) j a file runs is = subst (λ (n : ℕ). n < layout.files) (tells-asked file other a is) runs.0
-tells-inside layout who (commands.Open other) j a file runs is = subst (λ (n : ℕ). n < layout.files) (tells-opened file other a is) runs.0
-tells-inside layout who command j a file runs is = absurd (both_ways false refl is)
+-- a command that copies tells none
+untold-copying : {A : Type 0} (layout : Layout) (who : Who) (command : Command) (from : VSlot) (j : Job) (a : Answer) (file : FileNo) → Runs layout who command (Some from) j → tells_number file command a ≡ true → A
+untold-copying layout who (commands.Store thread slot line word) from j a file runs is = absurd (both_ways false refl is)
+untold-copying layout who _ from j a file runs is = absurd runs
+
+inside : (layout : Layout) (who : Who) (command : Command) (j : Job) (a : Answer) (file : FileNo) → Runs layout who command None j → tells_number file command a ≡ true → file.0 < layout.files
+inside layout who (commands.Fsync other) j a file runs is = subst (λ (n : ℕ). n < layout.files) (tells-asked file other a is) runs.0
+inside layout who (commands.Open other) j a file runs is = subst (λ (n : ℕ). n < layout.files) (tells-opened file other a is) runs.0
+inside layout who _ j a file runs is = absurd (both_ways false refl is)
+
+pub tells-inside : (layout : Layout) (who : Who) (command : Command) (copied : Option VSlot) (j : Job) (a : Answer) (file : FileNo) → Runs layout who command copied j → tells_number file command a ≡ true → file.0 < layout.files
+tells-inside layout who command None j a file runs is = inside layout who command j a file runs is
+tells-inside layout who command (Some from) j a file runs is = untold-copying layout who command from j a file runs is
 
 -- ---- each command
 
@@ -167,26 +177,36 @@ module _ (base : List Made) (layout : Layout) (view : View) (who : Who) (j : Job
       known : HasHandle handles (jobs.Fsync task.0)
       known = subst (HasHandle handles) task.1 has
 
-  pub numbered : (command : Command) → Runs layout who command j → HasHandle handles j → IsNumbered layout view who command a file m (handles_after j handles)
-  numbered (commands.Fsync other) runs has = told-by false other runs has
-  numbered (commands.Open other) runs has = told-by true other runs has
-  numbered (commands.Load thread slot line) runs has = leaves (commands.Load thread slot line) (of-instruction j runs.job_is).1 refl refl refl
-  numbered (commands.Fetch thread slot line) runs has = leaves (commands.Fetch thread slot line) (of-instruction j runs.job_is).1 refl refl refl
-  numbered (commands.KLoad thread slot line) runs has = leaves (commands.KLoad thread slot line) (of-instruction j runs.job_is).1 refl refl refl
-  numbered (commands.Store thread slot line word) runs has = leaves (commands.Store thread slot line word) (of-instruction j runs.job_is).1 refl refl refl
-  numbered (commands.Free slot) runs has = leaves (commands.Free slot) (of-evict j runs.1.job_is).1 refl refl refl
-  numbered (commands.Drop page) runs has = leaves (commands.Drop page) (of-evict j runs.job_is).1 refl refl refl
-  numbered (commands.Sync page) runs has = leaves (commands.Sync page) (of-evict j runs.job_is).1 refl refl refl
-  numbered (commands.Out page) runs has = leaves (commands.Out page) (of-evict j runs.job_is).1 refl refl refl
-  numbered (commands.Prctl thread args) runs has = leaves (commands.Prctl thread args) (of-prctl j runs.job_is).1 refl refl refl
-  numbered (commands.Bad frame line) runs has = leaves (commands.Bad frame line) (of-spoil j runs.job_is).1 refl refl refl
-  numbered (commands.Weak frame line) runs has = leaves (commands.Weak frame line) (of-spoil j runs.job_is).1 refl refl refl
-  numbered (commands.Scrub first last) runs has = leaves (commands.Scrub first last) (of-scrub j runs.job_is).1 refl refl refl
-  numbered (commands.Log status addr misc) runs has = leaves (commands.Log status addr misc) (of-log j runs.job_is).1 refl refl refl
-  numbered (commands.Watch threshold window) runs has = leaves (commands.Watch threshold window) (of-log j runs.job_is).1 refl refl refl
-  numbered (commands.RaiseUser thread ripv eipv) runs has = leaves (commands.RaiseUser thread ripv eipv) (of-raise j runs.job_is).1 refl refl refl
-  numbered (commands.RaiseKernel ripv eipv) runs has = leaves (commands.RaiseKernel ripv eipv) (of-raise j runs.job_is).1 refl refl refl
-  numbered commands.RaiseNested runs has = leaves commands.RaiseNested (of-nested j runs).1 refl refl refl
-  numbered (commands.Inject frame) runs has = leaves (commands.Inject frame) (of-inject j runs.job_is).1 refl refl refl
-  numbered (commands.Soft frame) runs has = leaves (commands.Soft frame) (of-soft j runs.job_is).1 refl refl refl
-  numbered (commands.Unpoison frame) runs has = leaves (commands.Unpoison frame) (of-unpoison j runs.job_is).1 refl refl refl
+  -- of one that copies nothing
+  plain : (command : Command) → Runs layout who command None j → HasHandle handles j → IsNumbered layout view who command a file m (handles_after j handles)
+  plain (commands.Fsync other) runs has = told-by false other runs has
+  plain (commands.Open other) runs has = told-by true other runs has
+  plain (commands.Load thread slot line) runs has = leaves (commands.Load thread slot line) (of-instruction j runs.job_is).1 refl refl refl
+  plain (commands.Fetch thread slot line) runs has = leaves (commands.Fetch thread slot line) (of-instruction j runs.job_is).1 refl refl refl
+  plain (commands.KLoad thread slot line) runs has = leaves (commands.KLoad thread slot line) (of-instruction j runs.job_is).1 refl refl refl
+  plain (commands.Store thread slot line word) runs has = leaves (commands.Store thread slot line word) (of-instruction j runs.job_is).1 refl refl refl
+  plain (commands.Free slot) runs has = leaves (commands.Free slot) (of-evict j runs.1.job_is).1 refl refl refl
+  plain (commands.Drop page) runs has = leaves (commands.Drop page) (of-evict j runs.job_is).1 refl refl refl
+  plain (commands.Sync page) runs has = leaves (commands.Sync page) (of-evict j runs.job_is).1 refl refl refl
+  plain (commands.Out page) runs has = leaves (commands.Out page) (of-evict j runs.job_is).1 refl refl refl
+  plain (commands.Prctl thread args) runs has = leaves (commands.Prctl thread args) (of-prctl j runs.job_is).1 refl refl refl
+  plain (commands.Fork thread child) runs has = leaves (commands.Fork thread child) (of-fork j runs.job_is).1 refl refl refl
+  plain (commands.Bad frame line) runs has = leaves (commands.Bad frame line) (of-spoil j runs.job_is).1 refl refl refl
+  plain (commands.Weak frame line) runs has = leaves (commands.Weak frame line) (of-spoil j runs.job_is).1 refl refl refl
+  plain (commands.Scrub first last) runs has = leaves (commands.Scrub first last) (of-scrub j runs.job_is).1 refl refl refl
+  plain (commands.Log status addr misc) runs has = leaves (commands.Log status addr misc) (of-log j runs.job_is).1 refl refl refl
+  plain (commands.Watch threshold window) runs has = leaves (commands.Watch threshold window) (of-log j runs.job_is).1 refl refl refl
+  plain (commands.RaiseUser thread ripv eipv) runs has = leaves (commands.RaiseUser thread ripv eipv) (of-raise j runs.job_is).1 refl refl refl
+  plain (commands.RaiseKernel ripv eipv) runs has = leaves (commands.RaiseKernel ripv eipv) (of-raise j runs.job_is).1 refl refl refl
+  plain commands.RaiseNested runs has = leaves commands.RaiseNested (of-nested j runs).1 refl refl refl
+  plain (commands.Inject frame) runs has = leaves (commands.Inject frame) (of-inject j runs.job_is).1 refl refl refl
+  plain (commands.Soft frame) runs has = leaves (commands.Soft frame) (of-soft j runs.job_is).1 refl refl refl
+  plain (commands.Unpoison frame) runs has = leaves (commands.Unpoison frame) (of-unpoison j runs.job_is).1 refl refl refl
+
+  copying : (command : Command) (from : VSlot) → Runs layout who command (Some from) j → IsNumbered layout view who command a file m (handles_after j handles)
+  copying (commands.Store thread slot line word) from runs = leaves (commands.Store thread slot line word) (of-copying j runs.job_is).1 refl refl refl
+  copying _ from runs = absurd runs
+
+  pub numbered : (command : Command) (copied : Option VSlot) → Runs layout who command copied j → HasHandle handles j → IsNumbered layout view who command a file m (handles_after j handles)
+  numbered command None runs has = plain command runs has
+  numbered command (Some from) runs has = copying command from runs

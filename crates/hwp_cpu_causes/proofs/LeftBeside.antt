@@ -203,9 +203,10 @@ inject-others {layout} {view} i {x} fits is = ends x (inject-ended i fits is).ov
     ends fail_answers.Already has = of-none view i.who has.0
     ends (fail_answers.Done found) has = done found found.at has.1
 
--- the task doesn't take a frame out of use itself
+-- the task doesn't take a frame out of use itself, and pauses before its entry alone: a copy has accesses behind a pause
 abbrev pub IsNoSoft : Job → Type 0
 IsNoSoft (jobs.Soft s) = ⊥
+IsNoSoft (jobs.Copying c) = ⊥
 IsNoSoft j = Unit {0}
 
 answered-others : (base : List Made) (layout : Layout) (view : View) (j : Job) {a : Answer} → IsNoSoft j → FitsFrom base layout view j → answer j ≡ Some a → HasOthers base view (who j)
@@ -213,6 +214,7 @@ answered-others base layout view (jobs.Instruction i) apart fits is = instructio
 answered-others base layout view (jobs.Evict e) apart fits is = evict-others e fits (mapped _ (evicts.answer e) is).1
 answered-others base layout view (jobs.Fsync f) apart fits is = from-first fits.0 (of-none view f.who fits.1.made_none)
 answered-others base layout view (jobs.Prctl p) apart fits is = from-first fits.0 (of-none view p.who fits.1.made)
+answered-others base layout view (jobs.Fork f) apart fits is = from-first fits.0 (of-none view f.who fits.1.made)
 answered-others base layout view (jobs.Log l) apart fits is = from-first fits.0 (of-none view l.read.who fits.1.read.made)
 answered-others base layout view (jobs.Raise r) apart fits is = from-first fits.0 (raise-others r fits.1 (mapped _ (raises.answer r) is).1)
 answered-others base layout view (jobs.Scrub s) apart fits is = from-first fits.0 (scrub-others s fits.1 (mapped _ (scrubs.answer s) is).1)
@@ -220,6 +222,7 @@ answered-others base layout view (jobs.Spoil s) apart fits is = from-first fits.
 answered-others base layout view (jobs.Nested n) apart fits is = from-first fits.0 (of-none view n.who fits.1.made)
 answered-others base layout view (jobs.Inject i) apart fits is = from-first fits.0 (inject-others i fits.1 (mapped _ (injects.answer i) is).1)
 answered-others base layout view (jobs.Soft s) apart fits is = absurd apart
+answered-others base layout view (jobs.Copying c) apart fits is = absurd apart
 answered-others base layout view (jobs.Unpoison u) apart fits is = from-first fits.0 (of-none view u.who fits.1.made)
 
 -- a task that has its answer has made none beside those that its command had made before

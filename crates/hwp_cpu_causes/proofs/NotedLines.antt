@@ -37,7 +37,7 @@ use Rattle.hwp_law_served.specs.hwp_cpu_check.Fits.{AreTold, IsDone, IsTold}
 use Rattle.hwp_law_served.specs.hwp_cpu_check.Told.{halts, has_kept, is_kept, required_by, severity_at_once}
 use Rattle.hwp_law_served.specs.hwp_cpu_row.Acts.{event_at, told_notes}
 use Rattle.hwp_cpu_command.specs.hwp_cpu_access.declared.Instruction.{Instruction}
-use Rattle.hwp_cpu_command.specs.hwp_cpu_access.Fits.{FitsFrom, IsOfAccess}
+use Rattle.hwp_cpu_command.specs.hwp_cpu_access.Fits.{FitsBehind, FitsFrom, IsOfAccess}
 use Rattle.hwp_cpu_command.proofs.of_hwp_cpu_access.ToldMore.{TellsOf}
 use Rattle.hwp_cpu_command.proofs.of_hwp_cpu_access.InstructionLaws.{left-three, own-three}
 
@@ -151,6 +151,17 @@ notes-more {past} {layout} {old} {new} i fits more tells = ap (notes layout) (ma
         let all = checks-end fits.origin i.before.value c cs fits.three are in
         apart (bank_of i.origin) (lines (lines_of (c ∷ cs))) (lines more) (subst (Ends (bank_of i.origin)) (sym all.all) all.ends)
         (subst (Starts (bank_of i.origin)) (sym (banks-are more (restarting i.mode) (with_own i.origin of.frame i.request.line empty_banks) of.events ∙ own-alone i.origin of.frame i.request.line fits.origin)) refl)
+
+-- and so do those of an access of data that its command had machine checks before
+pub notes-behind : {past : List Made} {earlier : List Check} {layout : Layout} {old new : View} (i : Instruction) (fits : FitsBehind past earlier layout old i) → i.origin ≡ origins.Access → (more : List EventOutcome) → TellsOf layout new i (earlier ++ fits.checks) more
+    → told_notes layout (i.lines.told ++ more) ≡ told_notes layout i.lines.told ++ told_notes layout more
+notes-behind {past} {earlier} {layout} {old} {new} i fits access more tells = ap (notes layout) (map-append (event_at 0) i.lines.told more) ∙ notes-append layout (lines i.lines.told) (lines more)
+    (subst (λ (l : List EventOutcome). AreApart (lines l) (lines more)) (sym fits.told_is) (which (earlier ++ fits.checks) tells))
+  where
+    which : (cs : List Check) → TellsOf layout new i cs more → AreApart (lines (lines_of cs)) (lines more)
+    which [] of = tt
+    which (c ∷ cs) of = apart 0 (lines (lines_of (c ∷ cs))) (lines more) (ends-zero (banks_in (lines_of (c ∷ cs))))
+        (subst (Starts 0) (sym (banks-are more (restarting i.mode) (with_own i.origin of.frame i.request.line empty_banks) of.events ∙ ap (λ (o : Origin). numbers (with_own o of.frame i.request.line empty_banks)) access)) refl)
 
 -- ---- what a machine check notes
 
@@ -277,14 +288,14 @@ ends-same [] = refl
 ends-same (t ∷ ts) = ap (λ (b : Bool). ends_machine (event_at 0 t) || b) (ends-same ts)
 
 -- one behind which an instruction doesn't pause, of a processor that collects, notes nothing
-pub answered-unnoted : {past : List Made} {layout : Layout} {old new : View} (i : Instruction) (fits : FitsFrom past layout old i) (more : List EventOutcome) → TellsOf layout new i fits.checks more → (halts more ≡ true) ⊎ (has_kept more ≡ false) → told_notes layout more ≡ []
-answered-unnoted {past} {layout} {old} {new} i fits more tells why = by more refl
+pub answered-unnoted : {past : List Made} {earlier : List Check} {layout : Layout} {old new : View} (i : Instruction) (fits : FitsBehind past earlier layout old i) (more : List EventOutcome) → TellsOf layout new i (earlier ++ fits.checks) more → (halts more ≡ true) ⊎ (has_kept more ≡ false) → told_notes layout more ≡ []
+answered-unnoted {past} {earlier} {layout} {old} {new} i fits more tells why = by more refl
   where
     banks : Banks
-    banks = with_own i.origin tells.frame i.request.line (left_by i.before.value fits.checks)
+    banks = with_own i.origin tells.frame i.request.line (left_by i.before.value (earlier ++ fits.checks))
 
     three : length banks ≡ bank_count
-    three = own-three i tells.frame (left_by i.before.value fits.checks) (left-three i.before.value fits.checks fits.three)
+    three = own-three i tells.frame (left_by i.before.value (earlier ++ fits.checks)) (left-three i.before.value (earlier ++ fits.checks) fits.three)
 
     rising : IsRising (lines more)
     rising = is-rising (lines more) (subst Rising (sym (banks-are more (restarting i.mode) banks tells.events)) (numbers-rise banks three))

@@ -25,12 +25,12 @@ use Rattle.hwp_cpu_command.specs.declared.Job.TheVariants as jobs
 use Rattle.hwp_cpu_command.specs.Jobs as all
 use Rattle.hwp_cpu_command.specs.Jobs.{FitsFrom}
 use Rattle.hwp_cpu_command.specs.Runs.{Runs, anew}
-use Rattle.hwp_cpu_command.proofs.OfKind.{of-evict, of-fsync, of-inject, of-instruction, of-log, of-nested, of-prctl, of-raise, of-scrub, of-soft, of-spoil, of-unpoison}
+use Rattle.hwp_cpu_command.proofs.OfKind.{of-evict, of-fork, of-fsync, of-inject, of-instruction, of-log, of-nested, of-prctl, of-raise, of-scrub, of-soft, of-spoil, of-unpoison}
 use Rattle.hwp_law_served.specs.Causes.{HasOnlyMet, IsMet}
 use Rattle.hwp_cpu_causes.specs.Beside.{AddsBeside, ArePrior, ArePriorTo}
 use Rattle.hwp_cpu_causes.proofs.AccessCauses.{only-before, only-met, prior-before}
 
--- a task that pauses is an access, and so is its command
+-- of a command that copies nothing a task that pauses is an access, and so is its command
 pub record IsAccessOf (command : Command) (by : Who) (j : Job) : Type 0 where
   pub task : Instruction
   pub job_is : j ≡ jobs.Instruction task
@@ -53,7 +53,7 @@ of-access {command} {by} j {x} is of fails own = record {
 unpaused : {A : Type 0} {j k : Job} → j ≡ k → all.pauses k ≡ false → all.pauses j ≡ true → A
 unpaused {A} {j} {k} is none paused = absurd (both_ways (all.pauses j) (ap all.pauses is ∙ none) paused)
 
-pub runs-access : (layout : Layout) (by : Who) (command : Command) (j : Job) → Runs layout by command j → all.pauses j ≡ true → IsAccessOf command by j
+pub runs-access : (layout : Layout) (by : Who) (command : Command) (j : Job) → Runs layout by command None j → all.pauses j ≡ true → IsAccessOf command by j
 runs-access layout by (commands.Load thread slot line) j runs p = of-access j runs.job_is refl refl refl
 runs-access layout by (commands.Fetch thread slot line) j runs p = of-access j runs.job_is refl refl refl
 runs-access layout by (commands.KLoad thread slot line) j runs p = of-access j runs.job_is refl refl refl
@@ -65,6 +65,7 @@ runs-access layout by (commands.Out page) j runs p = unpaused (of-evict j runs.j
 runs-access layout by (commands.Fsync file) j runs p = unpaused (of-fsync j runs.2).1 refl p
 runs-access layout by (commands.Open file) j runs p = unpaused (of-fsync j runs.2).1 refl p
 runs-access layout by (commands.Prctl thread args) j runs p = unpaused (of-prctl j runs.job_is).1 refl p
+runs-access layout by (commands.Fork thread child) j runs p = unpaused (of-fork j runs.job_is).1 refl p
 runs-access layout by (commands.Bad frame line) j runs p = unpaused (of-spoil j runs.job_is).1 refl p
 runs-access layout by (commands.Weak frame line) j runs p = unpaused (of-spoil j runs.job_is).1 refl p
 runs-access layout by (commands.Scrub first last) j runs p = unpaused (of-scrub j runs.job_is).1 refl p

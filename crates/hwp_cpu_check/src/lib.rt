@@ -15,7 +15,7 @@ pub use hwp_claim::{FailAnswer, Found, Inject};
 pub use hwp_claim_frame::{
     At, Board, Body, CacheWord, CounterWord, Cpu, Entry, FileNo, Frame, FrameWord, Kind, Layout,
     Line, List, Mask, Mode, Ops, OutOfMemory, Page, PageWord, PolicyWord, Proc, ProcessWord, Pte,
-    Ranked, Scheduled, SharedWord, Step, StopWord, Task, Text, Thread, Turn, Who, index,
+    Ranked, Scheduled, SharedWord, Step, StopWord, Task, Text, Thread, Turn, VSlot, Who, index,
     is_stopped, lowest_bit,
 };
 pub use hwp_law_commands::{

@@ -40,7 +40,7 @@ marked_now _ = []
 -- those beyond the ones that the events tell which it told of
 abbrev pub marked_beyond : Job → List Marking
 marked_beyond (jobs.Instruction i) = instruction_done.marked_at i.at
-marked_beyond (jobs.Copying c) = instruction_done.marked_at c.instruction.at
+marked_beyond (jobs.Copying c) = copying_done.marked_at c.instruction c.at
 marked_beyond (jobs.Raise r) = raise_done.marked_at r.at
 marked_beyond (jobs.Scrub s) = scrub_done.marked_at s.at
 marked_beyond j = marked_now j

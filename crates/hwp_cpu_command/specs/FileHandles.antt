@@ -92,4 +92,4 @@ abbrev pub local_left : Job → Local → Local
 local_left j local = record local { banks = left_in j local.banks }
 
 abbrev pub local_after : Job → Answer → Local → Local
-local_after j answer local = record { banks = banks_after j local.banks; handles = handles_after j local.handles; watching = watching_after j answer local.watching }
+local_after j answer local = record local { banks = banks_after j local.banks; handles = handles_after j local.handles; watching = watching_after j answer local.watching }

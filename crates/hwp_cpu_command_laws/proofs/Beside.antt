@@ -10,6 +10,7 @@ use Rattle.hwp_cpu_command.specs.hwp_core_rule.declared.Step.{Step}
 use Rattle.hwp_cpu_command.specs.hwp_core_task.declared.Turn.{Turn}
 use Rattle.hwp_cpu_command.specs.hwp_claim_act.declared.Failed.{Failed}
 use Rattle.hwp_cpu_command.specs.hwp_report_text.declared.Answer.{Answer}
+use Rattle.hwp_cpu_command.specs.hwp_report_text.declared.Answer.TheVariants as answers
 use Rattle.hwp_cpu_command.specs.hwp_fault.declared.Request.{Request}
 use Rattle.hwp_cpu_command.specs.hwp_cpu_check.Done.{marked_in}
 use Rattle.hwp_cpu_command.specs.hwp_cpu_access.declared.Instruction.{Instruction}
@@ -23,6 +24,10 @@ use Rattle.hwp_cpu_command.specs.hwp_cpu_access.Instructions as instructions
 use Rattle.hwp_cpu_command.specs.hwp_cpu_copy.declared.copying.CopyingAt.{CopyingAt}
 use Rattle.hwp_cpu_command.specs.hwp_cpu_copy.declared.copying.CopyingAt.TheVariants as copying_at
 use Rattle.hwp_cpu_command.specs.hwp_cpu_copy.Copyings as copyings
+use Rattle.hwp_cpu_command.specs.hwp_cpu_copy.declared.Copying.{Copying}
+use Rattle.hwp_cpu_command.specs.hwp_cpu_copy.Done as copying_done
+use Rattle.hwp_cpu_command.proofs.of_hwp_cpu_copy.CopyEnds as copy_ends
+use Rattle.hwp_cpu_command.proofs.of_hwp_cpu_copy.CopyResting as copy_resting
 use Rattle.hwp_cpu_command.specs.hwp_cpu_raise.declared.LocalChange.{LocalChange}
 use Rattle.hwp_cpu_command.specs.hwp_cpu_raise.declared.Raise.{Raise}
 use Rattle.hwp_cpu_command.specs.hwp_cpu_raise.declared.raise.RaiseAt.{RaiseAt}
@@ -38,7 +43,7 @@ use Rattle.hwp_cpu_command.specs.Answers.{instruction_answer, raise_answer, scru
 use Rattle.hwp_cpu_command.specs.Done.{failed_now, marked_beyond, marked_now, owed_now}
 use Rattle.hwp_cpu_command.specs.FileHandles.{HasChangeWithin, IsChangeWithin}
 use Rattle.hwp_cpu_command.specs.Jobs.{Next, answer, bare, give_up, pauses as is_paused, plan, resume, told_of}
-use Rattle.hwp_cpu_command.specs.Stays.{EndsStopped, HasGivenUp}
+use Rattle.hwp_cpu_command.specs.Stays.{EndsStopped, HasGivenUp, IsAtStop}
 use Rattle.hwp_cpu_command.proofs.JobEnds.{instruction-over, mapped, raise-over, scrub-over}
 use Rattle.hwp_cpu_command_laws.proofs.CommandRuns.{GoesOn, log-kept}
 
@@ -159,9 +164,86 @@ paused-unmarked i is = ap instruction_done.marked_at (at-pause i.at is)
 -- nor has one of which events were told anything under way, where it has its answer
 pub answered-unmarked : (j : Job) {a : Answer} → answer j ≡ Some a → (told_of j ≡ [] → ⊥) → marked_beyond j ≡ []
 answered-unmarked (jobs.Instruction i) is told = ap instruction_done.marked_at (instruction-over i (mapped _ (instructions.answer i) is).1)
+answered-unmarked (jobs.Copying c) is told = (copy_ends.all-told c (mapped _ (copyings.answer c) is).1).0
 answered-unmarked (jobs.Raise r) is told = ap raise_done.marked_at (raise-over r (mapped _ (raises.answer r) is).1)
 answered-unmarked (jobs.Scrub s) is told = ap scrub_done.marked_at (scrub-over s (mapped _ (scrubs.answer s) is).1)
 answered-unmarked _ is told = absurd (told refl)
+
+-- whatever the command, at its pause it has no answer, and nothing is under way; and so it is behind it
+pub record IsAtPause (j : Job) : Type 0 where
+  pub unanswered : answer j ≡ None
+  pub late : EndsStopped j → ⊥
+  pub unowed : owed_now j ≡ 0
+  pub unmarked : marked_beyond j ≡ []
+  pub behind : IsSameBehind j (resume j)
+
+no-end : (j : Job) → answer j ≡ None → (IsAtStop j → ⊥) → EndsStopped j → ⊥
+no-end j none begun (inl start) = begun start
+no-end j none begun (inr stopped) = none-some answers.Stopped (sym none ∙ stopped)
+
+access-at-pause : (i : Instruction) {p : Pause} → instructions.pause i ≡ Some p → IsAtPause (jobs.Instruction i)
+access-at-pause i {p} is = record {
+  unanswered = ap (λ (x : InstructionAt). option_map instruction_answer (instructions.answer_at x)) (at-pause i.at is);
+  late = paused-late i is;
+  unowed = paused-unowed i is;
+  unmarked = paused-unmarked i is;
+  behind = behind-same i is;
+}
+
+copy-at-pause : (c : Copying) {p : Pause} → copyings.pause c ≡ Some p → IsAtPause (jobs.Copying c)
+copy-at-pause c {p} is = record {
+  unanswered = unanswered;
+  late = no-end (jobs.Copying c) unanswered (λ start. none-some p (sym (ap instructions.pause_at start.2.1) ∙ own.1));
+  unowed = ap (copying_done.owed_at c.instruction) own.0 ∙ ap instruction_done.owed_at there;
+  unmarked = ap (copying_done.marked_at c.instruction) own.0 ∙ ap instruction_done.marked_at there;
+  behind = subst (λ (x : CopyingAt). IsSameBehind (jobs.Copying c) (jobs.Copying (copyings.resume_at c x))) (sym own.0)
+      (subst (λ (o : Option Pause). IsSameBehind (jobs.Copying c) (jobs.Copying (record c { instruction = instructions.resume_by c.instruction o }))) (sym own.1) same);
+}
+  where
+    own : (c.at ≡ copying_at.Access) × (instructions.pause c.instruction ≡ Some p)
+    own = copy_resting.at-pause c is
+
+    there : c.instruction.at ≡ instruction_at.Paused p
+    there = at-pause c.instruction.at own.1
+
+    unanswered : answer (jobs.Copying c) ≡ None
+    unanswered = ap (λ (x : CopyingAt). option_map instruction_answer (copyings.answer_at c.instruction x)) own.0 ∙ ap (λ (x : InstructionAt). option_map instruction_answer (instructions.answer_at x)) there
+
+    resumed : Instruction
+    resumed = instructions.resume_by c.instruction (Some p)
+
+    same : IsSameBehind (jobs.Copying c) (jobs.Copying (record c { instruction = instructions.resume_by c.instruction (Some p) }))
+    same = record {
+      told = refl;
+      beyond = ap (copying_done.marked_at resumed) own.0 ∙ marks-none c.instruction.request p;
+      failed = ap (λ (l : List Failed). instruction_done.failed_by (Some c.store.thread) c.instruction.lines.told ++ l)
+          (ap (copying_done.failed_at resumed) own.0 ∙ fails-none c.instruction.request p ∙ sym (ap (copying_done.failed_at c.instruction) own.0 ∙ ap instruction_done.failed_at there));
+      owed = ap (copying_done.owed_at resumed) own.0 ∙ owes-none c.instruction.request p;
+    }
+
+pub job-at-pause : (j : Job) → is_paused j ≡ true → IsAtPause j
+job-at-pause (jobs.Instruction i) is = which (instructions.pause i) refl is
+  where
+    which : (o : Option Pause) → instructions.pause i ≡ o → is_some o ≡ true → IsAtPause (jobs.Instruction i)
+    which None own some = absurd (true≢false (sym some))
+    which (Some p) own some = access-at-pause i own
+job-at-pause (jobs.Copying c) is = which (copyings.pause c) refl is
+  where
+    which : (o : Option Pause) → copyings.pause c ≡ o → is_some o ≡ true → IsAtPause (jobs.Copying c)
+    which None own some = absurd (true≢false (sym some))
+    which (Some p) own some = copy-at-pause c own
+job-at-pause (jobs.Evict e) is = absurd (true≢false (sym is))
+job-at-pause (jobs.Fsync f) is = absurd (true≢false (sym is))
+job-at-pause (jobs.Prctl p) is = absurd (true≢false (sym is))
+job-at-pause (jobs.Fork f) is = absurd (true≢false (sym is))
+job-at-pause (jobs.Log l) is = absurd (true≢false (sym is))
+job-at-pause (jobs.Raise r) is = absurd (true≢false (sym is))
+job-at-pause (jobs.Scrub s) is = absurd (true≢false (sym is))
+job-at-pause (jobs.Spoil s) is = absurd (true≢false (sym is))
+job-at-pause (jobs.Nested n) is = absurd (true≢false (sym is))
+job-at-pause (jobs.Inject i) is = absurd (true≢false (sym is))
+job-at-pause (jobs.Soft s) is = absurd (true≢false (sym is))
+job-at-pause (jobs.Unpoison u) is = absurd (true≢false (sym is))
 
 -- ---- memory that ran out for what comes beside it
 

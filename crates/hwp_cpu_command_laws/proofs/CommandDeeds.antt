@@ -81,6 +81,11 @@ use Rattle.hwp_cpu_command.specs.hwp_cpu_access.Done as instruction_done
 use Rattle.hwp_cpu_command.specs.hwp_cpu_access.Done.{FailuresGrow, failures_by}
 use Rattle.hwp_cpu_command.specs.hwp_cpu_access.Instructions as instructions
 use Rattle.hwp_cpu_command.proofs.of_hwp_cpu_access.InstructionAdds.{instruction-adds}
+use Rattle.hwp_cpu_command.specs.hwp_cpu_copy.declared.Copying.{Copying}
+use Rattle.hwp_cpu_command.specs.hwp_cpu_copy.Copyings as copyings
+use Rattle.hwp_cpu_command.specs.hwp_cpu_copy.Done as copying_done
+use Rattle.hwp_cpu_command.proofs.of_hwp_cpu_copy.CopyAdds.{copy-adds}
+use Rattle.hwp_cpu_command.proofs.of_hwp_cpu_copy.CopyEnds as copy_ends
 use Rattle.hwp_cpu_command.proofs.of_hwp_cpu_access.CommandGrows.{failures-grow}
 use Rattle.hwp_cpu_command.specs.hwp_cpu_raise.declared.Raise.{Raise}
 use Rattle.hwp_cpu_command.specs.hwp_cpu_raise.Done as raise_done
@@ -112,7 +117,7 @@ use Rattle.hwp_cpu_command.specs.Stays.{IsAtStop, Stepped}
 use Rattle.hwp_cpu_command.proofs.JobEnds.{evict-caused, instruction-over, mapped, raise-over, scrub-over, soft-ended, soft-over, unpoison-over}
 use Rattle.hwp_cpu_command_laws.proofs.TaskLeaves.{Left, Rest, soft-leaves, unpoison-leaves}
 use Rattle.hwp_cpu_command_laws.proofs.Quiet.{evict, read}
-use Rattle.hwp_cpu_command_laws.proofs.CommandLeaves.{inject-left, instruction-left, quiet-step, raise-left, scrub-left}
+use Rattle.hwp_cpu_command_laws.proofs.CommandLeaves.{copying-left, inject-left, instruction-left, quiet-step, raise-left, scrub-left}
 
 -- ---- commands of which no memory fails
 
@@ -318,9 +323,9 @@ module _ {layout : Layout} {old new : View} {f : Fork} {after : Job} (s : Steppe
               ap (λ (v : View). v.settings) own.told.next,
               refl,
               now (fork_at.SetPolicy policy target before) at ∙ given-next f.targets policy (before + 1) within (omega (arith, less))
-              ∙ ap (map (λ (t : Thread). (t, policy))) (take_more f.targets.threads before target (omega (arith, less, within)) ∙ ap (λ (t : Thread). take before f.targets.threads ++ t ∷ []) (get_or_from_slice_get f.targets.threads before target target there))
-              ∙ map-append (λ (t : Thread). (t, policy)) (take before f.targets.threads) (target ∷ [])
-              ∙ ap (λ (l : List (Thread × Policy)). l ++ (target, policy) ∷ []) (sym (ap (given_at f.targets) at)),
+                  ∙ ap (map (λ (t : Thread). (t, policy))) (take_more f.targets.threads before target (omega (arith, less, within)) ∙ ap (λ (t : Thread). take before f.targets.threads ++ t ∷ []) (get_or_from_slice_get f.targets.threads before target target there))
+                  ∙ map-append (λ (t : Thread). (t, policy)) (take before f.targets.threads) (target ∷ [])
+                  ∙ ap (λ (l : List (Thread × Policy)). l ++ (target, policy) ∷ []) (sym (ap (given_at f.targets) at)),
             );
             counted = λ counted. ap counts_owed own.told.next ∙ counted ∙ sym blank.2;
           }
@@ -331,6 +336,12 @@ module _ {layout : Layout} {old new : View} {i : Instruction} {after : Job} (s :
   instruction-done = subst (HasDone old new i.request.who (jobs.Instruction i)) (sym s.follows.1)
       (let adds = instruction-adds layout old new i s.step s.found s.got s.fits s.planned s.made s.follows.0 s.turn s.follows.2 in
       adds-done (record { marked = adds.marked; failed = adds.failed; counted = adds.counted }) (instruction-left s).rest refl)
+
+module _ {layout : Layout} {old new : View} {c : Copying} {after : Job} (s : Stepped layout old new (jobs.Copying c) after) where
+  copying-done-so : HasDone old new c.store.who (jobs.Copying c) after
+  copying-done-so = subst (HasDone old new c.store.who (jobs.Copying c)) (sym s.follows.1)
+      (let adds = copy-adds layout old new c s.step s.found s.got s.fits s.planned s.made s.follows.0 s.turn s.follows.2 in
+      adds-done (record { marked = adds.marked; failed = adds.failed; counted = adds.counted }) (copying-left s).rest refl)
 
 module _ {layout : Layout} {old new : View} {r : Raise} {after : Job} (s : Stepped layout old new (jobs.Raise r) after) where
   raise-done-so : HasDone old new r.who (jobs.Raise r) after
@@ -440,6 +451,7 @@ module _ {layout : Layout} {old new : View} {u : Unpoison} {after : Job} (s : St
 
 pub done : {layout : Layout} {old new : View} {j after : Job} → Stepped layout old new j after → HasDone old new (who j) j after
 done {j = jobs.Instruction i} s = instruction-done s
+done {j = jobs.Copying c} s = copying-done-so s
 done {j = jobs.Evict e} s = nothing s (leaves s.made (quiet-step (evict e.at) s.planned)) (refl, refl, refl) (subst IsBlank (sym s.follows.1) (refl, refl, refl)) (ap policies_now s.follows.1)
 done {j = jobs.Fsync f} s = fsync-done s
 done {j = jobs.Prctl p} s = prctl-done s
@@ -462,7 +474,8 @@ unset-policies-at-start _ start = refl
 
 pub unmarked-at-start : (j : Job) → IsAtStop j → marked_now j ≡ []
 unmarked-at-start (jobs.Instruction i) start = ap (λ (l : List EventOutcome). instruction_done.marked_by l ++ instruction_done.marked_at i.at) start.3 ∙ ap instruction_done.marked_at start.1
-unmarked-at-start (jobs.Copying c) start = ap (λ (l : List EventOutcome). instruction_done.marked_by l ++ instruction_done.marked_at c.instruction.at) start.2.3 ∙ ap instruction_done.marked_at start.2.1
+unmarked-at-start (jobs.Copying c) start =
+    ap (λ (l : List EventOutcome). instruction_done.marked_by l ++ copying_done.marked_at c.instruction c.at) start.2.3 ∙ ap (copying_done.marked_at c.instruction) start.0 ∙ ap instruction_done.marked_at start.2.1
 unmarked-at-start (jobs.Raise r) start = ap (λ (l : List EventOutcome). filter_map marked_in l ++ raise_done.marked_at r.at) start.1 ∙ ap raise_done.marked_at start.0
 unmarked-at-start (jobs.Scrub c) start = ap (λ (l : List EventOutcome). filter_map marked_in l ++ scrub_done.marked_at c.at) start.1 ∙ ap scrub_done.marked_at start.0
 unmarked-at-start (jobs.Inject i) start = ap (marked_at i.frame) start
@@ -472,7 +485,8 @@ unmarked-at-start _ start = refl
 
 pub unfailed-at-start : (j : Job) → IsAtStop j → failed_now j ≡ []
 unfailed-at-start (jobs.Instruction i) start = ap (λ (l : List EventOutcome). instruction_done.failed_by (Some i.request.thread) l ++ instruction_done.failed_at i.at) start.3 ∙ ap instruction_done.failed_at start.1
-unfailed-at-start (jobs.Copying c) start = ap (λ (l : List EventOutcome). instruction_done.failed_by (Some c.instruction.request.thread) l ++ instruction_done.failed_at c.instruction.at) start.2.3 ∙ ap instruction_done.failed_at start.2.1
+unfailed-at-start (jobs.Copying c) start =
+    ap (λ (l : List EventOutcome). instruction_done.failed_by (Some c.store.thread) l ++ copying_done.failed_at c.instruction c.at) start.2.3 ∙ ap (copying_done.failed_at c.instruction) start.0 ∙ ap instruction_done.failed_at start.2.1
 unfailed-at-start (jobs.Raise r) start = ap (λ (l : List EventOutcome). filter_map (failed_told (thread_of r.raiser)) l ++ raise_done.failed_at r.at) start.1 ∙ ap raise_done.failed_at start.0
 unfailed-at-start (jobs.Scrub c) start = ap (λ (l : List EventOutcome). filter_map (failed_told None) l ++ scrub_done.failed_at c.at) start.1 ∙ ap scrub_done.failed_at start.0
 unfailed-at-start (jobs.Inject i) start = ap failed_at start
@@ -480,7 +494,7 @@ unfailed-at-start _ start = refl
 
 pub unowed-at-start : (j : Job) → IsAtStop j → owed_now j ≡ 0
 unowed-at-start (jobs.Instruction i) start = ap instruction_done.owed_at start.1
-unowed-at-start (jobs.Copying c) start = ap instruction_done.owed_at start.2.1
+unowed-at-start (jobs.Copying c) start = ap (copying_done.owed_at c.instruction) start.0 ∙ ap instruction_done.owed_at start.2.1
 unowed-at-start (jobs.Raise r) start = ap raise_done.owed_at start.0
 unowed-at-start (jobs.Scrub c) start = ap scrub_done.owed_at start.0
 unowed-at-start (jobs.Inject i) start = ap owed_at start
@@ -493,6 +507,7 @@ unowed-at-start _ start = refl
 -- it has counted each frame that it marked
 pub unowed-at-end : (j : Job) {a : Answer} → answer j ≡ Some a → owed_now j ≡ 0
 unowed-at-end (jobs.Instruction i) is = ap instruction_done.owed_at (instruction-over i (mapped _ (instructions.answer i) is).1)
+unowed-at-end (jobs.Copying c) is = (copy_ends.all-told c (mapped _ (copyings.answer c) is).1).1
 unowed-at-end (jobs.Raise r) is = ap raise_done.owed_at (raise-over r (mapped _ (raises.answer r) is).1)
 unowed-at-end (jobs.Scrub c) is = ap scrub_done.owed_at (scrub-over c (mapped _ (scrubs.answer c) is).1)
 unowed-at-end (jobs.Soft s) is = ap soft_done.owed_at (soft-over s (mapped _ (softs.answer s) is).1)

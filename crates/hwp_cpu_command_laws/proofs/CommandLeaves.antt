@@ -1,14 +1,18 @@
 -- What a step of a command leaves of what a view lists: the policies set and the damage stay, but for a command
 -- that makes one of these; and the stops stay, or the command stops the machine itself.
-use Rattle.std.proofs.Common.{◌≡◌, ◌⊎◌, inl, inr, ◌==◌, Bool, true, false, cond, [], ◌∷◌, ◌++◌, Option, Some, None, refl, sym, ap, ◌∙◌, subst, true≢false}
+use Rattle.std.proofs.Common.{◌≡◌, ◌⊎◌, inl, inr, ℕ, ◌==◌, Bool, true, false, cond, List, [], ◌∷◌, ◌++◌, Option, Some, None, refl, sym, ap, ◌∙◌, subst, true≢false}
 use Rattle.std.proofs.lemmas.Option.{none-some}
 use Rattle.hwp_cpu_command.specs.hwp_geom.declared.Frame.{Frame}
 use Rattle.hwp_cpu_command.specs.hwp_geom.declared.Layout.{Layout}
 use Rattle.hwp_cpu_command.specs.hwp_geom.declared.Who.{Who}
+use Rattle.hwp_cpu_command.specs.hwp_page.History.{BodyValue}
 use Rattle.hwp_cpu_command.specs.hwp_words.Stops.{is_stopped}
+use Rattle.hwp_cpu_command.specs.hwp_core_rule.declared.Made.{Made}
+use Rattle.hwp_cpu_command.specs.hwp_core_rule.declared.SharedWord.TheVariants as places
 use Rattle.hwp_cpu_command.specs.hwp_core_rule.declared.Step.{Step}
 use Rattle.hwp_cpu_command.specs.hwp_core_rule.declared.Step.TheVariants as steps
 use Rattle.hwp_cpu_command.specs.hwp_core_rule.declared.View.{View}
+use Rattle.hwp_cpu_command.specs.hwp_core_task.declared.Turn.{Turn}
 use Rattle.hwp_cpu_command.specs.hwp_core_task.Calls.{Steps, logs}
 use Rattle.hwp_cpu_command.proofs.of_hwp_core_task.StepLeaves.{steps-planned}
 use Rattle.hwp_cpu_command.specs.hwp_cpu_control.declared.Nested.{Nested}
@@ -46,6 +50,8 @@ use Rattle.hwp_cpu_command.specs.hwp_claim.declared.inject.InjectAt.TheVariants 
 use Rattle.hwp_cpu_command.specs.hwp_claim.Fails as fails
 use Rattle.hwp_cpu_command.specs.hwp_claim.Injects as injects
 use Rattle.hwp_cpu_command.proofs.of_hwp_claim.Quiet.{IsQuiet, PlansQuiet, leaves}
+use Rattle.hwp_cpu_command.specs.hwp_fault.Accesses as accesses
+use Rattle.hwp_cpu_command.specs.hwp_cpu_check.Checks.{Check}
 use Rattle.hwp_cpu_command.specs.hwp_cpu_check.declared.Handler.{Handler}
 use Rattle.hwp_cpu_command.specs.hwp_cpu_check.Handlers as handlers
 use Rattle.hwp_cpu_command.specs.hwp_cpu_check.Told.{halts}
@@ -56,6 +62,14 @@ use Rattle.hwp_cpu_command.specs.hwp_cpu_access.Fits as instruction_fits
 use Rattle.hwp_cpu_command.specs.hwp_cpu_access.Instructions as instructions
 use Rattle.hwp_cpu_command.proofs.of_hwp_cpu_access.CheckLaws.{halts-more}
 use Rattle.hwp_cpu_command.proofs.of_hwp_cpu_access.Quiet.{access}
+use Rattle.hwp_cpu_command.specs.hwp_fork.Cows as cows
+use Rattle.hwp_cpu_command.specs.hwp_cpu_copy.declared.Copying.{Copying}
+use Rattle.hwp_cpu_command.specs.hwp_cpu_copy.declared.copying.CopyingAt.{CopyingAt}
+use Rattle.hwp_cpu_command.specs.hwp_cpu_copy.declared.copying.CopyingAt.TheVariants as copying_at
+use Rattle.hwp_cpu_command.specs.hwp_cpu_copy.Copyings as copyings
+use Rattle.hwp_cpu_command.specs.hwp_cpu_copy.Fits as copying_fits
+use Rattle.hwp_cpu_command.specs.hwp_cpu_copy.Runs as copying_runs
+use Rattle.hwp_cpu_command.proofs.of_hwp_cpu_copy.CowSteps.{request-who}
 use Rattle.hwp_cpu_command.specs.hwp_cpu_raise.declared.Raise.{Raise}
 use Rattle.hwp_cpu_command.specs.hwp_cpu_raise.declared.raise.RaiseAt.{RaiseAt}
 use Rattle.hwp_cpu_command.specs.hwp_cpu_raise.declared.raise.RaiseAt.TheVariants as raise_at
@@ -70,7 +84,7 @@ use Rattle.hwp_cpu_command.proofs.of_hwp_scrub.VisitLaws.{halts-both}
 use Rattle.hwp_cpu_command.specs.declared.job.Job.{Job}
 use Rattle.hwp_cpu_command.specs.declared.job.Job.TheVariants as jobs
 use Rattle.hwp_cpu_command.specs.Jobs.{plan}
-use Rattle.hwp_cpu_command.specs.Stays.{HasStopped, Stepped, StopsItself}
+use Rattle.hwp_cpu_command.specs.Stays.{HasInstructionStopped, HasStopped, IsInstructionStopping, Stepped, StopsItself}
 use Rattle.hwp_cpu_command_laws.proofs.TaskLeaves.{HandlerLeft, HasHalted, Rest, fail-left, handler-left, quiet-rest, soft-leaves, stop-rest, stops-by, unpoison-leaves}
 use Rattle.hwp_cpu_command_laws.proofs.Quiet.{evict, read}
 
@@ -94,37 +108,117 @@ module _ {layout : Layout} {old new : View} {j after : Job} (s : Stepped layout 
 
 -- ---- machine checks
 
-module _ {layout : Layout} {old new : View} {i : Instruction} {after : Job} (s : Stepped layout old new (jobs.Instruction i) after) where
-  abbrev next : Instruction
-  next = s.follows.0
+-- an access, alone or as one of many of its command, makes the step that came
+pub record InstructionStep (layout : Layout) (old new : View) (i after : Instruction) : Type 0 where
+  pub base : List Made
+  pub earlier : List Check
+  pub step : Step
+  pub found : ℕ
+  pub got : Option BodyValue
+  pub turn : Turn
+  pub fits : instruction_fits.FitsBehind base earlier layout old i
+  pub planned : instructions.plan i ≡ Some step
+  pub made : Steps layout i.request.who step (logs (instructions.put i)) old new found got
+  pub follows : instructions.Follows layout (instructions.bare i) found got after turn
 
-  instruction-handled : (frame : Frame) (h : Handler) → i.at ≡ instruction_at.Handle frame h → instruction_fits.IsHandling s.base layout old i s.fits.checks frame h → handlers.plan h ≡ Some s.step → Steps layout i.request.who s.step (logs (handlers.put h)) old new s.found s.got
-      → instructions.FollowsAt layout (instructions.bare i) (instruction_at.Handle frame (handlers.bare h)) s.found s.got next s.turn → IsLeft (jobs.Instruction i) after old new
+-- it stopped the machine for an event of its machine check
+pub record InstructionHalted (i after : Instruction) (old new : View) : Type 0 where
+  pub stopping : IsInstructionStopping i
+  pub has : HasInstructionStopped after
+  pub stops_are : new.stops ≡ old.stops ++ i.request.who ∷ []
+
+pub record InstructionLeft (i after : Instruction) (old new : View) : Type 0 where
+  pub rest : Rest old new
+  pub stops : (new.stops ≡ old.stops) ⊎ InstructionHalted i after old new
+
+module _ {layout : Layout} {old new : View} {i after : Instruction} (s : InstructionStep layout old new i after) where
+  abbrev checks : List Check
+  checks = s.earlier ++ s.fits.checks
+
+  instruction-handled : (frame : Frame) (h : Handler) → i.at ≡ instruction_at.Handle frame h → instruction_fits.IsHandling s.base layout old i checks frame h → handlers.plan h ≡ Some s.step → Steps layout i.request.who s.step (logs (handlers.put h)) old new s.found s.got
+      → instructions.FollowsAt layout (instructions.bare i) (instruction_at.Handle frame (handlers.bare h)) s.found s.got after s.turn → InstructionLeft i after old new
   instruction-handled frame h at is e made follows = record { rest = left.rest; stops = by left.stops }
     where
       left : HandlerLeft h follows.handler old new
       left = handler-left h s.turn is.has.handler e (subst (λ (w : Who). Steps layout w s.step (logs (handlers.put h)) old new s.found s.got) (sym is.has.own) made) follows.follows
 
-      halted : HasHalted h follows.handler old new → HasStopped (jobs.Instruction next)
-      halted has = subst (λ (k : Instruction). HasStopped (jobs.Instruction k)) (sym (follows.next_is ∙ ap (instructions.after_handler_by (instructions.bare i) frame follows.handler) has.over))
+      halted : HasHalted h follows.handler old new → HasInstructionStopped after
+      halted has = subst HasInstructionStopped (sym (follows.next_is ∙ ap (instructions.after_handler_by (instructions.bare i) frame follows.handler) has.over))
           (refl, halts-more i.lines.told follows.handler.events.told is.has.lets.halts_none ∙ has.halts_is)
 
-      by : (new.stops ≡ old.stops) ⊎ HasHalted h follows.handler old new → StopsLeft (jobs.Instruction i) after old new
+      by : (new.stops ≡ old.stops) ⊎ HasHalted h follows.handler old new → (new.stops ≡ old.stops) ⊎ InstructionHalted i after old new
       by (inl same) = inl same
-      by (inr has) = inr (record { stopping = (frame, h, at, has.stopping); has = subst HasStopped (sym s.follows.1) (halted has); stops_are = has.stops_are ∙ ap (λ (w : Who). old.stops ++ w ∷ []) is.has.own })
+      by (inr has) = inr (record { stopping = (frame, h, at, has.stopping); has = halted has; stops_are = has.stops_are ∙ ap (λ (w : Who). old.stops ++ w ∷ []) is.has.own })
 
-  pub instruction-left : IsLeft (jobs.Instruction i) after old new
-  instruction-left = which i.at refl s.fits.at s.planned s.made s.follows.2
+  pub instruction-leaves : InstructionLeft i after old new
+  instruction-leaves = which i.at refl s.fits.at s.planned s.made s.follows
     where
-      which : (x : InstructionAt) → i.at ≡ x → instruction_fits.FitsAt s.base layout old i s.fits.checks x → instructions.plan_at x ≡ Some s.step → Steps layout i.request.who s.step (logs (instructions.put_at x)) old new s.found s.got
-          → instructions.FollowsAt layout (instructions.bare i) (instructions.bare_at x) s.found s.got next s.turn → IsLeft (jobs.Instruction i) after old new
-      which (instruction_at.Access a) at has e made follows = let same = leaves made (quiet-step (access a.request a.at) e) in record { rest = quiet-rest same; stops = inl same.stops }
+      quietly : (put : Option BodyValue) → Steps layout i.request.who s.step (logs put) old new s.found s.got → IsQuiet s.step → InstructionLeft i after old new
+      quietly put made quiet = let same = leaves made quiet in record { rest = quiet-rest same; stops = inl same.stops }
+
+      which : (x : InstructionAt) → i.at ≡ x → instruction_fits.FitsAt s.base layout old i checks x → instructions.plan_at x ≡ Some s.step → Steps layout i.request.who s.step (logs (instructions.put_at x)) old new s.found s.got
+          → instructions.FollowsAt layout (instructions.bare i) (instructions.bare_at x) s.found s.got after s.turn → InstructionLeft i after old new
+      which (instruction_at.Access a) at has e made follows = quietly (accesses.put a) made (quiet-step (access a.request a.at) e)
       which (instruction_at.Handle frame h) at has e made follows = instruction-handled frame h at has e made follows
-      which (instruction_at.LoadFrame frame) at has e made follows = by-load s tt e
-      which (instruction_at.LoadStop frame) at has e made follows = by-load s tt e
-      which instruction_at.GiveUp at has e made follows = by-load s tt e
+      which (instruction_at.LoadFrame frame) at has e made follows = quietly None made (quiet-step {o = Some (steps.Load (places.Frame frame))} tt e)
+      which (instruction_at.LoadStop frame) at has e made follows = quietly None made (quiet-step {o = Some (steps.Load places.Stop)} tt e)
+      which instruction_at.GiveUp at has e made follows = quietly None made (quiet-step {o = Some steps.GiveUp} tt e)
       which (instruction_at.Paused pause) at has e made follows = absurd (none-some s.step e)
       which (instruction_at.Over answer) at has e made follows = absurd (none-some s.step e)
+
+module _ {layout : Layout} {old new : View} {i : Instruction} {after : Job} (s : Stepped layout old new (jobs.Instruction i) after) where
+  pub instruction-left : IsLeft (jobs.Instruction i) after old new
+  instruction-left = record { rest = left.rest; stops = by left.stops }
+    where
+      left : InstructionLeft i s.follows.0 old new
+      left = instruction-leaves (record { base = s.base; earlier = []; step = s.step; found = s.found; got = s.got; turn = s.turn; fits = s.fits; planned = s.planned; made = s.made; follows = s.follows.2 })
+
+      by : (new.stops ≡ old.stops) ⊎ InstructionHalted i s.follows.0 old new → StopsLeft (jobs.Instruction i) after old new
+      by (inl same) = inl same
+      by (inr halted) = inr (record { stopping = halted.stopping; has = subst HasStopped (sym s.follows.1) halted.has; stops_are = halted.stops_are })
+
+-- a copy, whichever access of it goes on
+module _ {layout : Layout} {old new : View} {c : Copying} {after : Job} (s : Stepped layout old new (jobs.Copying c) after) where
+  copy-accessed : c.at ≡ copying_at.Access → copying_fits.IsAccessing s.base layout old c s.fits.runs → instructions.plan c.instruction ≡ Some s.step → Steps layout c.store.who s.step (logs (instructions.put c.instruction)) old new s.found s.got
+      → copyings.AccessStepped layout (copyings.bare_at c copying_at.Access) s.found s.got s.follows.0 s.turn → IsLeft (jobs.Copying c) after old new
+  copy-accessed at has e made follows = record { rest = left.rest; stops = by left.stops }
+    where
+      own : c.instruction.request.who ≡ c.store.who
+      own = (request-who c.store c.page (cows.sub_of c.cow) has.request_is).0
+
+      left : InstructionLeft c.instruction follows.instruction old new
+      left = instruction-leaves (record {
+        base = s.base ++ (copying_runs.made_by s.fits.runs ++ has.since);
+        earlier = copying_runs.checks_by s.fits.runs;
+        step = s.step;
+        found = s.found;
+        got = s.got;
+        turn = s.turn;
+        fits = has.instruction;
+        planned = e;
+        made = subst (λ (w : Who). Steps layout w s.step (logs (instructions.put c.instruction)) old new s.found s.got) (sym own) made;
+        follows = follows.follows;
+      })
+
+      same : HasInstructionStopped follows.instruction → s.follows.0 ≡ record c { instruction = follows.instruction; at = copying_at.Access }
+      same has = follows.next_is ∙ ap (copyings.after_access (record (copyings.bare_at c copying_at.Access) { instruction = follows.instruction })) has.0
+
+      by : (new.stops ≡ old.stops) ⊎ InstructionHalted c.instruction follows.instruction old new → StopsLeft (jobs.Copying c) after old new
+      by (inl still) = inl still
+      by (inr halted) = inr (record {
+        stopping = (at, halted.stopping);
+        has = subst HasStopped (sym (s.follows.1 ∙ ap jobs.Copying (same halted.has))) (refl, halted.has);
+        stops_are = halted.stops_are ∙ ap (λ (w : Who). old.stops ++ w ∷ []) own;
+      })
+
+  pub copying-left : IsLeft (jobs.Copying c) after old new
+  copying-left = which c.at refl s.fits.at s.planned s.made s.follows.2
+    where
+      which : (x : CopyingAt) → c.at ≡ x → copying_fits.FitsAt s.base layout old c s.fits.runs x → copyings.plan_at c.instruction x ≡ Some s.step → Steps layout c.store.who s.step (logs (copyings.put_at c.instruction x)) old new s.found s.got
+          → copyings.FollowsAt layout (copyings.bare_at c x) (copyings.bare_at c x).at s.found s.got s.follows.0 s.turn → IsLeft (jobs.Copying c) after old new
+      which copying_at.Access at has e made follows = copy-accessed at has e made follows
+      which (copying_at.Free f stored) at has e made follows = let same = leaves made (quiet-step (evict f.at) e) in record { rest = quiet-rest same; stops = inl same.stops }
+      which (copying_at.Over answer) at has e made follows = absurd (none-some s.step e)
 
 module _ {layout : Layout} {old new : View} {r : Raise} {after : Job} (s : Stepped layout old new (jobs.Raise r) after) where
   abbrev raised : Raise

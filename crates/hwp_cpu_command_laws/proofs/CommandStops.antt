@@ -23,6 +23,7 @@ use Rattle.hwp_cpu_command.specs.hwp_core_rule.Lists.{SomeMember}
 use Rattle.hwp_cpu_command.specs.hwp_core_rule.Views.{noted, stamp_of}
 use Rattle.hwp_cpu_command.specs.hwp_core_rule.Words.{words_of}
 use Rattle.hwp_cpu_command.proofs.of_hwp_core_rule.Lists.{at_map, some-push}
+use Rattle.hwp_cpu_command.specs.hwp_core_task.declared.Turn.{Turn}
 use Rattle.hwp_cpu_command.specs.hwp_core_task.Calls.{Steps, logs as logs_of}
 use Rattle.hwp_cpu_command.proofs.of_hwp_core_task.StepLeaves.{steps-planned}
 use Rattle.hwp_cpu_command.specs.hwp_core_task.Known.{Saw, SawStop}
@@ -40,8 +41,12 @@ use Rattle.hwp_cpu_command.specs.hwp_cpu_control.declared.fork.ForkAt.{ForkAt}
 use Rattle.hwp_cpu_command.specs.hwp_cpu_control.declared.fork.ForkAt.TheVariants as fork_at
 use Rattle.hwp_cpu_command.specs.hwp_cpu_control.Forks as forks
 use Rattle.hwp_cpu_command.specs.hwp_geom.declared.VSlot.{VSlot}
+use Rattle.hwp_cpu_command.specs.hwp_cpu_copy.declared.Copying.{Copying}
 use Rattle.hwp_cpu_command.specs.hwp_cpu_copy.declared.copying.CopyingAt.{CopyingAt}
+use Rattle.hwp_cpu_command.specs.hwp_cpu_copy.declared.copying.CopyingAt.TheVariants as copying_at
 use Rattle.hwp_cpu_command.specs.hwp_cpu_copy.Copyings as copyings
+use Rattle.hwp_cpu_command.specs.hwp_cpu_copy.Fits as copying_fits
+use Rattle.hwp_cpu_command.specs.hwp_cpu_copy.Runs.{Run, checks_by, made_by}
 use Rattle.hwp_cpu_command.specs.hwp_cpu_control.declared.Prctl.{Prctl}
 use Rattle.hwp_cpu_command.specs.hwp_cpu_control.declared.PrctlAnswer.TheVariants as prctl_answers
 use Rattle.hwp_cpu_command.specs.hwp_cpu_control.declared.ReadStop.{ReadStop}
@@ -95,6 +100,7 @@ use Rattle.hwp_cpu_command.specs.hwp_cpu_access.declared.InstructionAnswer.{Inst
 use Rattle.hwp_cpu_command.specs.hwp_cpu_access.declared.InstructionAnswer.TheVariants as instruction_answers
 use Rattle.hwp_cpu_command.specs.hwp_cpu_access.declared.instruction.InstructionAt.{InstructionAt}
 use Rattle.hwp_cpu_command.specs.hwp_cpu_access.declared.instruction.InstructionAt.TheVariants as instruction_at
+use Rattle.hwp_cpu_command.specs.hwp_cpu_access.Fits as instruction_fits
 use Rattle.hwp_cpu_command.specs.hwp_cpu_access.Fits.{IsEnd}
 use Rattle.hwp_cpu_command.specs.hwp_cpu_access.Instructions as instructions
 use Rattle.hwp_cpu_command.specs.hwp_cpu_raise.declared.Raise.{Raise}
@@ -131,9 +137,9 @@ use Rattle.hwp_cpu_command.specs.declared.job.Job.TheVariants as jobs
 use Rattle.hwp_cpu_command.specs.Answers.{evict_answer, fail_answer, fork_answer, fsync_answer, instruction_answer, nested_answer, prctl_answer, raise_answer, read_stop_answer, refusal_answer, scrub_answer, soft_answer, spoil_answer, unpoison_answer}
 use Rattle.hwp_cpu_command.specs.Begins.{BeginsWith}
 use Rattle.hwp_cpu_command.specs.Jobs.{FitsFrom, answer, plan, put, told_of, who}
-use Rattle.hwp_cpu_command.specs.Stays.{EndsAtOnce, EndsStopped, HasSpoiled, HasStopped, IsAtStop, IsHalted, IsStopping, Stepped, StopsItself}
-use Rattle.hwp_cpu_command.proofs.JobEnds.{InjectEnded, answered-over, inject-ended, instruction-ended, mapped, raise-ended, scrub-ended, soft-ended, unpoison-ended}
-use Rattle.hwp_cpu_command_laws.proofs.CommandLeaves.{StopsLeft, evict-left, fork-left, fsync-left, inject-left, instruction-left, log-left, nested-left, prctl-left, raise-left, scrub-left, soft-left, spoil-left, unpoison-left}
+use Rattle.hwp_cpu_command.specs.Stays.{EndsAtOnce, EndsStopped, HasSpoiled, HasStopped, IsAtStop, IsHalted, IsInstructionAtStop, IsStopping, Stepped, StopsItself}
+use Rattle.hwp_cpu_command.proofs.JobEnds.{InjectEnded, answered-over, inject-ended, instruction-ended, instruction-over, mapped, raise-ended, scrub-ended, soft-ended, unpoison-ended}
+use Rattle.hwp_cpu_command_laws.proofs.CommandLeaves.{StopsLeft, copying-left, evict-left, fork-left, fsync-left, inject-left, instruction-left, log-left, nested-left, prctl-left, raise-left, scrub-left, soft-left, spoil-left, unpoison-left}
 use Rattle.hwp_cpu_command_laws.proofs.CommandRuns.{has-begun}
 
 -- ---- answers
@@ -205,8 +211,8 @@ starts_scrub _ = false
 not-stopping : (j : Job) → EndsStopped j → IsStopping j → ⊥
 not-stopping (jobs.Instruction i) (inl (a, start, look, none)) (frame, h, handles, stop) = true≢false (sym (ap starts_access start) ∙ ap starts_access handles)
 not-stopping (jobs.Instruction i) (inr stopped) (frame, h, handles, stop) = none-some answers.Stopped (sym (ap (λ (x : InstructionAt). option_map instruction_answer (instructions.answer_at x)) handles) ∙ stopped)
-not-stopping (jobs.Copying c) (inl (at, fresh, a, start, look, none)) (own, frame, h, handles, stop) = true≢false (sym (ap starts_access start) ∙ ap starts_access handles)
-not-stopping (jobs.Copying c) (inr stopped) (own, frame, h, handles, stop) =
+not-stopping (jobs.Copying c) (inl (at, fresh, (a, start, look, none))) (own, (frame, h, handles, stop)) = true≢false (sym (ap starts_access start) ∙ ap starts_access handles)
+not-stopping (jobs.Copying c) (inr stopped) (own, (frame, h, handles, stop)) =
     none-some answers.Stopped (sym (ap (λ (x : CopyingAt). option_map instruction_answer (copyings.answer_at c.instruction x)) own ∙ ap (λ (x : InstructionAt). option_map instruction_answer (instructions.answer_at x)) handles) ∙ stopped)
 not-stopping (jobs.Raise r) (inl (start, none)) (h, handles, stop) = true≢false (sym (ap starts_raise start) ∙ ap starts_raise handles)
 not-stopping (jobs.Raise r) (inr stopped) (h, handles, stop) = none-some answers.Stopped (sym (ap (λ (x : RaiseAt). option_map (raise_answer (length r.lines.told)) (raises.answer_at x)) handles) ∙ stopped)
@@ -251,6 +257,7 @@ stop-word {layout} {by} {body} {old} {new} {found} made halted = ap not (ne_eqb 
 -- a step leaves the stops of the view, or is the stop of a command that stops the machine itself
 pub stops-after : {layout : Layout} {old new : View} {j after : Job} → Stepped layout old new j after → StopsLeft j after old new
 stops-after {j = jobs.Instruction i} s = (instruction-left s).stops
+stops-after {j = jobs.Copying c} s = (copying-left s).stops
 stops-after {j = jobs.Evict e} s = (evict-left s).stops
 stops-after {j = jobs.Fsync f} s = inl (fsync-left s).1
 stops-after {j = jobs.Prctl p} s = inl (prctl-left s).1
@@ -267,6 +274,7 @@ stops-after {j = jobs.Unpoison u} s = (unpoison-left s).stops
 -- the damage that a view lists stays, or is made by the command
 pub spoils-after : {layout : Layout} {old new : View} {j after : Job} → Stepped layout old new j after → (new.spoiled ≡ old.spoiled) ⊎ ((x : Spoiled) × (new.spoiled ≡ old.spoiled ++ x ∷ []) × HasSpoiled after x)
 spoils-after {j = jobs.Instruction i} s = inl (instruction-left s).rest.spoiled
+spoils-after {j = jobs.Copying c} s = inl (copying-left s).rest.spoiled
 spoils-after {j = jobs.Evict e} s = inl (evict-left s).rest.spoiled
 spoils-after {j = jobs.Fsync f} s = inl (fsync-left s).0
 spoils-after {j = jobs.Prctl p} s = inl (prctl-left s).0
@@ -314,7 +322,7 @@ module _ {layout : Layout} {old new : View} {j after : Job} (s : Stepped layout 
 -- the step of a command that has yet to look is the load of the stop word
 pub look-first : (j : Job) → IsAtStop j → plan j ≡ Some (steps.Load places.Stop)
 look-first (jobs.Instruction i) (a, start, look, none) = ap instructions.plan_at start ∙ ap (accesses.plan_at a.request) look
-look-first (jobs.Copying c) (own, fresh, a, start, look, none) = ap (copyings.plan_at c.instruction) own ∙ ap instructions.plan_at start ∙ ap (accesses.plan_at a.request) look
+look-first (jobs.Copying c) (own, fresh, (a, start, look, none)) = ap (copyings.plan_at c.instruction) own ∙ ap instructions.plan_at start ∙ ap (accesses.plan_at a.request) look
 look-first (jobs.Evict e) start = ap evicts.plan_at start
 look-first (jobs.Fsync f) start = ap (fsyncs.plan_at f.file) start
 look-first (jobs.Prctl p) start = ap (prctls.plan_at p.thread p.process) start
@@ -331,14 +339,35 @@ look-first (jobs.Unpoison u) start = ap (unpoisons.plan_at u.frame) start
 look-made : {layout : Layout} {old new : View} {j after : Job} (s : Stepped layout old new j after) → IsAtStop j → Steps layout (who j) (steps.Load places.Stop) (logs_of (put j)) old new s.found s.got
 look-made {j = j} s start = steps-planned {other = steps.Load places.Stop} (sym (look-first j start) ∙ s.planned) s.made
 
+-- an access that finds by its first step that the machine has stopped, and has told of no event
+record HasLooked (i : Instruction) : Type 0 where
+  answered : instructions.answer i ≡ Some instruction_answers.Stopped
+  untold : i.lines.told ≡ []
+
+instruction-looks : (layout : Layout) (i k : Instruction) (found : ℕ) (got : Option BodyValue) (turn : Turn) → instructions.Follows layout (instructions.bare i) found got k turn → is_stopped found ≡ true → IsInstructionAtStop i → HasLooked k
+instruction-looks layout i k found got turn follows word (a, start, look, none) =
+    let stepped = subst (λ (x : InstructionAt). instructions.FollowsAt layout (instructions.bare i) (instructions.bare_at x) found got k turn) start follows in
+    let at = subst (λ (x : AccessAt). accesses.NextAt layout a.request (accesses.bare_at x) found got stepped.access.at turn) look stepped.follows.at in
+    let over : accesses.answer stepped.access ≡ Some access_answers.Stopped = ap accesses.answer_at at.0 ∙ ap (λ (b : Bool). accesses.answer_at (cond b (access_at.Over access_answers.Stopped) access_at.LoadProcess)) word in
+    let next = subst (λ (o : Option AccessAnswer). instructions.AfterAccessBy layout (instructions.bare i) stepped.access o k) over stepped.next_is in
+    record { answered = ap instructions.answer next; untold = ap (λ (x : Instruction). x.lines.told) next ∙ none }
+
+-- and a copy by its first access
+record HasLookedFirst (c k : Copying) : Type 0 where
+  instruction : Instruction
+  access : HasLooked instruction
+  same : k ≡ record c { instruction = instruction; at = copying_at.Access }
+
+copy-looks : (layout : Layout) (c k : Copying) (found : ℕ) (got : Option BodyValue) (turn : Turn) → copyings.Follows layout (copyings.bare c) found got k turn → is_stopped found ≡ true → IsAtStop (jobs.Copying c) → HasLookedFirst c k
+copy-looks layout c k found got turn follows word (own, fresh, start) =
+    let stepped : copyings.AccessStepped layout (copyings.bare_at c copying_at.Access) found got k turn = subst (λ (x : CopyingAt). copyings.FollowsAt layout (copyings.bare_at c x) (copyings.bare_at c x).at found got k turn) own follows in
+    let looked : HasLooked stepped.instruction = instruction-looks layout c.instruction stepped.instruction found got turn stepped.follows word start in
+    record { instruction = stepped.instruction; access = looked; same = stepped.next_is ∙ ap (copyings.after_access (record (copyings.bare_at c copying_at.Access) { instruction = stepped.instruction })) looked.answered }
+
 -- a command that finds by it that the machine has stopped is answered `stopped`
 looks : {layout : Layout} {old new : View} (j after : Job) (s : Stepped layout old new j after) → is_stopped s.found ≡ true → IsAtStop j → answer after ≡ Some answers.Stopped
-looks {layout} {old} {new} (jobs.Instruction i) after s word (a, start, look, none) =
-    let stepped = subst (λ (x : InstructionAt). instructions.FollowsAt layout (instructions.bare i) (instructions.bare_at x) s.found s.got s.follows.0 s.turn) start s.follows.2 in
-    let at = subst (λ (x : AccessAt). accesses.NextAt layout a.request (accesses.bare_at x) s.found s.got stepped.access.at s.turn) look stepped.follows.at in
-    let over : accesses.answer stepped.access ≡ Some access_answers.Stopped = ap accesses.answer_at at.0 ∙ ap (λ (b : Bool). accesses.answer_at (cond b (access_at.Over access_answers.Stopped) access_at.LoadProcess)) word in
-    let next = subst (λ (o : Option AccessAnswer). instructions.AfterAccessBy layout (instructions.bare i) stepped.access o s.follows.0) over stepped.next_is in
-    ap answer s.follows.1 ∙ ap (λ (k : Instruction). option_map instruction_answer (instructions.answer k)) next
+looks {layout} (jobs.Instruction i) after s word start = ap answer s.follows.1 ∙ ap (option_map instruction_answer) (instruction-looks layout i s.follows.0 s.found s.got s.turn s.follows.2 word start).answered
+looks {layout} (jobs.Copying c) after s word start = let found = copy-looks layout c s.follows.0 s.found s.got s.turn s.follows.2 word start in ap answer (s.follows.1 ∙ ap jobs.Copying found.same) ∙ ap (option_map instruction_answer) found.access.answered
 looks {layout} {old} {new} (jobs.Evict e) after s word start =
     let at = subst (λ (x : EvictAt). evicts.FollowsAt e.who e.page e.what (evicts.bare_at x) s.found s.got s.follows.0.at s.turn) start s.follows.2.1 in
     ap answer s.follows.1 ∙ ap (λ (x : EvictAt). option_map evict_answer (evicts.answer_at x)) at.0
@@ -392,12 +421,8 @@ untold-at-start _ start = refl
 
 -- nor has one that finds by its first step that the machine has stopped
 looks-untold : {layout : Layout} {old new : View} (j after : Job) (s : Stepped layout old new j after) → is_stopped s.found ≡ true → IsAtStop j → told_of after ≡ []
-looks-untold {layout} (jobs.Instruction i) after s word (a, start, look, none) =
-    let stepped = subst (λ (x : InstructionAt). instructions.FollowsAt layout (instructions.bare i) (instructions.bare_at x) s.found s.got s.follows.0 s.turn) start s.follows.2 in
-    let at = subst (λ (x : AccessAt). accesses.NextAt layout a.request (accesses.bare_at x) s.found s.got stepped.access.at s.turn) look stepped.follows.at in
-    let over : accesses.answer stepped.access ≡ Some access_answers.Stopped = ap accesses.answer_at at.0 ∙ ap (λ (b : Bool). accesses.answer_at (cond b (access_at.Over access_answers.Stopped) access_at.LoadProcess)) word in
-    let next = subst (λ (o : Option AccessAnswer). instructions.AfterAccessBy layout (instructions.bare i) stepped.access o s.follows.0) over stepped.next_is in
-    ap told_of s.follows.1 ∙ ap (λ (k : Instruction). k.lines.told) next ∙ none
+looks-untold {layout} (jobs.Instruction i) after s word start = ap told_of s.follows.1 ∙ (instruction-looks layout i s.follows.0 s.found s.got s.turn s.follows.2 word start).untold
+looks-untold {layout} (jobs.Copying c) after s word start = let found = copy-looks layout c s.follows.0 s.found s.got s.turn s.follows.2 word start in ap told_of (s.follows.1 ∙ ap jobs.Copying found.same) ∙ found.access.untold
 looks-untold {layout} (jobs.Raise r) after s word (start, none) =
     let stepped = subst (λ (x : RaiseAt). raises.FollowsAt layout (raises.bare r) (raises.bare_at x) s.found s.got s.follows.0 s.turn) start s.follows.2 in
     let next = subst (λ (b : Bool). raises.AfterStopBy layout (raises.bare r) b r.raiser s.follows.0) word stepped.0 in
@@ -467,6 +492,24 @@ module _ (layout : Layout) (view : View) where
   instruction-halts base a told (instruction_answers.Sigbus place) ended is = absurd (other _ refl (ap (λ (y : Answer). Some y) is))
   instruction-halts base a told instruction_answers.NoFrame ended is = absurd (other _ refl (ap (λ (y : Answer). Some y) is))
   instruction-halts base a told (instruction_answers.Gone page) ended is = absurd (other _ refl (ap (λ (y : Answer). Some y) is))
+
+  -- of a copy: its access, or the freeing behind the accesses
+  copy-ends : (base : List Made) (c : Copying) (runs : List Run) (x : InstructionAnswer) → copying_fits.IsEnd base view c runs x → instruction_answer x ≡ answers.Stopped → IsHalted view
+  copy-ends base c runs instruction_answers.Stopped ended is = halts ended.saw
+  copy-ends base c runs (instruction_answers.Stored place) ended is = absurd (other _ refl (ap (λ (y : Answer). Some y) is))
+  copy-ends base c runs (instruction_answers.Value word place) ended is = absurd ended
+  copy-ends base c runs (instruction_answers.Sigbus place) ended is = absurd ended
+  copy-ends base c runs instruction_answers.NoFrame ended is = absurd ended
+  copy-ends base c runs (instruction_answers.Gone page) ended is = absurd ended
+
+  copy-halts : (base : List Made) (c : Copying) (runs : List Run) (x : InstructionAnswer) (y : CopyingAt) → copying_fits.FitsAt base layout view c runs y → copyings.answer_at c.instruction y ≡ Some x → instruction_answer x ≡ answers.Stopped → IsHalted view
+  copy-halts base c runs x copying_at.Access has e is =
+      let behind : List Made = base ++ (made_by runs ++ has.since) in
+      let end : instruction_fits.IsAnswered behind layout view c.instruction (checks_by runs ++ has.instruction.checks) x =
+      subst (instruction_fits.FitsAt behind layout view c.instruction (checks_by runs ++ has.instruction.checks)) (instruction-over c.instruction e) has.instruction.at in
+      instruction-halts behind c.instruction.request c.instruction.lines.told x end.ended is
+  copy-halts base c runs x (copying_at.Free f stored) has e is = absurd (none-some x e)
+  copy-halts base c runs x (copying_at.Over a) has e is = copy-ends base c runs a has.ended (ap instruction_answer (same_Some a x e) ∙ is)
 
   raise-halts : (r : Raise) (x : RaiseAnswer) → raise_fits.IsEnd layout view r x → raise_answer (length r.lines.told) x ≡ answers.Stopped → IsHalted view
   raise-halts r raise_answers.Stopped (inl unchecked) is = halts unchecked.1
@@ -549,6 +592,7 @@ module _ (layout : Layout) (view : View) where
 -- a command that is answered `stopped` shows that the machine has stopped
 pub stopped-halts : (base : List Made) (layout : Layout) (view : View) (j : Job) → FitsFrom base layout view j → answer j ≡ Some answers.Stopped → IsHalted view
 stopped-halts base layout view (jobs.Instruction i) fits is = let own = mapped _ (instructions.answer i) is in instruction-halts layout view base i.request i.lines.told own.0 (instruction-ended i fits own.1).ended own.2
+stopped-halts base layout view (jobs.Copying c) fits is = let own = mapped _ (copyings.answer c) is in copy-halts layout view base c fits.runs own.0 c.at fits.at own.1 own.2
 stopped-halts base layout view (jobs.Evict e) fits is = evict-halts layout view base e e.at fits.at is
 stopped-halts base layout view (jobs.Fsync f) fits is = fsync-halts layout view f f.at fits.1.at is
 stopped-halts base layout view (jobs.Prctl p) fits is = prctl-halts layout view p p.at fits.1.at is

@@ -1,9 +1,10 @@
 -- A copy at its beginning and at its end, and what it asks for, which never changes.
-use Rattle.std.proofs.Common.{◌≡◌, ℕ, ◌*◌, ◌<◌, ◌==◌, if◌then◌else◌, Bool, List, [], ◌++◌, Some, None, length, slice_index, append-nil, refl, sym, ap, ◌∙◌, subst}
+use Rattle.std.proofs.Common.{◌≡◌, ◌⊎◌, inl, inr, ℕ, ◌*◌, ◌<◌, ◌==◌, if◌then◌else◌, Bool, false, List, [], ◌++◌, Some, None, length, slice_index, append-nil, refl, sym, ap, ◌∙◌, subst}
 use Rattle.std.specs.declared.alloc.Global.{Global}
 use Rattle.std.proofs.lemmas.Bool.{both_ways}
 use Rattle.std.proofs.lemmas.Option.{none-some, same_Some}
 use Rattle.hwp_fault.specs.hwp_geom.declared.Layout.{Layout}
+use Rattle.hwp_fault.specs.hwp_geom.declared.Mode.{Mode}
 use Rattle.hwp_fault.specs.hwp_geom.declared.Page.{Page}
 use Rattle.hwp_fault.specs.hwp_geom.declared.VSlot.{VSlot}
 use Rattle.hwp_fault.specs.hwp_geom.Layout.{IsSound}
@@ -11,28 +12,36 @@ use Rattle.hwp_fault.specs.hwp_geom.Limits.{line_limit}
 use Rattle.hwp_fault.specs.hwp_page.declared.At.{At}
 use Rattle.hwp_fault.specs.hwp_core_rule.declared.Made.{Made}
 use Rattle.hwp_fault.specs.hwp_core_rule.declared.View.{View}
+use Rattle.hwp_fault.specs.hwp_core_rule.Lists.{EachMember}
 use Rattle.hwp_fault.specs.hwp_core_task.Calls.{IsOnTurn}
 use Rattle.hwp_fault.specs.hwp_core_task.Hands.{hand_of, empty}
 use Rattle.hwp_fault.specs.hwp_core_task.Known.{HasMadeNoneBeside, deeds}
 use Rattle.hwp_fault.specs.declared.AccessKind.TheVariants as kinds
 use Rattle.hwp_fault.specs.declared.Request.{Request}
 use Rattle.hwp_fault.specs.Accesses as accesses
+use Rattle.hwp_cpu_check.specs.Checks.{Check, left_by, lines_of}
 use Rattle.hwp_cpu_check.specs.hwp_banks.Banks.{Banks}
 use Rattle.hwp_cpu_check.specs.hwp_banks.Events.{bank_count}
+use Rattle.hwp_cpu_check.specs.hwp_banks.declared.Origin.{Origin}
 use Rattle.hwp_cpu_check.specs.hwp_banks.declared.Origin.TheVariants as origins
 use Rattle.hwp_fault.specs.hwp_geom.declared.Mode.TheVariants as modes
 use Rattle.hwp_cpu_access.specs.declared.instruction.InstructionAnswer.{InstructionAnswer}
 use Rattle.hwp_cpu_access.specs.declared.instruction.InstructionAnswer.TheVariants as answers
+use Rattle.hwp_fork.specs.Cows.{sub_of}
+use Rattle.hwp_cpu_access.specs.declared.instruction.InstructionAt.TheVariants as instruction_at
+use Rattle.hwp_cpu_access.specs.Checks.{AreChecks}
+use Rattle.hwp_cpu_access.specs.Done as instruction_done
 use Rattle.hwp_cpu_access.specs.Fits as instruction_fits
-use Rattle.hwp_cpu_access.specs.Fits.{FitsBehind, checks_in}
+use Rattle.hwp_cpu_access.specs.Fits.{FitsBehind, checks_in, checks_made}
 use Rattle.hwp_cpu_access.specs.Instructions as instructions
 use Rattle.hwp_cpu_access.proofs.InstructionLaws as instructing
 use Rattle.hwp_cpu_copy.specs.declared.copying.Copying.{Copying}
 use Rattle.hwp_cpu_copy.specs.declared.copying.CopyingAt.{CopyingAt}
 use Rattle.hwp_cpu_copy.specs.declared.copying.CopyingAt.TheVariants as at
-use Rattle.hwp_cpu_copy.specs.Copyings.{answer, answer_at, begin, load_of, plan, plan_at}
-use Rattle.hwp_cpu_copy.specs.Fits.{FitsAt, FitsFrom, HasCopied, IsEnd, is_well}
-use Rattle.hwp_cpu_copy.specs.Runs.{Run, checks_by, made_by, words_of}
+use Rattle.hwp_cpu_copy.specs.Copyings.{answer, answer_at, begin, load_of, plan, plan_at, request_by}
+use Rattle.hwp_cpu_copy.specs.Done.{marked_at, owed_at, owed_now}
+use Rattle.hwp_cpu_copy.specs.Fits.{FitsAt, FitsFrom, HasCopied, HasRun, IsEnd, IsOver, is_well}
+use Rattle.hwp_cpu_copy.specs.Runs.{IsBetween, Run, checks_by, made_by, words_of}
 use Rattle.hwp_cpu_copy.proofs.CopiedWords.{copied-words, last_stored}
 use Rattle.hwp_cpu_copy.proofs.CowSteps.{told-of, told-of-all}
 use Rattle.hwp_cpu_copy.proofs.CopyLaws.{over-instruction}
@@ -84,6 +93,61 @@ ends {base} {layout} {view} c {x} fits is = which c.at refl fits.at is
         record { hand_is = end.hand_is; paid = end.paid; over = ap (plan_at c.instruction) own ∙ ap instructions.plan_at over }
     which (at.Free e stored) own has none = absurd (none-some x none)
     which (at.Over a) own has e = record { hand_is = has.hand_is; paid = has.paid; over = ap (plan_at c.instruction) own }
+
+-- of its marks all are told in its lines, and it owes no count
+pub all-told : (c : Copying) {x : InstructionAnswer} → answer c ≡ Some x → (marked_at c.instruction c.at ≡ []) × (owed_now c ≡ 0)
+all-told c {x} is = which c.at is
+  where
+    which : (y : CopyingAt) → answer_at c.instruction y ≡ Some x → (marked_at c.instruction y ≡ []) × (owed_at c.instruction y ≡ 0)
+    which at.Access e = let over = over-instruction c.instruction e in (ap instruction_done.marked_at over, ap instruction_done.owed_at over)
+    which (at.Free e stored) none = absurd (none-some x none)
+    which (at.Over a) e = (refl, refl)
+
+-- An access answered it, behind those of the runs, which went well: the entries that the command made by it before its last pause, its
+-- machine checks, which the lines tell behind those of the runs, and why it answers so
+pub record EndsByAccess (base : List Made) (layout : Layout) (view : View) (c : Copying) (runs : List Run) (x : InstructionAnswer) : Type 0 where
+  pub since : List Made
+  pub such : EachMember (IsBetween c.instruction.request) since
+  pub request_is : request_by c.store c.page (sub_of c.cow) ≡ Some c.instruction.request
+  pub unwell : is_well (Some x) ≡ false
+  pub checks : List Check
+  pub checked : AreChecks layout view c.instruction.request origins.Access modes.User (left_by c.instruction.before.value (checks_by runs)) checks
+  pub told_is : c.instruction.lines.told ≡ lines_of (checks_by runs ++ checks)
+  pub banks_are : c.instruction.banks ≡ left_by c.instruction.before.value (checks_by runs ++ checks)
+  pub made : checks_made c.instruction.request.who view ≡ length (checks_by runs ++ checks)
+  pub ended : instruction_fits.IsEnd (base ++ (made_by runs ++ since)) layout view c.instruction.request c.instruction.lines.told x
+
+-- how a copy came to its answer: by accesses that went well, and then by one that didn't, or by the freeing
+pub record HasEnded (base : List Made) (layout : Layout) (view : View) (c : Copying) (x : InstructionAnswer) : Type 0 where
+  pub runs : List Run
+  pub has : HasRun layout view c runs
+  pub ended : EndsByAccess base layout view c runs x ⊎ IsOver base view c runs x
+
+pub has-ended : {base : List Made} {layout : Layout} {view : View} (c : Copying) {x : InstructionAnswer} → FitsFrom base layout view c → answer c ≡ Some x → HasEnded base layout view c x
+has-ended {base} {layout} {view} c {x} fits is = record { runs = fits.runs; has = fits.has; ended = which c.at fits.at is }
+  where
+    which : (y : CopyingAt) → FitsAt base layout view c fits.runs y → answer_at c.instruction y ≡ Some x → EndsByAccess base layout view c fits.runs x ⊎ IsOver base view c fits.runs x
+    which at.Access has e = inl (record {
+      since = has.since;
+      such = has.such;
+      request_is = has.request_is;
+      unwell = ap is_well (sym e) ∙ has.unwell;
+      checks = has.instruction.checks;
+      checked = subst (λ (m : Mode). AreChecks layout view c.instruction.request origins.Access m (left_by c.instruction.before.value (checks_by fits.runs)) has.instruction.checks) fits.has.user
+          (subst (λ (o : Origin). AreChecks layout view c.instruction.request o c.instruction.mode (left_by c.instruction.before.value (checks_by fits.runs)) has.instruction.checks) fits.has.origin has.instruction.checked);
+      told_is = has.instruction.told_is;
+      banks_are = has.instruction.banks_are ∙ ap (instruction_fits.banks_at c.instruction.before.value (checks_by fits.runs ++ has.instruction.checks)) over;
+      made = end.made;
+      ended = end.ended;
+    })
+      where
+        over : c.instruction.at ≡ instruction_at.Over (Some x)
+        over = over-instruction c.instruction e
+
+        end : instruction_fits.IsAnswered (base ++ (made_by fits.runs ++ has.since)) layout view c.instruction (checks_by fits.runs ++ has.instruction.checks) x
+        end = subst (instruction_fits.FitsAt (base ++ (made_by fits.runs ++ has.since)) layout view c.instruction (checks_by fits.runs ++ has.instruction.checks)) over has.instruction.at
+    which (at.Free e stored) has none = absurd (none-some x none)
+    which (at.Over a) has e = inr (subst (IsOver base view c fits.runs) (same_Some a x e) has)
 
 -- a copy that is answered `stored` made, beside the entries before it, those of its accesses; and of its stores on a line the last one is of
 -- the word that was asked for, where it was asked for on that line, and else of the word that the load of the line read

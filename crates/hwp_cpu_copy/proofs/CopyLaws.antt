@@ -50,7 +50,7 @@ use Rattle.hwp_cpu_copy.specs.declared.copying.Copying.{Copying}
 use Rattle.hwp_cpu_copy.specs.declared.copying.CopyingAt.{CopyingAt}
 use Rattle.hwp_cpu_copy.specs.declared.copying.CopyingAt.TheVariants as at
 use Rattle.hwp_cpu_copy.specs.Copyings.{Follows, FollowsAt, Shows, ShowsAt, after_access, after_free_by, bare, bare_at, going_on, plan, plan_at, put, put_at, request_by}
-use Rattle.hwp_cpu_copy.specs.Fits.{FitsAt, FitsFrom, HasRun, HasTold, IsAccessing, IsFreeing, IsGoing, IsLastPlace, begun, is_given_up, is_well, task as copy-task}
+use Rattle.hwp_cpu_copy.specs.Fits.{FitsAt, FitsFrom, HasRun, HasTold, IsAccessing, IsFreeing, IsGoing, IsLastPlace, begun, is_well, task as copy-task}
 use Rattle.hwp_cpu_copy.specs.Runs.{AreRuns, IsBetween, IsFreeRun, IsRun, Run, checks_by, made_by, words_of}
 use Rattle.hwp_cpu_copy.proofs.AskedSame.{Asked, asked, asked-same}
 use Rattle.hwp_cpu_copy.proofs.CowSteps.{request-who}
@@ -186,12 +186,9 @@ module _ (base : List Made) (layout : Layout) (view : View) (c : Copying) (runs 
 -- ---- the freeing went on, or has its answer
 
 module _ (base : List Made) (layout : Layout) (view : View) (c : Copying) (runs : List Run) (on : IsOnTurn view c.store.who) (unchecked : checks_in base ≡ 0) (has : HasRun layout view c runs) (stored : At) (e : Evict) (fits : evicts.FitsFrom (base ++ made_by runs) layout view e)
-    (evict_is : e ≡ record (evicts.begin c.store.who c.page (evictions.Free c.cow.v)) { at = e.at }) (sub_is : sub_of c.cow ≡ subs.Free c.cow.v) (paid : is_given_up e.at ≡ false → view.owed.losses ≡ []) (told : HasTold c runs) (going : IsGoing view c.store) (last : IsLastPlace runs stored) where
+    (evict_is : e ≡ record (evicts.begin c.store.who c.page (evictions.Free c.cow.v)) { at = e.at }) (sub_is : sub_of c.cow ≡ subs.Free c.cow.v) (paid : view.owed.losses ≡ []) (told : HasTold c runs) (going : IsGoing view c.store) (last : IsLastPlace runs stored) where
   caused : {x : EvictAnswer} → evicts.answer e ≡ Some x → (hand_of view ≡ empty) × IsCaused (base ++ made_by runs) layout view c.store.who c.page (evictions.Free c.cow.v) x
   caused {x} is = subst (λ (y : Evict). (hand_of view ≡ empty) × IsCaused (base ++ made_by runs) layout view y.who y.page y.what x) evict_is (subst (evicts.FitsAt (base ++ made_by runs) layout view e.who e.page e.what) (over-evict e is) fits.at)
-
-  paid-now : {x : EvictAnswer} → evicts.answer e ≡ Some x → view.owed.losses ≡ []
-  paid-now is = paid (ap is_given_up (over-evict e is))
 
   -- the same of the copy in another state
   told-in : (x : CopyingAt) → HasTold (record c { at = x }) runs
@@ -262,17 +259,17 @@ module _ (base : List Made) (layout : Layout) (view : View) (c : Copying) (runs 
     has = runs-with c c.instruction (at.Over answers.Stopped) runs has refl;
     at = record {
       hand_is = end.0;
-      paid = paid-now is;
+      paid = paid;
       told = told-in (at.Over answers.Stopped);
       going = going;
       ended = record { sub_is = sub_is; all = end.1.0; saw = end.1.1 };
     };
   }
   frees-fits (Some (evict_answers.Done place)) is = let end = caused is in
-      freed-fits (end.1.1.last ∷ []) place end.0 (paid-now is) (end.1.1.all ∙ ap (λ (l : List Made). (base ++ made_by runs) ++ (l ++ end.1.1.last ∷ [])) (none-before end.1.1.before end.1.1.such))
+      freed-fits (end.1.1.last ∷ []) place end.0 paid (end.1.1.all ∙ ap (λ (l : List Made). (base ++ made_by runs) ++ (l ++ end.1.1.last ∷ [])) (none-before end.1.1.before end.1.1.such))
       (record { made_is = inr (end.1.1.last, refl, end.1.1.at.0, end.1.1.at.2); unchecked = refl })
   frees-fits (Some (evict_answers.Refused refusal place)) is = let end = caused is in
-      freed-fits [] place end.0 (paid-now is) (end.1.0 ∙ sym (append-nil (base ++ made_by runs))) (record { made_is = inl refl; unchecked = refl })
+      freed-fits [] place end.0 paid (end.1.0 ∙ sym (append-nil (base ++ made_by runs))) (record { made_is = inl refl; unchecked = refl })
 
 -- ---- each step
 
@@ -306,14 +303,6 @@ own-after layout c found got after turn follows = which c.at follows
     which (at.Free e stored) next = ap (λ (k : Copying). k.store) next.next_is ∙ store-freed (bare_at c (at.Free e stored)) next.evict stored (evicts.answer next.evict)
     which (at.Over answer) next = ap (λ (k : Copying). k.store) next.0
 
--- a freeing that gives up has given up
-given-up-before : (e f : Evict) (found : ℕ) (got : Option BodyValue) (turn : Turn) → evicts.Follows (evicts.bare e) found got f turn → is_given_up f.at ≡ false → is_given_up e.at ≡ false
-given-up-before e f found got turn follows goes = which e.at follows.1
-  where
-    which : (x : EvictAt) → evicts.FollowsAt e.who e.page e.what (evicts.bare_at x) found got f.at turn → is_given_up x ≡ false
-    which (evict_at.GiveUp g) next = absurd (both_ways (is_given_up f.at) goes (ap is_given_up next.0))
-    which _ next = refl
-
 module _ {base : List Made} (layout : Layout) (old new : View) (c : Copying) (step : Step) (found : ℕ) (got : Option BodyValue) (fits : FitsFrom base layout old c) where
   abbrev Then : CopyingAt → Type 0
   Then x = ShowsAt (bare_at c x).instruction (bare_at c x).at found got × ((after : Copying) (turn : Turn) → FollowsAt layout (bare_at c x) (bare_at c x).at found got after turn → FitsFrom base layout new after)
@@ -341,7 +330,7 @@ module _ {base : List Made} (layout : Layout) (old new : View) (c : Copying) (st
     λ after turn next. subst (FitsFrom base layout new) (sym next.next_is)
         (frees-fits base layout new (record c { at = at.Free (evicts.bare e) stored }) fits.runs (on-turn-after fits.on_turn made) fits.unchecked (runs-with c c.instruction (at.Free (evicts.bare e) stored) fits.runs (runs-kept c fits.runs fits.has made) refl) stored next.evict
         (moved.1 next.evict turn next.follows).0 (next.follows.0 ∙ ap (λ (x : Evict). record x { at = next.evict.at }) has.evict_is) has.sub_is
-        (λ goes. let on = given-up-before e next.evict found got turn next.follows goes in evict-owes e has.evict is own on ∙ has.paid on)
+        (evict-owes e has.evict is own ∙ has.paid)
         (record { told_is = has.told.told_is; banks_are = has.told.banks_are; lets = has.told.lets }) (saw-stays made has.going) has.last (evicts.answer next.evict) refl),
   )
     where

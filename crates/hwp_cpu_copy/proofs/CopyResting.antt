@@ -41,7 +41,7 @@ use Rattle.hwp_cpu_copy.proofs.CowSteps.{request-who}
 use Rattle.hwp_cpu_copy.proofs.RunLaws.{checks-append}
 
 -- where it pauses, its access does
-at-pause : (c : Copying) {p : Pause} → pause c ≡ Some p → (c.at ≡ at.Access) × (instructions.pause c.instruction ≡ Some p)
+pub at-pause : (c : Copying) {p : Pause} → pause c ≡ Some p → (c.at ≡ at.Access) × (instructions.pause c.instruction ≡ Some p)
 at-pause c {p} = which c.at refl
   where
     which : (x : CopyingAt) → c.at ≡ x → pause_at c.instruction x ≡ Some p → (c.at ≡ at.Access) × (instructions.pause c.instruction ≡ Some p)

@@ -1,4 +1,5 @@
 pub mod AskedSame
+pub mod FreeHomes
 pub mod FreeOwes
 pub mod FreeLists
 pub mod RunLaws
@@ -8,6 +9,7 @@ pub mod CopyLaws
 pub mod CopyRank
 pub mod CopyResting
 pub mod CopyAdds
+pub mod CopyLists
 pub mod CopiedWords
 pub mod CopyEnds
 pub use Rattle.hwp_fork.proofs as of_hwp_fork

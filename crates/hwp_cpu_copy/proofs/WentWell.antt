@@ -274,7 +274,7 @@ module _ (base : List Made) (layout : Layout) (view : View) (c : Copying) (runs 
       evict_is = refl;
       sub_is = is;
       unanswered = refl;
-      paid = λ free. paid;
+      paid = paid;
       told = record { told_is = told-is; banks_are = banks-are; lets = lets };
       going = going;
       last = (runs, run, refl, refl);

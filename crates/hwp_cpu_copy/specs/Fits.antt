@@ -19,8 +19,6 @@ use Rattle.hwp_cpu_check.specs.Checks.{left_by, lines_of}
 use Rattle.hwp_cpu_check.specs.hwp_banks.Events.{bank_count}
 use Rattle.hwp_cpu_check.specs.hwp_banks.declared.Origin.TheVariants as origins
 use Rattle.hwp_evict.specs.declared.evict.Evict.{Evict}
-use Rattle.hwp_evict.specs.declared.evict.EvictAt.{EvictAt}
-use Rattle.hwp_evict.specs.declared.evict.EvictAt.TheVariants as evict_at
 use Rattle.hwp_evict.specs.declared.evict.Eviction.TheVariants as evictions
 use Rattle.hwp_evict.specs.Evicts as evicts
 use Rattle.hwp_fork.specs.declared.cow.Cow.{Cow}
@@ -84,18 +82,13 @@ pub record IsAccessing (base : List Made) (layout : Layout) (view : View) (c : C
   pub request_is : request_by c.store c.page (cows.sub_of c.cow) ≡ Some c.instruction.request
   pub unwell : is_well (instructions.answer c.instruction) ≡ false
 
--- memory ran out in the freeing: the command is never answered
-abbrev pub is_given_up : EvictAt → Bool
-is_given_up (evict_at.GiveUp g) = true
-is_given_up _ = false
-
 -- all lines are copied, the store is made, and the translation is freed
 pub record IsFreeing (base : List Made) (layout : Layout) (view : View) (c : Copying) (runs : List Run) (e : Evict) (stored : At) : Type 0 where
   pub evict : evicts.FitsFrom (base ++ made_by runs) layout view e
   pub evict_is : e ≡ record (evicts.begin c.store.who c.page (evictions.Free c.cow.v)) { at = e.at }
   pub sub_is : cows.sub_of c.cow ≡ subs.Free c.cow.v
   pub unanswered : evicts.answer e ≡ None
-  pub paid : is_given_up e.at ≡ false → view.owed.losses ≡ []
+  pub paid : view.owed.losses ≡ []
   pub told : HasTold c runs
   pub going : IsGoing view c.store
   pub last : IsLastPlace runs stored

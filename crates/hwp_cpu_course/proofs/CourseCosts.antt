@@ -19,7 +19,7 @@ use Rattle.hwp_cpu_row.specs.hwp_core_task.declared.Turn.TheVariants as turns
 use Rattle.hwp_cpu_row.specs.hwp_core_task.Boards.{view_of}
 use Rattle.hwp_cpu_row.specs.hwp_core_task.Calls.{Steps, logs, rec_of}
 use Rattle.hwp_cpu_row.specs.hwp_core_task.Ranks.{CostFalls, HasFailed, IsRanked, Made, OtherHand, PaysRevival, Pending, Quiet, command_weight, failure_weight, failures_left, free_room, is_refused, is_waits, words_at}
-use Rattle.hwp_cpu_row.proofs.of_hwp_core_task.StepRanks.{steps-on}
+use Rattle.hwp_cpu_row.proofs.of_hwp_core_task.StepRanks.{failures-kept, steps-on}
 use Rattle.hwp_cpu_row.specs.hwp_cpu_check.declared.EventOutcome.{EventOutcome}
 use Rattle.hwp_cpu_row.specs.declared.Watching.{Watching}
 use Rattle.hwp_cpu_row.specs.Acts.{told_notes}
@@ -37,6 +37,11 @@ use Rattle.hwp_cpu_command_laws.specs.hwp_cpu_command.hwp_cpu_access.Costs as in
 use Rattle.hwp_cpu_command_laws.specs.hwp_cpu_command.hwp_cpu_access.Costs.{anew_after_wait}
 use Rattle.hwp_cpu_command_laws.specs.hwp_cpu_command.hwp_cpu_access.Instructions as instructions
 use Rattle.hwp_cpu_command_laws.proofs.of_hwp_cpu_command.of_hwp_cpu_access.InstructionCosts.{few-frees}
+use Rattle.hwp_cpu_command_laws.specs.hwp_cpu_command.hwp_cpu_copy.declared.Copying.{Copying}
+use Rattle.hwp_cpu_command_laws.specs.hwp_cpu_command.hwp_cpu_copy.declared.copying.CopyingAt.{CopyingAt}
+use Rattle.hwp_cpu_command_laws.specs.hwp_cpu_command.hwp_cpu_copy.declared.copying.CopyingAt.TheVariants as copying_at
+use Rattle.hwp_cpu_command_laws.specs.hwp_cpu_command.hwp_cpu_copy.Copyings as copyings
+use Rattle.hwp_cpu_command_laws.specs.hwp_cpu_command.hwp_cpu_copy.Costs as copying_costs
 use Rattle.hwp_cpu_command_laws.specs.hwp_cpu_command.hwp_soft.declared.Soft.{Soft}
 use Rattle.hwp_cpu_command_laws.specs.hwp_cpu_command.hwp_soft.declared.SoftAnswer.{SoftAnswer}
 use Rattle.hwp_cpu_command_laws.specs.hwp_cpu_command.hwp_soft.Softs as softs
@@ -44,11 +49,13 @@ use Rattle.hwp_cpu_command_laws.proofs.of_hwp_cpu_command.of_hwp_soft.SoftRank.{
 use Rattle.hwp_cpu_command_laws.specs.hwp_cpu_command.Answers.{soft_answer}
 use Rattle.hwp_cpu_course.specs.declared.course.Course.{Course}
 use Rattle.hwp_cpu_course.specs.Dues.{DueValue, HasCollected, next_due}
-use Rattle.hwp_cpu_course.specs.Courses.{AfterCollectingBy, AfterOwn, AfterOwnBy, AfterOwnIf, AfterRestBy, AfterSoft, Fits, FitsOf, FitsOwn, HasPassed, IsGoing, NextOf, RestsNow, answer, answer_of, bare_of, cost, cost_of, due_room, flat, gives_up, going_on, has_more, own_cost, part_of, passed, rests, soft_weight, task as course-task, turn_on, with_result}
+use Rattle.hwp_cpu_course.specs.Courses.{AfterCollectingBy, AfterOwn, AfterOwnBy, AfterOwnIf, AfterRestBy, AfterSoft, Fits, FitsOf, FitsOwn, HasPassed, IsGoing, NextOf, RestsNow, answer, answer_of, bare_of, behind_cost, cost, cost_behind, cost_of, due_room, flat, gives_up, going_on, has_more, own_cost, part_of, passed, rests, soft_weight, task as course-task, turn_on, with_result}
+use Rattle.hwp_cpu_command_laws.proofs.of_hwp_cpu_command.of_hwp_cpu_copy.CopyResting.{at-pause as copy-at-pause}
+use Rattle.hwp_cpu_course.proofs.CopyRests.{few-behind}
 use Rattle.hwp_cpu_course.proofs.CourseLaws.{abandoned-stays, over-stays, told-some}
 use Rattle.hwp_cpu_course.proofs.DueLaws.{notes-few}
 use Rattle.hwp_cpu_course.proofs.PauseOwns.{pause-owns}
-use Rattle.hwp_cpu_course.proofs.RestCosts.{GoesOnFrom, IsIdle, IsOver, flat-stays, given-up-class, given-up-cost, gives-over, goes-from, next-cost, over-cost, own-is, own-most, paused-idle, pays-flat, pays-for}
+use Rattle.hwp_cpu_course.proofs.RestCosts.{GoesOnFrom, IsIdle, IsOver, flat-stays, given-up-class, given-up-cost, gives-lasting, gives-over, goes-from, next-cost, over-cost, own-is, own-most, paused-idle, pays-flat, pays-for}
 use Rattle.hwp_cpu_course.proofs.RestLaws.{at-rest, given-up-none, some-of}
 use Rattle.hwp_cpu_course.proofs.ToldSince.{most, since-few}
 
@@ -87,18 +94,28 @@ module _ {layout : Layout} {seat : ℕ} {a b : State} (c : Course) (fits : Fits 
     abbrev now : RestsNow layout new k
     now = (at-rest own.fits.0 layout new k fit rest).now
 
-    paused-or : (cond (jobs.pauses k) (anew_after_wait + 3) 0 ≤ jobs.cost k w + 3) × (jobs.pauses k ≡ false → is_some (jobs.answer k) ≡ true)
+    paused-or : (behind_cost 3 k ≤ jobs.cost k w + 3) × (jobs.pauses k ≡ false → is_some (jobs.answer k) ≡ true)
     paused-or = by k rest
       where
-        by : (j : Job) → rests j ≡ true → (cond (jobs.pauses j) (anew_after_wait + 3) 0 ≤ jobs.cost j w + 3) × (jobs.pauses j ≡ false → is_some (jobs.answer j) ≡ true)
+        by : (j : Job) → rests j ≡ true → (behind_cost 3 j ≤ jobs.cost j w + 3) × (jobs.pauses j ≡ false → is_some (jobs.answer j) ≡ true)
         by (kinds.Instruction i) is =
             let some = some-of (instructions.pause i) is in
             let costs : instruction_costs.cost i w ≡ instruction_costs.paused_cost = ap (λ (x : InstructionAt). instruction_costs.cost_at i.banks x w) (at-pause i.at some.1) in
             let paused : cond (is_some (instructions.pause i)) (anew_after_wait + 3) 0 ≡ anew_after_wait + 3 = ap (λ (b : Bool). cond b (anew_after_wait + 3) 0) is in
             (omega (arith, costs, paused), λ off. absurd (both_ways true (sym is ∙ off) refl))
+        by (kinds.Copying c) is =
+            let some = some-of (copyings.pause c) is in
+            let there = copy-at-pause c some.1 in
+            let costs : copying_costs.cost c w ≡ failure_weight * copying_costs.behind c.cow.at + instruction_costs.paused_cost =
+            ap (λ (x : CopyingAt). failure_weight * copying_costs.behind c.cow.at + copying_costs.cost_at c.instruction x w) there.0
+            ∙ ap (λ (x : InstructionAt). failure_weight * copying_costs.behind c.cow.at + instruction_costs.cost_at c.instruction.banks x w) (at-pause c.instruction.at there.1) in
+            let paused : cond (is_some (copyings.pause c)) (failure_weight * copying_costs.behind c.cow.at + anew_after_wait + 3) 0 ≡ failure_weight * copying_costs.behind c.cow.at + anew_after_wait + 3
+            = ap (λ (b : Bool). cond b (failure_weight * copying_costs.behind c.cow.at + anew_after_wait + 3) 0) is in
+            (omega (arith, costs, paused), λ off. absurd (both_ways true (sym is ∙ off) refl))
         by (kinds.Evict x) is = (omega arith, λ off. is)
         by (kinds.Fsync x) is = (omega arith, λ off. is)
         by (kinds.Prctl x) is = (omega arith, λ off. is)
+        by (kinds.Fork x) is = (omega arith, λ off. is)
         by (kinds.Log x) is = (omega arith, λ off. is)
         by (kinds.Raise x) is = (omega arith, λ off. is)
         by (kinds.Scrub x) is = (omega arith, λ off. is)
@@ -120,15 +137,15 @@ module _ {layout : Layout} {seat : ℕ} {a b : State} (c : Course) (fits : Fits 
         let same = at.own_is in
         record {
           paid = subst (λ (j : Job). own_cost (jobs.resume j) (jobs.plan (jobs.resume j)) w ≤ jobs.cost k w + flat k + 3) (sym at.own_is) (let low = from.cost in let pause = paused-or.0 in omega (arith, low, pause));
-          ended = λ off. subst (λ (j : Job). own_cost (jobs.resume j) (jobs.plan (jobs.resume j)) w ≤ flat k + 2) (sym at.own_is) (let low = from.cost in let none : cond (jobs.pauses k) (anew_after_wait + 3) 0 ≡ 0 = ap (λ (b : Bool). cond b (anew_after_wait + 3) 0) off in omega (arith, low, none));
+          ended = λ off. subst (λ (j : Job). own_cost (jobs.resume j) (jobs.plan (jobs.resume j)) w ≤ flat k + 2) (sym at.own_is) (let low = from.cost in let none : behind_cost 3 k ≡ 0 = ap (λ (b : Bool). cond b (cost_behind k + 3) 0) off in omega (arith, low, none));
           idle = subst (λ (j : Job). IsIdle (jobs.resume j)) (sym at.own_is) from.idle;
         }
     going-cost x at (Some frame) is = record {
       paid = which (jobs.pauses k) refl;
       ended = λ off.
           let flat-pays : soft_weight * most k ≤ flat k = pays-flat k rest told off in
-          let all : cost (going_on x (Some frame)) w + 4 ≤ soft_weight * (length x.due.frames - length x.due.offlined) + cond (jobs.pauses x.own) (anew_after_wait + 4) 0 = most-cost in
-          let none : cond (jobs.pauses x.own) (anew_after_wait + 4) 0 ≡ 0 = ap (λ (j : Job). cond (jobs.pauses j) (anew_after_wait + 4) 0) at.own_is ∙ ap (λ (b : Bool). cond b (anew_after_wait + 4) 0) off in
+          let all : cost (going_on x (Some frame)) w + 4 ≤ soft_weight * (length x.due.frames - length x.due.offlined) + behind_cost 4 x.own = most-cost in
+          let none : behind_cost 4 x.own ≡ 0 = ap (behind_cost 4) at.own_is ∙ ap (λ (b : Bool). cond b (cost_behind k + 4) 0) off in
           let due : length x.due.frames - length x.due.offlined ≤ most k = at.due in
           omega (arith, flat-pays, all, none, due);
       idle = inr (omega arith);
@@ -140,20 +157,19 @@ module _ {layout : Layout} {seat : ℕ} {a b : State} (c : Course) (fits : Fits 
         told : jobs.told_of k ≢ []
         told = at.told (λ none. let less = within in absurd (omega (arith, less, none)))
 
-        most-cost : cost (going_on x (Some frame)) w + 4 ≤ soft_weight * (length x.due.frames - length x.due.offlined) + cond (jobs.pauses x.own) (anew_after_wait + 4) 0
+        most-cost : cost (going_on x (Some frame)) w + 4 ≤ soft_weight * (length x.due.frames - length x.due.offlined) + behind_cost 4 x.own
         most-cost = next-cost layout b x frame own.kept is
 
         which : (p : Bool) → jobs.pauses k ≡ p → cost (going_on x (Some frame)) w ≤ jobs.cost k w + flat k + 3
         which p off =
-            let pays : soft_weight * most k + cond (jobs.pauses k) anew_after_wait 0 ≤ jobs.cost k w + flat k = pays-for k w rest told in
-            let pays-by : cond (jobs.pauses k) anew_after_wait 0 ≡ cond p anew_after_wait 0 = ap (λ (b : Bool). cond b anew_after_wait 0) off in
-            let all : cost (going_on x (Some frame)) w + 4 ≤ soft_weight * (length x.due.frames - length x.due.offlined) + cond (jobs.pauses x.own) (anew_after_wait + 4) 0 = most-cost in
-            let here : cond (jobs.pauses x.own) (anew_after_wait + 4) 0 ≡ cond p (anew_after_wait + 4) 0 = ap (λ (j : Job). cond (jobs.pauses j) (anew_after_wait + 4) 0) at.own_is ∙ ap (λ (b : Bool). cond b (anew_after_wait + 4) 0) off in
+            let pays : soft_weight * most k + behind_cost 0 k ≤ jobs.cost k w + flat k = pays-for k w rest told in
+            let all : cost (going_on x (Some frame)) w + 4 ≤ soft_weight * (length x.due.frames - length x.due.offlined) + behind_cost 4 x.own = most-cost in
+            let here : behind_cost 4 x.own ≡ behind_cost 4 k = ap (behind_cost 4) at.own_is in
             let due : length x.due.frames - length x.due.offlined ≤ most k = at.due in
-            let four : cond p (anew_after_wait + 4) 0 ≤ cond p anew_after_wait 0 + 4 = by-four p in
-            omega (arith, pays, pays-by, all, here, due, four)
+            let four : behind_cost 4 k ≤ behind_cost 0 k + 4 = by-four (jobs.pauses k) in
+            omega (arith, pays, all, here, due, four)
           where
-            by-four : (q : Bool) → cond q (anew_after_wait + 4) 0 ≤ cond q anew_after_wait 0 + 4
+            by-four : (q : Bool) → cond q (cost_behind k + 4) 0 ≤ cond q (cost_behind k + 0) 0 + 4
             by-four true = omega arith
             by-four false = omega arith
 
@@ -321,8 +337,8 @@ module _ {layout : Layout} {seat : ℕ} {a b : State} {c d : Course} {turn : Tur
     before goes = own-is c.own made.step wa x.planned goes
 
     -- one that gives up is over now
-    over : gives_up c.own ≡ true → (IsOver c.own k wa) × (cost_of c None wa ≡ 2)
-    over gives = (gives-over layout c.own k made.found made.got t wa x.follows.2 gives, ap (λ (o : Option Step). own_cost c.own o wa) x.planned ∙ ap (λ (g : Bool). cond g 2 (jobs.cost c.own wa + flat c.own + 3)) gives)
+    over : gives_up c.own ≡ true → (IsOver k) × (cost_of c None wa ≡ 2)
+    over gives = (gives-over layout c.own k made.found made.got t x.follows.2 gives, ap (λ (o : Option Step). own_cost c.own o wa) x.planned ∙ ap (λ (g : Bool). cond g 2 (jobs.cost c.own wa + flat c.own + 3)) gives)
 
     over-less : gives_up c.own ≡ true → (cost d wb ≡ 0) × (cost_of c None wa ≡ 2)
     over-less gives = (by own-ways, (over gives).1)
@@ -401,12 +417,13 @@ module _ {layout : Layout} {seat : ℕ} {a b : State} {c d : Course} {turn : Tur
     pays-own : (failures_left wb ≤ failures_left wa) ⊎ (cost d wb + failure_weight * failures_left wb < cost_of c None wa + failure_weight * failures_left wa)
     pays-own = elim (jobbing.pays layout seat a b c.own k t (own-made x)) [
       | inl stay ↦ inl stay
-      | inr paid ↦ inr (which (gives_up c.own) refl paid)
+      | inr paid ↦ which (gives_up c.own) refl paid
     ]
       where
-        which : (g : Bool) → gives_up c.own ≡ g → jobs.cost k wb + failure_weight * failures_left wb < jobs.cost c.own wa + failure_weight * failures_left wa → cost d wb + failure_weight * failures_left wb < cost_of c None wa + failure_weight * failures_left wa
-        which true gives paid = let less = over-less gives in let none = less.0 in let two = less.1 in let one = (over gives).0.one in omega (arith, none, two, one, paid)
-        which false goes paid = let is = before goes in let same = flat-is in let most = most-of own-ways in omega (arith, is, same, most, paid)
+        which : (g : Bool) → gives_up c.own ≡ g → jobs.cost k wb + failure_weight * failures_left wb < jobs.cost c.own wa + failure_weight * failures_left wa
+            → (failures_left wb ≤ failures_left wa) ⊎ (cost d wb + failure_weight * failures_left wb < cost_of c None wa + failure_weight * failures_left wa)
+        which true gives paid = inl (failures-kept (own-made x) (gives-lasting c.own (own-made x).step gives (own-made x).planned))
+        which false goes paid = inr (let is = before goes in let same = flat-is in let most = most-of own-ways in omega (arith, is, same, most, paid))
 
   -- ---- of a frame that is taken out of use
 
@@ -418,7 +435,7 @@ module _ {layout : Layout} {seat : ℕ} {a b : State} {c d : Course} {turn : Tur
     u = x.follows.1
 
     abbrev rest-weight : ℕ
-    rest-weight = cond (jobs.pauses c.own) (anew_after_wait + 4) 0
+    rest-weight = behind_cost 4 c.own
 
     within : length c.due.offlined < length c.due.frames
     within = slice_get_within c.due.frames (length c.due.offlined) s.frame x.at.next
@@ -441,22 +458,22 @@ module _ {layout : Layout} {seat : ℕ} {a b : State} {c d : Course} {turn : Tur
     ends-low : (r : SoftAnswer) → softs.answer m ≡ Some r → (y : Course) → y ≡ with_result (record (bare_of c (Some s)) { beside = Some m }) m.frame r → (o : Option Frame) → next_due y.due ≡ o
         → (cost (going_on y o) wb ≤ soft_weight * (length c.due.frames - (length c.due.offlined + 1)) + rest-weight) × IsIdle (part_of (going_on y o).beside (going_on y o).own)
     ends-low r said y is (Some frame) next = (
-      let all : cost (going_on y (Some frame)) wb + 4 ≤ soft_weight * (length y.due.frames - length y.due.offlined) + cond (jobs.pauses y.own) (anew_after_wait + 4) 0 = next-cost layout b y frame made.kept next in
+      let all : cost (going_on y (Some frame)) wb + 4 ≤ soft_weight * (length y.due.frames - length y.due.offlined) + behind_cost 4 y.own = next-cost layout b y frame made.kept next in
           let more : length y.due.offlined ≡ length c.due.offlined + 1 = ap (λ (z : Course). length z.due.offlined) is ∙ length-append c.due.offlined (_ ∷ []) in
           let frames : length y.due.frames ≡ length c.due.frames = ap (λ (z : Course). length z.due.frames) is in
-          let own : cond (jobs.pauses y.own) (anew_after_wait + 4) 0 ≡ rest-weight = ap (λ (z : Course). cond (jobs.pauses z.own) (anew_after_wait + 4) 0) is in
+          let own : behind_cost 4 y.own ≡ rest-weight = ap (λ (z : Course). behind_cost 4 z.own) is in
           omega (arith, all, more, frames, own),
       inr (omega arith),
     )
     ends-low r said y is None next = (
       let from-low = from.cost in
           let own : own_cost (jobs.resume y.own) (jobs.plan (jobs.resume y.own)) wb ≡ own_cost (jobs.resume c.own) (jobs.plan (jobs.resume c.own)) wb = ap (λ (z : Course). own_cost (jobs.resume z.own) (jobs.plan (jobs.resume z.own)) wb) is in
-          let four : cond (jobs.pauses c.own) (anew_after_wait + 3) 0 ≤ rest-weight = by-four (jobs.pauses c.own) in
+          let four : behind_cost 3 c.own ≤ rest-weight = by-four (jobs.pauses c.own) in
           omega (arith, from-low, own, four),
       subst (λ (z : Course). IsIdle (jobs.resume z.own)) (sym is) from.idle,
     )
       where
-        by-four : (q : Bool) → cond q (anew_after_wait + 3) 0 ≤ cond q (anew_after_wait + 4) 0
+        by-four : (q : Bool) → cond q (cost_behind c.own + 3) 0 ≤ cond q (cost_behind c.own + 4) 0
         by-four true = omega arith
         by-four false = omega arith
 
@@ -580,9 +597,11 @@ course-below layout a view c rule fits = which c.beside fits.at
     flat-most (kinds.Raise x) = omega arith
     flat-most (kinds.Scrub x) = omega arith
     flat-most (kinds.Instruction x) = omega arith
+    flat-most (kinds.Copying x) = omega arith
     flat-most (kinds.Evict x) = omega arith
     flat-most (kinds.Fsync x) = omega arith
     flat-most (kinds.Prctl x) = omega arith
+    flat-most (kinds.Fork x) = omega arith
     flat-most (kinds.Log x) = omega arith
     flat-most (kinds.Spoil x) = omega arith
     flat-most (kinds.Nested x) = omega arith
@@ -593,7 +612,7 @@ course-below layout a view c rule fits = which c.beside fits.at
     own : (o : Option Answer) → jobs.answer c.own ≡ o → FitsOwn layout view c o → own_cost c.own (jobs.plan c.own) w < command_weight
     own None said going =
         let all : own_cost c.own (jobs.plan c.own) w ≤ jobs.cost c.own w + flat c.own + 3 = own-most c.own (jobs.plan c.own) w in
-        let few : jobs.cost c.own w < 4 * failure_weight = job-few layout a view c.own rule going.fits in
+        let few : jobs.cost c.own w < 131 * failure_weight = job-few layout a view c.own rule going.fits in
         let most : flat c.own ≤ soft_weight * due_room = flat-most c.own in
         omega (arith, all, few, most)
     own (Some r) said done = let none : own_cost c.own (jobs.plan c.own) w ≡ 0 = over-cost c.own w (answered-over c.own said) in omega (arith, none)
@@ -603,10 +622,27 @@ course-below layout a view c rule fits = which c.beside fits.at
     which (Some s) at =
         let few : softs.cost s w ≤ softs.soft_most = soft-small layout a s rule in
         let due : length c.due.frames ≤ length c.due.offlined + due_room = fits.few in
-        let rest : cond (jobs.pauses c.own) (anew_after_wait + 4) 0 ≤ anew_after_wait + 4 = by (jobs.pauses c.own) in
-        omega (arith, few, due, rest)
+        let behind : cost_behind c.own ≤ failure_weight * 129 + anew_after_wait = most-behind c.own in
+        let rest : behind_cost 4 c.own ≤ cost_behind c.own + 4 = by (jobs.pauses c.own) in
+        omega (arith, few, due, behind, rest)
       where
-        by : (q : Bool) → cond q (anew_after_wait + 4) 0 ≤ anew_after_wait + 4
+        most-behind : (j : Job) → cost_behind j ≤ failure_weight * 129 + anew_after_wait
+        most-behind (kinds.Instruction i) = omega arith
+        most-behind (kinds.Copying y) = let few : copying_costs.behind y.cow.at ≤ 129 = few-behind y.cow.at in omega (arith, few)
+        most-behind (kinds.Evict x) = omega arith
+        most-behind (kinds.Fsync x) = omega arith
+        most-behind (kinds.Prctl x) = omega arith
+        most-behind (kinds.Fork x) = omega arith
+        most-behind (kinds.Log x) = omega arith
+        most-behind (kinds.Raise x) = omega arith
+        most-behind (kinds.Scrub x) = omega arith
+        most-behind (kinds.Spoil x) = omega arith
+        most-behind (kinds.Nested x) = omega arith
+        most-behind (kinds.Inject x) = omega arith
+        most-behind (kinds.Soft x) = omega arith
+        most-behind (kinds.Unpoison x) = omega arith
+
+        by : (q : Bool) → cond q (cost_behind c.own + 4) 0 ≤ cost_behind c.own + 4
         by true = omega arith
         by false = omega arith
 

@@ -35,6 +35,11 @@ use Rattle.hwp_cpu_command_laws.specs.hwp_cpu_command.hwp_cpu_access.declared.in
 use Rattle.hwp_cpu_command_laws.specs.hwp_cpu_command.hwp_cpu_access.Fits.{checks_made}
 use Rattle.hwp_cpu_command_laws.specs.hwp_cpu_command.hwp_cpu_access.Instructions as instructions
 use Rattle.hwp_cpu_command_laws.proofs.of_hwp_cpu_command.of_hwp_cpu_access.Resting.{resting-stays}
+use Rattle.hwp_cpu_command_laws.specs.hwp_cpu_command.hwp_cpu_copy.declared.Copying.{Copying}
+use Rattle.hwp_cpu_command_laws.specs.hwp_cpu_command.hwp_cpu_copy.declared.copying.CopyingAt.{CopyingAt}
+use Rattle.hwp_cpu_command_laws.specs.hwp_cpu_command.hwp_cpu_copy.declared.copying.CopyingAt.TheVariants as copying_at
+use Rattle.hwp_cpu_command_laws.specs.hwp_cpu_command.hwp_cpu_copy.Copyings as copyings
+use Rattle.hwp_cpu_command_laws.proofs.of_hwp_cpu_command.of_hwp_cpu_copy.CopyResting as copy-resting
 use Rattle.hwp_cpu_command_laws.specs.hwp_cpu_command.hwp_soft.declared.Soft.{Soft}
 use Rattle.hwp_cpu_command_laws.specs.hwp_cpu_command.hwp_soft.declared.SoftAnswer.{SoftAnswer}
 use Rattle.hwp_cpu_command_laws.specs.hwp_cpu_command.hwp_soft.declared.soft.SoftAt.{SoftAt}
@@ -49,7 +54,7 @@ use Rattle.hwp_cpu_course.specs.Courses.{gives_up, AfterCollectingBy, AfterOwn, 
 use Rattle.hwp_cpu_course.proofs.DueLaws.{ForPages, due-for-pages, for-pages-within, notes-few, pages-both}
 use Rattle.hwp_cpu_course.proofs.PartBegins.{soft-begins}
 use Rattle.hwp_cpu_course.proofs.RestLaws.{AtRest, OrPaid, at-rest, behind, given-up-none, gives-up-fits, own-on}
-use Rattle.hwp_cpu_course.proofs.SoftMade.{HasLeft, checks-same, soft-left, soft-pays}
+use Rattle.hwp_cpu_course.proofs.SoftMade.{HasLeft, checks-same, soft-grows, soft-left, soft-pays}
 use Rattle.hwp_cpu_course.proofs.ToldSince.{most, since-few}
 
 -- ---- its step can be made
@@ -73,9 +78,20 @@ resume-told (kinds.Instruction i) = which (instructions.pause i)
     which : (o : Option Pause) → (instructions.resume_by i o).lines.told ≡ i.lines.told
     which None = refl
     which (Some p) = refl
+resume-told (kinds.Copying c) = by c.at
+  where
+    which : (o : Option Pause) → (instructions.resume_by c.instruction o).lines.told ≡ c.instruction.lines.told
+    which None = refl
+    which (Some p) = refl
+
+    by : (x : CopyingAt) → (copyings.resume_at c x).instruction.lines.told ≡ c.instruction.lines.told
+    by copying_at.Access = which (instructions.pause c.instruction)
+    by (copying_at.Free e stored) = refl
+    by (copying_at.Over answer) = refl
 resume-told (kinds.Evict x) = refl
 resume-told (kinds.Fsync x) = refl
 resume-told (kinds.Prctl x) = refl
+resume-told (kinds.Fork x) = refl
 resume-told (kinds.Log x) = refl
 resume-told (kinds.Raise x) = refl
 resume-told (kinds.Scrub x) = refl
@@ -91,9 +107,16 @@ resume-who (kinds.Instruction i) = which (instructions.pause i)
     which : (o : Option Pause) → (instructions.resume_by i o).request.who ≡ i.request.who
     which None = refl
     which (Some p) = refl
+resume-who (kinds.Copying c) = by c.at
+  where
+    by : (x : CopyingAt) → (copyings.resume_at c x).store.who ≡ c.store.who
+    by copying_at.Access = refl
+    by (copying_at.Free e stored) = refl
+    by (copying_at.Over answer) = refl
 resume-who (kinds.Evict x) = refl
 resume-who (kinds.Fsync x) = refl
 resume-who (kinds.Prctl x) = refl
+resume-who (kinds.Fork x) = refl
 resume-who (kinds.Log x) = refl
 resume-who (kinds.Raise x) = refl
 resume-who (kinds.Scrub x) = refl
@@ -105,11 +128,13 @@ resume-who (kinds.Unpoison x) = refl
 
 give-up-who : (j : Job) → jobs.who (jobs.give_up j) ≡ jobs.who j
 give-up-who (kinds.Instruction i) = refl
+give-up-who (kinds.Copying x) = refl
 give-up-who (kinds.Raise x) = refl
 give-up-who (kinds.Scrub x) = refl
 give-up-who (kinds.Evict x) = refl
 give-up-who (kinds.Fsync x) = refl
 give-up-who (kinds.Prctl x) = refl
+give-up-who (kinds.Fork x) = refl
 give-up-who (kinds.Log x) = refl
 give-up-who (kinds.Spoil x) = refl
 give-up-who (kinds.Nested x) = refl
@@ -192,9 +217,11 @@ and-parts false b is = absurd (both_ways true (sym is) refl)
 -- what an access passes over, it still collects
 passes-on : (layout : Layout) (j k : Job) (found : ℕ) (got : Option BodyValue) (turn : Turn) (noted : ℕ) → jobs.Next layout (jobs.bare j) found got k turn → HasPassed j noted → HasPassed k (passed k noted)
 passes-on layout (kinds.Instruction i) k found got turn noted next has = subst (λ (x : Job). HasPassed x (passed x noted)) (sym next.1) (sym (ap collects_now next.1) ∙ (goes-on layout found got turn (kinds.Instruction i) k next).collects ∙ has.0, λ goes. refl)
+passes-on layout (kinds.Copying c) k found got turn noted next has = subst (λ (x : Job). HasPassed x (passed x noted)) (sym next.1) (sym (ap collects_now next.1) ∙ (goes-on layout found got turn (kinds.Copying c) k next).collects ∙ has.0, λ goes. refl)
 passes-on layout (kinds.Evict x) k found got turn noted next has = subst (λ (y : Job). HasPassed y (passed y noted)) (sym next.1) tt
 passes-on layout (kinds.Fsync x) k found got turn noted next has = subst (λ (y : Job). HasPassed y (passed y noted)) (sym next.0) tt
 passes-on layout (kinds.Prctl x) k found got turn noted next has = subst (λ (y : Job). HasPassed y (passed y noted)) (sym next.0) tt
+passes-on layout (kinds.Fork x) k found got turn noted next has = subst (λ (y : Job). HasPassed y (passed y noted)) (sym next.0) tt
 passes-on layout (kinds.Log x) k found got turn noted next has = subst (λ (y : Job). HasPassed y (passed y noted)) (sym next.0) tt
 passes-on layout (kinds.Raise x) k found got turn noted next has = subst (λ (y : Job). HasPassed y (passed y noted)) (sym next.1) tt
 passes-on layout (kinds.Scrub x) k found got turn noted next has = subst (λ (y : Job). HasPassed y (passed y noted)) (sym next.1) tt
@@ -206,9 +233,11 @@ passes-on layout (kinds.Unpoison x) k found got turn noted next has = subst (λ 
 
 passed-within : (k : Job) (noted : ℕ) → noted ≤ length (jobs.told_of k) → passed k noted ≤ length (jobs.told_of k)
 passed-within (kinds.Instruction i) noted has = omega arith
+passed-within (kinds.Copying c) noted has = omega arith
 passed-within (kinds.Evict x) noted has = has
 passed-within (kinds.Fsync x) noted has = has
 passed-within (kinds.Prctl x) noted has = has
+passed-within (kinds.Fork x) noted has = has
 passed-within (kinds.Log x) noted has = has
 passed-within (kinds.Raise x) noted has = has
 passed-within (kinds.Scrub x) noted has = has
@@ -222,9 +251,12 @@ passed-within (kinds.Unpoison x) noted has = has
 given-passed : (layout : Layout) (j k : Job) (found : ℕ) (got : Option BodyValue) (turn : Turn) (noted : ℕ) → jobs.Next layout (jobs.bare j) found got k turn → HasPassed j noted → HasPassed (jobs.give_up k) noted
 given-passed layout (kinds.Instruction i) k found got turn noted next has =
     subst (λ (x : Job). HasPassed (jobs.give_up x) noted) (sym next.1) (sym (ap collects_now next.1) ∙ (goes-on layout found got turn (kinds.Instruction i) k next).collects ∙ has.0, λ goes. absurd (both_ways true goes refl))
+given-passed layout (kinds.Copying c) k found got turn noted next has =
+    subst (λ (x : Job). HasPassed (jobs.give_up x) noted) (sym next.1) (sym (ap collects_now next.1) ∙ (goes-on layout found got turn (kinds.Copying c) k next).collects ∙ has.0, λ goes. absurd (both_ways true goes refl))
 given-passed layout (kinds.Evict x) k found got turn noted next has = subst (λ (y : Job). HasPassed (jobs.give_up y) noted) (sym next.1) tt
 given-passed layout (kinds.Fsync x) k found got turn noted next has = subst (λ (y : Job). HasPassed (jobs.give_up y) noted) (sym next.0) tt
 given-passed layout (kinds.Prctl x) k found got turn noted next has = subst (λ (y : Job). HasPassed (jobs.give_up y) noted) (sym next.0) tt
+given-passed layout (kinds.Fork x) k found got turn noted next has = subst (λ (y : Job). HasPassed (jobs.give_up y) noted) (sym next.0) tt
 given-passed layout (kinds.Log x) k found got turn noted next has = subst (λ (y : Job). HasPassed (jobs.give_up y) noted) (sym next.0) tt
 given-passed layout (kinds.Raise x) k found got turn noted next has = subst (λ (y : Job). HasPassed (jobs.give_up y) noted) (sym next.1) tt
 given-passed layout (kinds.Scrub x) k found got turn noted next has = subst (λ (y : Job). HasPassed (jobs.give_up y) noted) (sym next.1) tt
@@ -363,9 +395,11 @@ module _ {layout : Layout} {old new : View} (c : Course) (fits : Fits layout old
 
         most-room : (j : Job) → most j ≤ due_room
         most-room (kinds.Instruction i) = omega arith
+        most-room (kinds.Copying x) = omega arith
         most-room (kinds.Evict x) = omega arith
         most-room (kinds.Fsync x) = omega arith
         most-room (kinds.Prctl x) = omega arith
+        most-room (kinds.Fork x) = omega arith
         most-room (kinds.Log x) = omega arith
         most-room (kinds.Raise x) = omega arith
         most-room (kinds.Scrub x) = omega arith
@@ -495,6 +529,9 @@ module _ {layout : Layout} {old new : View} (c : Course) (fits : Fits layout old
 
         paused : (j : Job) → jobs.who j ≡ jobs.who c.own → IsAtPause layout old j → IsAtPause layout new j
         paused (kinds.Instruction i) same (p, rest) = (p, resting-stays i p rest (subst (λ (w : Who). Steps layout w step (logs (softs.put s)) old new found got) (sym same) made) (subst (λ (w : Who). checks_made w new ≡ checks_made w old) (at.own ∙ sym same) (checks-same before after)))
+        paused (kinds.Copying y) same (p, base, rest) =
+            let more = soft-grows before after of-soft in
+            (p, base, copy-resting.resting-stays y p rest (subst (λ (w : Who). Steps layout w step (logs (softs.put s)) old new found got) (sym same) made) more.0 (subst (λ (w : Who). deeds w new ≡ deeds w old ++ more.0) (at.own ∙ sym same) more.1) more.2)
         paused _ same none = absurd none
 
         still : RestsNow layout old c.own → RestsNow layout new c.own

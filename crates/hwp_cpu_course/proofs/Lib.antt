@@ -1,6 +1,7 @@
 pub mod Collecting
 pub mod DueLaws
 pub mod SoftMade
+pub mod CopyRests
 pub mod PartBegins
 pub mod RestLaws
 pub mod ToldSince

@@ -16,9 +16,11 @@ use Rattle.hwp_cpu_command_laws.specs.hwp_cpu_command.hwp_soft.Softs as softs
 -- a part that fits is that of the turn
 pub on-turn : (base : List Made) (layout : Layout) (view : View) (j : Job) → jobs.FitsFrom base layout view j → IsOnTurn view (jobs.who j)
 on-turn base layout view (kinds.Instruction i) fits = fits.on_turn
+on-turn base layout view (kinds.Copying c) fits = fits.on_turn
 on-turn base layout view (kinds.Evict e) fits = fits.on_turn
 on-turn base layout view (kinds.Fsync f) fits = fits.1.on_turn
 on-turn base layout view (kinds.Prctl p) fits = fits.1.on_turn
+on-turn base layout view (kinds.Fork p) fits = fits.1.on_turn
 on-turn base layout view (kinds.Log l) fits = fits.1.read.on_turn
 on-turn base layout view (kinds.Raise r) fits = fits.1.on_turn
 on-turn base layout view (kinds.Scrub s) fits = fits.1.on_turn

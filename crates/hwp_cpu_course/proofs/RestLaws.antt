@@ -23,6 +23,14 @@ use Rattle.hwp_cpu_command_laws.specs.hwp_cpu_command.hwp_cpu_access.declared.in
 use Rattle.hwp_cpu_command_laws.specs.hwp_cpu_command.hwp_cpu_access.Fits as instruction_fits
 use Rattle.hwp_cpu_command_laws.specs.hwp_cpu_command.hwp_cpu_access.Instructions as instructions
 use Rattle.hwp_cpu_command_laws.proofs.of_hwp_cpu_command.of_hwp_cpu_access.Resting.{resumes, rests as pauses-rest}
+use Rattle.hwp_cpu_command_laws.specs.hwp_cpu_command.hwp_cpu_copy.declared.Copying.{Copying}
+use Rattle.hwp_cpu_command_laws.specs.hwp_cpu_command.hwp_cpu_copy.declared.copying.CopyingAt.{CopyingAt}
+use Rattle.hwp_cpu_command_laws.specs.hwp_cpu_command.hwp_cpu_copy.declared.copying.CopyingAt.TheVariants as copying_at
+use Rattle.hwp_cpu_command_laws.specs.hwp_cpu_command.hwp_cpu_copy.Copyings as copyings
+use Rattle.hwp_cpu_command_laws.specs.hwp_cpu_command.hwp_cpu_copy.Fits as copying_fits
+use Rattle.hwp_cpu_command_laws.proofs.of_hwp_cpu_command.of_hwp_cpu_access.InstructionLaws.{paused}
+use Rattle.hwp_cpu_command_laws.proofs.of_hwp_cpu_command.of_hwp_cpu_copy.CopyEnds as copy-ends
+use Rattle.hwp_cpu_command_laws.proofs.of_hwp_cpu_command.of_hwp_cpu_copy.CopyResting as copy-resting
 use Rattle.hwp_cpu_command_laws.specs.hwp_cpu_command.hwp_cpu_raise.Raises as raises
 use Rattle.hwp_cpu_command_laws.specs.hwp_cpu_command.hwp_scrub.declared.Scrub.{Scrub}
 use Rattle.hwp_cpu_command_laws.specs.hwp_cpu_command.hwp_scrub.declared.ScrubAnswer.{ScrubAnswer}
@@ -31,6 +39,8 @@ use Rattle.hwp_cpu_command_laws.specs.hwp_cpu_command.hwp_scrub.Fits as scrub_fi
 use Rattle.hwp_cpu_command_laws.specs.hwp_cpu_command.hwp_scrub.Scrubs as scrubs
 use Rattle.hwp_cpu_course.specs.declared.course.Course.{Course}
 use Rattle.hwp_cpu_course.specs.Courses.{FitsOwn, HasPassed, RestsNow, gives_up, rests}
+use Rattle.hwp_cpu_command_laws.proofs.of_hwp_cpu_command.of_hwp_cpu_copy.CopyResting.{at-pause as copy-at-pause}
+use Rattle.hwp_cpu_course.proofs.CopyRests.{copy-behind}
 use Rattle.hwp_cpu_course.proofs.PartBegins.{on-turn}
 
 -- ---- where it rests
@@ -61,6 +71,7 @@ idle-end base layout view j fits said = by (jobs.claims j) refl
 
 told-end : (base : List Made) (layout : Layout) (view : View) (j : Job) {a : Answer} → jobs.FitsFrom base layout view j → jobs.answer j ≡ Some a → jobs.told_of j ≢ [] → view.owed.losses ≡ []
 told-end base layout view (kinds.Instruction i) fits said told = (instruction-ended i fits (mapped _ (instructions.answer i) said).1).paid
+told-end base layout view (kinds.Copying c) fits said told = (copy-ends.ends c fits (mapped _ (copyings.answer c) said).1).paid
 told-end base layout view (kinds.Raise r) fits said told = (raise-ended r fits.1 (mapped _ (raises.answer r) said).1).0.paid
 told-end base layout view (kinds.Scrub s) fits said told = let own = mapped _ (scrubs.answer s) said in scrub-paid layout view s own.0 (scrub-ended s fits.1 own.1)
 told-end base layout view _ fits said told = absurd (told refl)
@@ -80,6 +91,19 @@ paused-rest base layout view i p fits is = record { on_turn = fits.on_turn; hand
     has : instruction_fits.IsPaused base layout view i fits.checks p
     has = subst (instruction_fits.FitsAt base layout view i fits.checks) (at-pause i.at is) fits.at
 
+copy-rest : (base : List Made) (layout : Layout) (view : View) (c : Copying) (p : Pause) → copying_fits.FitsFrom base layout view c → copyings.pause c ≡ Some p → AtRest layout view (kinds.Copying c)
+copy-rest base layout view c p fits is = record { on_turn = fits.on_turn; hand_is = (paused c.instruction p access.instruction own.1).hand_is; now = inr ((p, base, copy-resting.rests c p fits is), paid); paid = inl paid; told_paid = λ told. paid }
+  where
+    own : (c.at ≡ copying_at.Access) × (instructions.pause c.instruction ≡ Some p)
+    own = copy-at-pause c is
+
+    access : copying_fits.IsAccessing base layout view c fits.runs
+    access = subst (copying_fits.FitsAt base layout view c fits.runs) own.0 fits.at
+
+    paid : view.owed.losses ≡ []
+    paid = (paused c.instruction p access.instruction own.1).paid
+
+
 pub some-of : {A : Type 0} (o : Option A) → is_some o ≡ true → (x : A) × (o ≡ Some x)
 some-of None is = absurd (both_ways true (sym is) refl)
 some-of (Some x) is = (x, refl)
@@ -89,9 +113,11 @@ other-rest base layout view j fits is = let some = some-of (jobs.answer j) is in
 
 pub at-rest : (base : List Made) (layout : Layout) (view : View) (j : Job) → jobs.FitsFrom base layout view j → rests j ≡ true → AtRest layout view j
 at-rest base layout view (kinds.Instruction i) fits is = let some = some-of (instructions.pause i) is in paused-rest base layout view i some.0 fits some.1
+at-rest base layout view (kinds.Copying c) fits is = let some = some-of (copyings.pause c) is in copy-rest base layout view c some.0 fits some.1
 at-rest base layout view (kinds.Evict x) fits is = other-rest base layout view (kinds.Evict x) fits is
 at-rest base layout view (kinds.Fsync x) fits is = other-rest base layout view (kinds.Fsync x) fits is
 at-rest base layout view (kinds.Prctl x) fits is = other-rest base layout view (kinds.Prctl x) fits is
+at-rest base layout view (kinds.Fork x) fits is = other-rest base layout view (kinds.Fork x) fits is
 at-rest base layout view (kinds.Log x) fits is = other-rest base layout view (kinds.Log x) fits is
 at-rest base layout view (kinds.Raise x) fits is = other-rest base layout view (kinds.Raise x) fits is
 at-rest base layout view (kinds.Scrub x) fits is = other-rest base layout view (kinds.Scrub x) fits is
@@ -128,6 +154,15 @@ module _ (layout : Layout) (view : View) (c : Course) (none_due : length c.due.f
 
       is : instructions.resume i ≡ k
       is = ap (λ (x : InstructionAt). instructions.resume_by i (instructions.pause_at x)) rest.at_is
+  behind (kinds.Copying y) on hand paid noted (inr ((p, base, rest), none)) =
+      subst (λ (k : Copying). FitsOwn layout view (record c { own = kinds.Copying k }) (jobs.answer (kinds.Copying k))) (sym is)
+      (own-on base (kinds.Copying k) (subst (copying_fits.FitsFrom base layout view) is (copy-resting.resumes y p rest on hand none)) (λ on_. (rest.rests.collects, λ goes. noted)))
+    where
+      k : Copying
+      k = record y { instruction = record y.instruction { at = instructions.resumed y.instruction.request p }; at = copying_at.Access }
+
+      is : copyings.resume y ≡ k
+      is = copy-behind y p rest.at_is rest.rests.at_is
   behind _ on hand paid noted (inr none) = absurd none.0
 
 -- ---- memory runs out where it rests
@@ -146,6 +181,7 @@ gives-up-fits base layout view (kinds.Instruction i) fits hand is told = record 
   banks_are = fits.banks_are ∙ ap (instruction_fits.banks_at i.before.value fits.checks) (at-pause i.at (some-of (instructions.pause i) is).1);
   at = hand;
 }
+gives-up-fits base layout view (kinds.Copying c) fits hand is told = let some = some-of (copyings.pause c) is in copy-resting.gives-up c some.0 fits some.1
 gives-up-fits base layout view (kinds.Raise r) fits hand is told = (fits.0, record { on_turn = fits.1.on_turn; sound = fits.1.sound; raiser = fits.1.raiser; three = fits.1.three; at = hand })
 gives-up-fits base layout view (kinds.Scrub s) fits hand is told = (fits.0, record { on_turn = fits.1.on_turn; sound = fits.1.sound; frames = fits.1.frames; banks = fits.1.banks; at = hand })
 gives-up-fits base layout view _ fits hand is told = absurd (told refl)
@@ -153,6 +189,7 @@ gives-up-fits base layout view _ fits hand is told = absurd (told refl)
 -- and then has no answer
 pub given-up-none : (j : Job) → jobs.told_of j ≢ [] → (jobs.answer (jobs.give_up j) ≡ None) × (gives_up (jobs.give_up j) ≡ true) × (jobs.told_of (jobs.give_up j) ≡ jobs.told_of j)
 given-up-none (kinds.Instruction i) told = (refl, refl, refl)
+given-up-none (kinds.Copying c) told = (refl, refl, refl)
 given-up-none (kinds.Raise r) told = (refl, refl, refl)
 given-up-none (kinds.Scrub s) told = (refl, refl, refl)
 given-up-none _ told = absurd (told refl)

@@ -35,6 +35,7 @@ use Rattle.hwp_cpu_row.proofs.of_hwp_core_task.MadeEntries.{Lists, PutsNone, fra
 use Rattle.hwp_cpu_row.proofs.of_hwp_core_task.OwedLosses.{frame-owes, losses-same, page-owes}
 use Rattle.hwp_cpu_row.proofs.of_hwp_core_task.StepLeaves.{content_of}
 use Rattle.hwp_cpu_command_laws.specs.hwp_cpu_command.hwp_cpu_access.Fits.{checks_in, checks_made}
+use Rattle.hwp_cpu_command_laws.proofs.of_hwp_cpu_command.of_hwp_cpu_access.CommandGrows.{More, made-more}
 use Rattle.hwp_cpu_command_laws.specs.hwp_cpu_command.hwp_law_commands.Commands.{is_check}
 use Rattle.hwp_cpu_command_laws.specs.hwp_cpu_command.hwp_soft_move.declared.relocate.Relocate.{Relocate}
 use Rattle.hwp_cpu_command_laws.specs.hwp_cpu_command.hwp_soft_move.declared.relocate.RelocateAt.{RelocateAt}
@@ -161,6 +162,23 @@ listed-left {base} {old} {new} {who} {stamp} {body} {log} before after lists = e
 
     grown : deeds who new ≡ deeds who old ++ more
     grown = ap (filter (is_by who)) lists.made_is ∙ filter-append (is_by who) old.made (made_from stamp log.page body.frame (length body.log.entries) (more_of body log))
+
+    same : after.more ≡ before.more ++ more
+    same = append_cancel_left base after.more (before.more ++ more) (sym after.all ∙ grown ∙ ap (λ (l : List Made). l ++ more) before.all ∙ append_assoc base before.more more)
+
+-- a step of the part adds such entries alone
+pub soft-grows : {base : List Made} {layout : Layout} {who : Who} {old new : View} {step : Step} {put : Option Log} {found : ℕ} {got : Option BodyValue} → HasLeft base old who → HasLeft base new who → Steps layout who step put old new found got
+    → (more : List Made) × (deeds who new ≡ deeds who old ++ more) × EachMember IsLeaving more
+soft-grows {base} {layout} {who} {old} {new} {step} before after made = (more, grown, each-behind before.more more (subst (EachMember IsLeaving) same after.leaving))
+  where
+    all : More old new
+    all = made-more step made
+
+    more : List Made
+    more = filter (is_by who) all.more
+
+    grown : deeds who new ≡ deeds who old ++ more
+    grown = ap (filter (is_by who)) all.made_is ∙ filter-append (is_by who) old.made all.more
 
     same : after.more ≡ before.more ++ more
     same = append_cancel_left base after.more (before.more ++ more) (sym after.all ∙ grown ∙ ap (λ (l : List Made). l ++ more) before.all ∙ append_assoc base before.more more)

@@ -3,12 +3,14 @@
 use Rattle.std.specs.Prelude.{◌≡◌, ◌⊎◌, ℕ, ◌+◌, ◌-◌, ◌*◌, ◌^◌, ◌<◌, ◌≤◌, ◌==◌, ◌&&◌, nat_lt, Bool, true, false, cond, List, [], Option, Some, None, drop, is_some, length}
 use Rattle.hwp_cpu_row.specs.hwp_geom.declared.Frame.{Frame}
 use Rattle.hwp_cpu_row.specs.hwp_geom.declared.Layout.{Layout}
+use Rattle.hwp_cpu_row.specs.hwp_geom.declared.VSlot.{VSlot}
 use Rattle.hwp_cpu_row.specs.hwp_geom.declared.Who.{Who}
 use Rattle.hwp_cpu_row.specs.hwp_script_lines.declared.Command.{Command}
 use Rattle.hwp_cpu_row.specs.hwp_report_text.declared.Answer.{Answer}
 use Rattle.hwp_cpu_row.specs.hwp_report_text.declared.OfflineResult.{OfflineResult}
 use Rattle.hwp_cpu_row.specs.hwp_report_text.declared.OfflineResult.TheVariants as results
 use Rattle.hwp_cpu_row.specs.hwp_page.History.{BodyValue}
+use Rattle.hwp_cpu_row.specs.hwp_core_rule.declared.Made.{Made}
 use Rattle.hwp_cpu_row.specs.hwp_core_rule.declared.Step.{Step}
 use Rattle.hwp_cpu_row.specs.hwp_core_rule.declared.View.{View}
 use Rattle.hwp_cpu_row.specs.hwp_core_rule.Lists.{EachMember}
@@ -17,7 +19,7 @@ use Rattle.hwp_cpu_row.specs.hwp_core_task.declared.Turn.{Turn}
 use Rattle.hwp_cpu_row.specs.hwp_core_task.declared.Turn.TheVariants as turns
 use Rattle.hwp_cpu_row.specs.hwp_core_task.Calls.{IsOnTurn}
 use Rattle.hwp_cpu_row.specs.hwp_core_task.Hands.{empty, hand_of}
-use Rattle.hwp_cpu_row.specs.hwp_core_task.Ranks.{stale_weight}
+use Rattle.hwp_cpu_row.specs.hwp_core_task.Ranks.{failure_weight, stale_weight}
 use Rattle.hwp_cpu_row.specs.hwp_core_task.Turns.{Member}
 use Rattle.hwp_cpu_row.specs.hwp_law_commands.Notes.{is_for_pages}
 use Rattle.hwp_cpu_row.specs.hwp_law_commands.hwp_cec.Ages.{CecEvent}
@@ -30,7 +32,7 @@ use Rattle.hwp_cpu_row.specs.declared.Watching.{Watching}
 use Rattle.hwp_cpu_row.specs.Locals.{collects}
 use Rattle.hwp_cpu_command_laws.specs.hwp_cpu_command.declared.Job.{Job}
 use Rattle.hwp_cpu_command_laws.specs.hwp_cpu_command.declared.job.Job.TheVariants as kinds
-use Rattle.hwp_cpu_command_laws.specs.hwp_cpu_command.Begins.{Begins}
+use Rattle.hwp_cpu_command_laws.specs.hwp_cpu_command.Begins.{BeginsWith}
 use Rattle.hwp_cpu_command_laws.specs.hwp_cpu_command.Done.{failed_now}
 use Rattle.hwp_cpu_command_laws.specs.hwp_cpu_command.FileHandles as handles
 use Rattle.hwp_cpu_command_laws.specs.hwp_cpu_command.Jobs as jobs
@@ -40,6 +42,11 @@ use Rattle.hwp_cpu_command_laws.specs.hwp_cpu_command.hwp_cpu_access.declared.in
 use Rattle.hwp_cpu_command_laws.specs.hwp_cpu_command.hwp_cpu_access.Costs.{anew_after_wait}
 use Rattle.hwp_cpu_command_laws.specs.hwp_cpu_command.hwp_cpu_access.Fits.{IsResting}
 use Rattle.hwp_cpu_command_laws.specs.hwp_cpu_command.hwp_cpu_access.Instructions as instructions
+use Rattle.hwp_cpu_command_laws.specs.hwp_cpu_command.hwp_cpu_copy.declared.copying.CopyingAt.{CopyingAt}
+use Rattle.hwp_cpu_command_laws.specs.hwp_cpu_command.hwp_cpu_copy.declared.copying.CopyingAt.TheVariants as copying_at
+use Rattle.hwp_cpu_command_laws.specs.hwp_cpu_command.hwp_cpu_copy.Copyings as copyings
+use Rattle.hwp_cpu_command_laws.specs.hwp_cpu_command.hwp_cpu_copy.Costs as copying_costs
+use Rattle.hwp_cpu_command_laws.specs.hwp_cpu_command.hwp_cpu_copy.Fits as copying_fits
 use Rattle.hwp_cpu_command_laws.specs.hwp_cpu_command.hwp_cpu_raise.declared.raise.RaiseAt.{RaiseAt}
 use Rattle.hwp_cpu_command_laws.specs.hwp_cpu_command.hwp_cpu_raise.declared.raise.RaiseAt.TheVariants as raise_at
 use Rattle.hwp_cpu_command_laws.specs.hwp_cpu_command.hwp_scrub.declared.scrub.ScrubAt.{ScrubAt}
@@ -60,9 +67,10 @@ use Rattle.hwp_cpu_course.specs.Dues.{DueValue, HasCollected, next_due, no_due, 
 abbrev pub begin : Job → Option Watching → ℕ → Course
 begin own watching frames = record { own = own; beside = None; watching = watching; noted = 0; due = no_due; frames = frames }
 
--- its own task begins as the command does, of a processor that carries this, and the collector is the processor's
-pub record BeginsCourse (layout : Layout) (who : Who) (command : Command) (local : Local) (c : Course) : Type 0 where
-  pub begins : Begins layout who command local.banks (collects local.watching) c.own
+-- its own task begins as the command does that copies from this translation, if any, of a processor that carries this, and the collector is
+-- the processor's
+pub record BeginsCourse (layout : Layout) (who : Who) (command : Command) (copies : Option VSlot) (local : Local) (c : Course) : Type 0 where
+  pub begins : BeginsWith layout who command copies local.banks (collects local.watching) c.own
   pub handle : handles.HasHandle local.handles c.own
   pub is : c ≡ begin c.own local.watching layout.frames
 
@@ -120,14 +128,16 @@ with_result c frame answer = record c { due = with_offlining c.due (offlining c.
 
 -- ---- a rest of its own task
 
--- an access at its pause, any other command with its answer
+-- an access and a copy at a pause, any other command with its answer
 abbrev pub rests : Job → Bool
 rests (kinds.Instruction i) = is_some (instructions.pause i)
+rests (kinds.Copying c) = is_some (copyings.pause c)
 rests j = is_some (jobs.answer j)
 
 -- what an access told without a pause notes nothing, and the collector passes it over
 abbrev pub passed : Job → ℕ → ℕ
 passed (kinds.Instruction i) noted = length i.lines.told
+passed (kinds.Copying c) noted = length c.instruction.lines.told
 passed j noted = noted
 
 -- the frame that comes next is taken out of use, or the command's own task goes on
@@ -238,8 +248,13 @@ abbrev pub gives_up_scrub : ScrubAt → Bool
 gives_up_scrub scrub_at.GiveUp = true
 gives_up_scrub _ = false
 
+abbrev pub gives_up_copy : InstructionAt → CopyingAt → Bool
+gives_up_copy x copying_at.Access = gives_up_access x
+gives_up_copy x _ = false
+
 abbrev pub gives_up : Job → Bool
 gives_up (kinds.Instruction i) = gives_up_access i.at
+gives_up (kinds.Copying c) = gives_up_copy c.instruction.at c.at
 gives_up (kinds.Raise r) = gives_up_raise r.at
 gives_up (kinds.Scrub s) = gives_up_scrub s.at
 gives_up _ = false
@@ -249,10 +264,19 @@ abbrev pub own_cost : Job → Option Step → Words → ℕ
 own_cost j None words = 0
 own_cost j (Some step) words = cond (gives_up j) 2 (jobs.cost j words + flat j + 3)
 
+-- behind a pause an access may begin anew, and in a copy the accesses behind it are still to come
+abbrev pub cost_behind : Job → ℕ
+cost_behind (kinds.Instruction i) = anew_after_wait
+cost_behind (kinds.Copying c) = failure_weight * copying_costs.behind c.cow.at + anew_after_wait
+cost_behind _ = 0
+
+abbrev pub behind_cost : ℕ → Job → ℕ
+behind_cost more j = cond (jobs.pauses j) (cost_behind j + more) 0
+
 -- each frame that comes next costs more than all its turns, and the one that is taken out of use its own; then its own task goes on
 abbrev pub cost_of : Course → Option Soft → Words → ℕ
 cost_of c None words = own_cost c.own (jobs.plan c.own) words
-cost_of c (Some soft) words = softs.cost soft words + soft_weight * (length c.due.frames - (length c.due.offlined + 1)) + cond (jobs.pauses c.own) (anew_after_wait + 4) 0 + 1
+cost_of c (Some soft) words = softs.cost soft words + soft_weight * (length c.due.frames - (length c.due.offlined + 1)) + behind_cost 4 c.own + 1
 
 abbrev pub cost : Course → Words → ℕ
 cost c words = cost_of c c.beside words
@@ -267,6 +291,7 @@ IsOfMachine layout (Some w) = (length w.collector.counts ≡ layout.frames) × (
 -- the collector has got or passed over all that an access told that goes on, if memory hasn't run out for that
 abbrev pub HasPassed : Job → ℕ → Type 0
 HasPassed (kinds.Instruction i) noted = (i.collects ≡ true) × (gives_up_access i.at ≡ false → noted ≡ length i.lines.told)
+HasPassed (kinds.Copying c) noted = (c.instruction.collects ≡ true) × (gives_up_copy c.instruction.at c.at ≡ false → noted ≡ length c.instruction.lines.told)
 HasPassed _ noted = Unit {0}
 
 -- its own task goes on, behind whatever entries the command made, and no frame is due
@@ -285,6 +310,7 @@ pub record IsDone (view : View) (c : Course) : Type 0 where
 -- its own task rests: it has its answer, or it pauses
 abbrev pub IsAtPause : Layout → View → Job → Type 0
 IsAtPause layout view (kinds.Instruction i) = (p : Pause) × IsResting layout view i p
+IsAtPause layout view (kinds.Copying c) = (p : Pause) × (base : List Made) × copying_fits.IsResting base layout view c p
 IsAtPause layout view _ = ⊥
 
 abbrev pub RestsNow : Layout → View → Job → Type 0

@@ -2,6 +2,7 @@ ghost use Rattle.std.specs.Prelude.{◌≡◌, ◌<◌, ◌≤◌, true, length,
 ghost use Rattle.hwp_cpu_row.specs.hwp_geom.Layout.{IsSound};
 ghost use Rattle.hwp_cpu_row.specs.hwp_script_read.Valid.{IsCommandOf};
 ghost use Rattle.hwp_cpu_row.specs.Locals.{collects};
+ghost use Rattle.hwp_cpu_command_laws.specs.hwp_cpu_command.Begins.{CanCopy};
 ghost use Rattle.hwp_cpu_command_laws.specs.hwp_cpu_command.FileHandles.{HasChangeWithin, StandsOn};
 ghost use Rattle.hwp_cpu_command_laws.specs.hwp_cpu_command.Jobs.{told_of};
 ghost use Rattle.hwp_cpu_course.specs.Courses.{AfterCollecting, AfterOwnBy, AfterRest, BeginsCourse, Covers, IsGoingOn, answer, local_after, local_left, offline_result, passed, rests, row_of, with_result};
@@ -10,7 +11,7 @@ use crate::due::DueFrames;
 use hwp_cpu_command_laws::{Job, offlined_by};
 use hwp_cpu_row::{
     Answer, Body, Command, Frame, Layout, Local, OfflineResult, Offlining, OutOfMemory, Ranked,
-    Row, Scheduled, Step, Task, Turn, Watching, Who,
+    Row, Scheduled, Step, Task, Turn, VSlot, Watching, Who,
 };
 use hwp_soft::{Soft, SoftAnswer};
 use std::alloc::Global;
@@ -35,20 +36,23 @@ pub struct Course {
 }
 
 impl Course {
-    /// The command at its beginning. It takes what its processor's banks hold, where it can add to that, and its collector.
+    /// The command at its beginning. It takes what its processor's banks hold, where it can add to that, and its collector. A store copies
+    /// the page of the translation `copies` first, where there is one.
     pub fn new(
         alloc: Global,
         layout: &Layout,
         who: Who,
         command: Command,
+        copies: Option<VSlot>,
         local: &mut Local,
     ) -> Course
         requires sound { IsSound layout.now }
         requires of { IsCommandOf layout.now who.cpu.0 command }
-        ensures begins { BeginsCourse layout.now who command local.old result }
+        requires copies { CanCopy layout.now who.cpu.0 command copies }
+        ensures begins { BeginsCourse layout.now who command copies local.old result }
         ensures local { local.new ≡ local_left result local.old }
     {
-        let own = Job::new(alloc, layout, who, command, local);
+        let own = Job::new(alloc, layout, who, command, copies, local);
         Course {
             own,
             beside: None,
@@ -66,14 +70,16 @@ impl Course {
         layout: &Layout,
         who: Who,
         command: Command,
+        copies: Option<VSlot>,
         local: &mut Local,
     )
         requires sound { IsSound layout.now }
         requires of { IsCommandOf layout.now who.cpu.0 command }
-        ensures begins { BeginsCourse layout.now who command local.old self.new }
+        requires copies { CanCopy layout.now who.cpu.0 command copies }
+        ensures begins { BeginsCourse layout.now who command copies local.old self.new }
         ensures local { local.new ≡ local_left self.new local.old }
     {
-        self.own.begin_next(alloc, layout, who, command, local);
+        self.own.begin_next(alloc, layout, who, command, copies, local);
         set(&mut self.beside, None);
         set(&mut self.watching, local.watching.take());
         self.noted = 0;
@@ -110,6 +116,7 @@ impl Course {
     {
         match &self.own {
             Job::Instruction(instruction) => instruction.pause().is_some(),
+            Job::Copying(copying) => copying.pause().is_some(),
             other => other.answer().is_some(),
         }
     }
@@ -118,8 +125,10 @@ impl Course {
     fn pass(&mut self)
         ensures { self.new ≡ record self.old { noted = passed self.old.own self.old.noted } }
     {
-        if let Job::Instruction(instruction) = &self.own {
-            self.noted = instruction.told().len();
+        match &self.own {
+            Job::Instruction(instruction) => self.noted = instruction.told().len(),
+            Job::Copying(copying) => self.noted = copying.told().len(),
+            _ => {}
         }
     }
 

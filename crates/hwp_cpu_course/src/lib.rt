@@ -10,5 +10,5 @@ pub use due::DueFrames;
 pub use hwp_cpu_command_laws::Job;
 pub use hwp_cpu_row::{
     Answer, Body, Command, Cpu, Layout, List, Local, OutOfMemory, Ranked, Row, Scheduled, Step,
-    Task, Turn, Who,
+    Task, Turn, VSlot, Who,
 };

@@ -1,4 +1,5 @@
 pub mod Acts
+pub mod CowLists
 pub mod Locals
 pub use Rattle.hwp_cpu_check.specs.hwp_banks as hwp_banks
 pub use Rattle.hwp_cpu_check.specs.hwp_law_commands.hwp_cec as hwp_cec

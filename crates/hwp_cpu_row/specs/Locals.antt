@@ -2,6 +2,7 @@
 use Rattle.std.specs.Prelude.{◌≡◌, ℕ, ◌<◌, ◌≤◌, Bool, true, false, List, ◌++◌, map, length, replicate, slice_get, unwrap_or, Option, Some, None}
 use Rattle.hwp_cpu_check.specs.hwp_geom.declared.FileNo.{FileNo}
 use Rattle.hwp_cpu_check.specs.hwp_geom.declared.Frame.{Frame}
+use Rattle.hwp_cpu_check.specs.hwp_geom.declared.Layout.{Layout}
 use Rattle.hwp_cpu_check.specs.hwp_banks.Banks.{empty_banks}
 use Rattle.hwp_cpu_check.specs.hwp_core_rule.Lists.{EachMember}
 use Rattle.hwp_cpu_check.specs.hwp_law_commands.hwp_cec.Ages.{CecEvent, Note}
@@ -9,6 +10,7 @@ use Rattle.hwp_cpu_check.specs.hwp_law_commands.hwp_cec.Counters.{Counters, Stan
 use Rattle.hwp_cpu_check.specs.hwp_law_commands.Watched.{Watched, offlining}
 use Rattle.hwp_cpu_row.specs.declared.local.Local.{Local}
 use Rattle.hwp_cpu_row.specs.declared.local.Watching.{Watching}
+use Rattle.hwp_cpu_row.specs.CowLists.{first_cows}
 
 -- a collector for so many frames that doesn't collect
 abbrev pub IsOff : ℕ → Watching → Type 0
@@ -20,11 +22,12 @@ HasRoom frames true (Some w) = IsOff frames w
 HasRoom frames false None = Unit {0}
 HasRoom frames _ _ = ⊥
 
--- at first: its banks are empty, the handle of each of so many files has the number 0, and nothing is collected
-pub record IsFirst (files : ℕ) (watches : Bool) (frames : ℕ) (l : Local) : Type 0 where
+-- at first: its banks are empty, the handle of each file has the number 0, nothing is collected, and no translation is frozen
+pub record IsFirst (layout : Layout) (watches : Bool) (l : Local) : Type 0 where
   pub banks : l.banks ≡ empty_banks
-  pub handles : l.handles ≡ replicate files 0
-  pub watching : HasRoom frames watches l.watching
+  pub handles : l.handles ≡ replicate layout.files 0
+  pub watching : HasRoom layout.frames watches l.watching
+  pub cows : l.cows ≡ first_cows layout
 
 -- the number of the file's handle
 abbrev pub number_in : List ℕ → FileNo → ℕ

@@ -1,7 +1,8 @@
 ghost use Rattle.std.specs.Prelude.{◌≡◌, replicate, slice_set, IfOk};
 ghost use Rattle.hwp_cpu_row.specs.Locals.{IsFirst, IsOff, number_in};
 
-use hwp_cpu_check::{BANKS, Bank, Collector, FileNo, OutOfMemory, no_events};
+use crate::cows::Cows;
+use hwp_cpu_check::{BANKS, Bank, Collector, FileNo, Layout, OutOfMemory, no_events};
 use std::alloc::Global;
 use std::marker::Model;
 
@@ -78,23 +79,26 @@ pub struct Local {
     pub handles: Handles,
     /// Its collector, where it has one and no command that runs has taken it.
     pub watching: Option<Watching>,
+    /// Which translations are frozen and switched.
+    pub cows: Cows,
 }
 
 impl Local {
-    /// Nothing is in the banks, and the handle of each of so many files has the number 0. If the processor watches, there is room for a
-    /// collector of so many frames, which doesn't collect yet.
-    pub fn new(alloc: Global, files: u8, watches: bool, frames: u16) -> Result<Local, OutOfMemory>
-        ensures { IfOk result (λ l. IsFirst files watches frames l) }
+    /// Nothing is in the banks, the handle of each file of the layout has the number 0, and no translation is frozen. If the processor
+    /// watches, there is room for a collector of the layout's frames, which doesn't collect yet.
+    pub fn new(alloc: Global, layout: &Layout, watches: bool) -> Result<Local, OutOfMemory>
+        ensures { IfOk result (λ l. IsFirst layout.now watches l) }
     {
         let watching = if watches {
-            Some(Watching::new(alloc, frames)?)
+            Some(Watching::new(alloc, layout.frames)?)
         } else {
             None
         };
         Ok(Local {
             banks: no_events(),
-            handles: Handles::new(alloc, files)?,
+            handles: Handles::new(alloc, layout.files)?,
             watching,
+            cows: Cows::new(alloc, layout)?,
         })
     }
 }

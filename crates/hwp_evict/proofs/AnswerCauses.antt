@@ -1,5 +1,5 @@
 -- Why a command answers so: it stays so, and it comes to be so when the body goes home.
-use Rattle.std.proofs.Common.{◌≡◌, ℕ, List, [], ◌∷◌, ◌++◌, Option, Some, None, length, refl, sym, ◌∙◌, subst}
+use Rattle.std.proofs.Common.{◌≡◌, ℕ, Bool, true, false, cond, List, [], ◌∷◌, ◌++◌, Option, Some, None, is_none, length, refl, sym, ◌∙◌, subst}
 use Rattle.std.proofs.lemmas.Option.{none-some, same_Some}
 use Rattle.hwp_core.specs.hwp_geom.declared.Frame.{Frame}
 use Rattle.hwp_core.specs.hwp_geom.declared.Layout.{Layout}
@@ -21,13 +21,21 @@ use Rattle.hwp_core.specs.hwp_core_task.Calls.{Steps, logs}
 use Rattle.hwp_core.specs.hwp_core_task.Known.{HasMadeBeside, IsAt, deeds}
 use Rattle.hwp_core.proofs.of_hwp_core_task.MadeEntries.{Lists, ListsNone, deeds-none, deeds-one, deeds-same, frame-lists, has-made-beside, has-made-stays, only-of-none, page-lists}
 use Rattle.hwp_core.proofs.of_hwp_core_task.SightKeeps.{saw-bad-of-stays, saw-stays, saw-state-stays}
+use Rattle.hwp_core.specs.declared.give_up.GiveUp.{GiveUp}
+use Rattle.hwp_core.specs.declared.give_up.GiveUpAt.{GiveUpAt}
+use Rattle.hwp_core.specs.declared.give_up.GiveUpAt.TheVariants as give_up_at
 use Rattle.hwp_core.specs.declared.release.Release.{Release}
 use Rattle.hwp_core.specs.declared.release.ReleaseAt.{ReleaseAt}
 use Rattle.hwp_core.specs.declared.release.ReleaseAt.TheVariants as release_at
 use Rattle.hwp_core.specs.declared.unhold.Unhold.{Unhold}
 use Rattle.hwp_core.specs.declared.unhold.UnholdAt.{UnholdAt}
 use Rattle.hwp_core.specs.declared.unhold.UnholdAt.TheVariants as unhold_at
+use Rattle.hwp_core.specs.declared.unlock.Unlock.{Unlock}
+use Rattle.hwp_core.specs.declared.unlock.UnlockAt.{UnlockAt}
+use Rattle.hwp_core.specs.declared.unlock.UnlockAt.TheVariants as unlock_at
+use Rattle.hwp_core.specs.GiveUps as give_ups
 use Rattle.hwp_core.specs.Unholds as unholds
+use Rattle.hwp_core.specs.Unlocks as unlocks
 use Rattle.hwp_core.specs.Releases as releases
 use Rattle.hwp_core.proofs.of_hwp_core_task.StepLeaves.{steps-planned}
 use Rattle.hwp_core.proofs.TaskCosts.{release-lists}
@@ -116,6 +124,43 @@ home-after u found = which u.at
     which (unhold_at.Release r) = released-puts (releases.next r found)
     which (unhold_at.UnlockPage body) = refl
     which unhold_at.Over = refl
+
+-- so has that of a command that gives up
+unlocked-puts : (r : Release) → unlocks.put_at (unlocks.after_release r) ≡ None
+unlocked-puts r = which r.at
+  where
+    which : (x : ReleaseAt) → unlocks.put_at (unlocks.after_release (record r { at = x })) ≡ None
+    which release_at.Put = refl
+    which (release_at.Give word) = refl
+    which (release_at.Unreserve word) = refl
+    which (release_at.Adopt word) = refl
+    which (release_at.Retire word) = refl
+    which (release_at.Back word) = refl
+
+unlock-after : (u : Unlock) (found : ℕ) → unlocks.put (unlocks.next (unlocks.bare u) found) ≡ None
+unlock-after u found = which u.at
+  where
+    which : (x : UnlockAt) → unlocks.put_at (unlocks.next_at u.who (unlocks.bare_at x) found) ≡ None
+    which (unlock_at.UnlockFrame frame body) = refl
+    which (unlock_at.Release r) = unlocked-puts (releases.next r found)
+    which unlock_at.Over = refl
+
+pub given-up-after : (g : GiveUp) (found : ℕ) → give_ups.put (give_ups.next (give_ups.bare g) found) ≡ None
+given-up-after g found = which g.at
+  where
+    unheld : (u : Unhold) (over : Bool) → unholds.put u ≡ None → give_ups.put_at (cond over give_up_at.GiveUp (give_up_at.Unhold u)) ≡ None
+    unheld u true home = refl
+    unheld u false home = home
+
+    unlocked : (u : Unlock) (over : Bool) → unlocks.put u ≡ None → give_ups.put_at (cond over give_up_at.GiveUp (give_up_at.Unlock u)) ≡ None
+    unlocked u true home = refl
+    unlocked u false home = home
+
+    which : (x : GiveUpAt) → give_ups.put_at (give_ups.next_at (give_ups.bare_at x) found) ≡ None
+    which (give_up_at.Unhold u) = unheld (unholds.next (unholds.bare u) found) (is_none (unholds.plan (unholds.next (unholds.bare u) found))) (home-after u found)
+    which (give_up_at.Unlock u) = unlocked (unlocks.next (unlocks.bare u) found) (is_none (unlocks.plan (unlocks.next (unlocks.bare u) found))) (unlock-after u found)
+    which give_up_at.GiveUp = refl
+    which give_up_at.Over = refl
 
 -- a step by which a page is let go leaves the answer caused, or causes it
 pub unhold-causes : (base : List Made) {layout : Layout} {old new : View} (page : Page) (what : Eviction) (u : Unhold) {step : Step} {found : ℕ} {got : Option BodyValue} (answer : EvictAnswer) → unholds.plan u ≡ Some step

@@ -72,7 +72,11 @@ module _ {layout : Layout} {view : View} {who : Who} {page : Page} (what : Evict
   -- ---- the entry
   module _ {base : List Made} (frame : Frame) (body : BodyValue) (has : HoldsPage layout view page (Some frame) body) (none : HasMadeNoneBeside base view who) (kind : IsOfKind layout page what) (passes : Passes what body.state) where
     pub given-up-fits : FitsAt base layout view who page what (given_up who page frame body)
-    given-up-fits = record { give_up = page-given-up layout view who page (Some frame) 1 body (held-unholds layout view who page (Some frame) body on inside has); own = refl }
+    given-up-fits = record {
+      give_up = page-given-up layout view who page (Some frame) 1 body (held-unholds layout view who page (Some frame) body on inside has);
+      own = refl;
+      puts = record { taken = body_in (Some frame) (log_of body) has.seen; there = in-hand view (body_in (Some frame) (log_of body) has.seen) (ap (λ (h : Hand). h.bodies) has.hand_is) refl; none_more = drop_all (length body.log) body.log (omega arith) };
+    }
 
     pub has-entry : (spare : ℕ) → HasEntry layout who page what (log_of body) (place page body) (with_entry who (entry_of what) body spare)
     has-entry spare = record {

@@ -47,9 +47,9 @@ use Rattle.hwp_evict.specs.declared.vacate.Vacate.{Vacate}
 use Rattle.hwp_evict.specs.declared.vacate.VacateAt.{VacateAt}
 use Rattle.hwp_evict.specs.declared.vacate.VacateAt.TheVariants as vacate_at
 use Rattle.hwp_evict.specs.Evictions.{IsCaused, IsOfKind}
-use Rattle.hwp_evict.specs.Evicts.{plan, plan_at, put, put_at, bare, bare_at, after_stop, after_unhold, after_vacate, Follows, FollowsAt, Shows, ShowsAt, IsAhead, IsFreeing, IsLettingGo, IsVacating, KnowsPut, FitsAt, FitsFrom, task as evict-task}
+use Rattle.hwp_evict.specs.Evicts.{plan, plan_at, put, put_at, bare, bare_at, after_stop, after_unhold, after_vacate, Follows, FollowsAt, Shows, ShowsAt, IsAhead, IsFreeing, IsLettingGo, IsVacating, KnowsPut, PutsNoMore, FitsAt, FitsFrom, task as evict-task}
 use Rattle.hwp_evict.specs.Vacates as vacates
-use Rattle.hwp_evict.proofs.AnswerCauses.{ahead-stays, home-after, home-by-page, unhold-causes}
+use Rattle.hwp_evict.proofs.AnswerCauses.{ahead-stays, given-up-after, home-after, home-by-page, unhold-causes}
 use Rattle.hwp_evict.proofs.EvictSteps.{bad-fits, held-enters, hold-fits, recent-held}
 use Rattle.hwp_evict.proofs.TranslationWrites.{can-write, declared-of, freed}
 use Rattle.hwp_evict.proofs.PageStates.{can-enter}
@@ -251,6 +251,7 @@ both {base} layout old new e step found got fits is made = which e.at is fits.at
       λ y turn follows. to follows.0 (record {
         give_up = giving_up.moved layout old new g step found got has.give_up p (subst (λ (w : Who). Steps layout w step (logs (give_ups.put g)) old new found got) (sym has.own) made);
         own = has.own;
+        puts = subst (PutsNoMore new) (sym (given-up-after g found)) tt;
       }),
     )
     which (at.Over answer) p has made = absurd (none-some step p)

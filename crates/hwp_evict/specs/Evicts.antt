@@ -326,9 +326,21 @@ pub record IsClearingOut (base : List Made) (layout : Layout) (view : View) (who
   pub saw : HasSeen (drop seen view.sights) who (Some c.frame) (entry_of what)
   pub made_none : HasMadeNoneBeside base view who
 
+-- the body that goes home has no entry more than when it was taken
+pub record HasNoMore (view : View) (body : BodyValue) : Type 0 where
+  pub taken : InHand
+  pub there : body_of body.page view ≡ Some taken
+  pub none_more : more_of taken (log_of body) ≡ []
+
+abbrev pub PutsNoMore : View → Option BodyValue → Type 0
+PutsNoMore view None = Unit {0}
+PutsNoMore view (Some body) = HasNoMore view body
+
+-- the command makes no entry more
 pub record IsGivingUp (layout : Layout) (view : View) (who : Who) (g : GiveUp) : Type 0 where
   pub give_up : give_ups.Fits layout view g
   pub own : g.who ≡ who
+  pub puts : PutsNoMore view (give_ups.put g)
 
 abbrev pub FitsAt : List Made → Layout → View → Who → Page → Eviction → EvictAt → Type 0
 FitsAt base layout view who page what at.LoadStop = (hand_of view ≡ empty) × HasMadeNoneBeside base view who

@@ -1,5 +1,5 @@
 -- The processors of a script, at their beginning and when all their turns are made.
-use Rattle.std.proofs.Common.{◌≡◌, ◌⊎◌, ℕ, zero, suc, ◌+◌, ◌<◌, ◌≤◌, inl, inr, List, [], ◌∷◌, ◌++◌, Some, All, length, get_or, slice_get, refl, sym, ap, ◌∙◌, subst, arith}
+use Rattle.std.proofs.Common.{◌≡◌, ◌⊎◌, ℕ, zero, suc, ◌+◌, ◌<◌, ◌≤◌, inl, inr, List, [], ◌∷◌, ◌++◌, Some, All, count_by, length, get_or, slice_get, refl, sym, ap, ◌∙◌, subst, arith}
 use Rattle.std.proofs.lemmas.Bool.{cases_lt}
 use Rattle.std.proofs.lemmas.List.{length-append}
 use Rattle.std.proofs.lemmas.List.Sums.{get_or-le-sum_by}
@@ -14,6 +14,7 @@ use Rattle.hwp_table_words.specs.hwp_core_task.Boards.{AreSeated, Played, view_o
 use Rattle.hwp_table_words.specs.hwp_core_task.Ranks.{Made}
 use Rattle.hwp_plain.specs.hwp_script_read.declared.Command.{Command}
 use Rattle.hwp_plain.specs.hwp_script_read.declared.Script.{Script}
+use Rattle.hwp_plain.specs.hwp_script_read.Forks.{is_fork_of}
 use Rattle.hwp_plain.specs.hwp_script_read.Valid.{AreLists, IsCommandOf, IsValid}
 use Rattle.hwp_plain.specs.hwp_plain_order.Order.{InOrder, IsAt, Running, cpu_of, running}
 use Rattle.hwp_plain.specs.hwp_plain_order.Ready.{IsCrew}
@@ -37,11 +38,14 @@ lists-at layout cpu [] i k d are inside at = absurd (omega arith)
 lists-at layout cpu (l ∷ ls) zero k d are inside at = subst (λ (c : ℕ). All (IsCommandOf layout c) l) (let same : cpu ≡ k = omega arith in same) are.0
 lists-at layout cpu (l ∷ ls) (suc i) k d are inside at = lists-at layout (cpu + 1) ls i k d are.1 (omega arith) (omega arith)
 
--- the commands of a processor's list name what the layout declares, and are no more than a script has
+-- the commands of a processor's list name what the layout declares, and are no more than a script has; its forks are such as there may be
 pub commands-at : (script : Script) (i : ℕ) (d : List Command) → IsValid script → i < length script.lists → AreCommands script.layout (cpu_of i) (get_or script.lists i d)
 commands-at script i d valid inside = record {
   named = lists-at script.layout 0 script.lists i i d valid.lists inside (omega arith);
   few = omega (arith, get_or-le-sum_by length script.lists i d inside, valid.few);
+  twins = valid.twins;
+  forks = valid.forks i (get_or script.lists i d) (slice_get-get_or script.lists i d inside);
+  once = λ process. omega (arith, get_or-le-sum_by (count_by (is_fork_of process)) script.lists i d inside, valid.once process);
 }
 
 -- ---- the beginning

@@ -1,0 +1,83 @@
+-- The command that a processor acts on is one of the processor, as the script's own is: a twin is of the same process as the translation for
+-- which it stands.
+use Rattle.std.proofs.Common.{◌≡◌, ◌≢◌, ℕ, zero, suc, ◌<◌, ◌&&◌, not, All, Bool, true, false, List, [], ◌∷◌, Option, Some, None, length, slice_get, if◌then◌else◌, refl, sym, ap, ◌∙◌, subst}
+use Rattle.std.specs.Prelude.{IsSomeAnd, unwrap_or}
+use Rattle.std.proofs.lemmas.Option.{none-some, same_Some, slice_get_within}
+use Rattle.hwp_cpu_course.specs.hwp_cpu_row.hwp_geom.declared.Layout.{Layout}
+use Rattle.hwp_cpu_course.specs.hwp_cpu_row.hwp_geom.declared.Thread.{Thread}
+use Rattle.hwp_cpu_course.specs.hwp_cpu_row.hwp_geom.declared.ThreadDecl.{ThreadDecl}
+use Rattle.hwp_cpu_course.specs.hwp_cpu_row.hwp_geom.declared.TransDecl.{TransDecl}
+use Rattle.hwp_cpu_course.specs.hwp_cpu_row.hwp_geom.declared.VSlot.{VSlot}
+use Rattle.hwp_cpu_course.specs.hwp_cpu_row.hwp_geom.Layout.{twin_of}
+use Rattle.hwp_cpu_course.specs.hwp_cpu_row.hwp_geom.declared.Who.{Who}
+use Rattle.hwp_cpu_course.specs.hwp_cpu_row.hwp_core_rule.declared.View.{View}
+use Rattle.hwp_cpu_course.specs.hwp_cpu_row.hwp_script_lines.declared.Command.{Command}
+use Rattle.hwp_cpu_course.specs.hwp_cpu_row.hwp_script_lines.declared.Command.TheVariants as commands
+use Rattle.hwp_cpu_course.specs.hwp_cpu_row.hwp_script_read.Valid.{ArePaired, AreTwinsFit, IsAccess, IsAnon, IsCommandOf}
+use Rattle.hwp_cpu_course.specs.hwp_cpu_row.hwp_law_commands.Cows.{Cow, twin_or}
+use Rattle.hwp_cpu_course.specs.hwp_cpu_row.CowLists.{acting_in, copied_in, cow_in}
+use Rattle.hwp_cpu_course.specs.hwp_cpu_command.Begins.{CanCopy}
+use Rattle.hwp_cpu_course.specs.hwp_cpu_command.Runs.{CanFork}
+
+module _ (layout : Layout) (twins : AreTwinsFit layout) where
+  paired-access : (cpu : ℕ) (ot : Option ThreadDecl) (ov ow : Option TransDecl) → IsSomeAnd ot (λ (t : ThreadDecl). (t.cpu.0 ≡ cpu) × IsSomeAnd ov (λ (v : TransDecl). v.process ≡ t.process))
+      → IsSomeAnd ov (λ (v : TransDecl). IsSomeAnd ow (λ (w : TransDecl). (v.process ≡ w.process) × (v.page.0 ≢ w.page.0) × IsSomeAnd (slice_get layout.pages v.page.0) IsAnon × IsSomeAnd (slice_get layout.pages w.page.0) IsAnon))
+      → IsSomeAnd ot (λ (t : ThreadDecl). (t.cpu.0 ≡ cpu) × IsSomeAnd ow (λ (w : TransDecl). w.process ≡ t.process))
+  paired-access cpu None ov ow has paired = absurd has
+  paired-access cpu (Some t) None ow has paired = absurd paired
+  paired-access cpu (Some t) (Some v) None has paired = absurd paired
+  paired-access cpu (Some t) (Some v) (Some w) has paired = (has.0, sym paired.0 ∙ has.1)
+
+  paired-within : (ov : Option TransDecl) (twin : VSlot) (ow : Option TransDecl) → slice_get layout.trans twin.0 ≡ ow
+      → IsSomeAnd ov (λ (v : TransDecl). IsSomeAnd ow (λ (w : TransDecl). (v.process ≡ w.process) × (v.page.0 ≢ w.page.0) × IsSomeAnd (slice_get layout.pages v.page.0) IsAnon × IsSomeAnd (slice_get layout.pages w.page.0) IsAnon))
+      → twin.0 < length layout.trans
+  paired-within None twin ow is paired = absurd paired
+  paired-within (Some v) twin None is paired = absurd paired
+  paired-within (Some v) twin (Some w) is paired = slice_get_within layout.trans twin.0 w is
+
+  twin-access : (cpu : ℕ) (thread : Thread) (slot : VSlot) (o : Option VSlot) → twin_of layout slot ≡ o → IsAccess layout cpu thread slot → IsAccess layout cpu thread (unwrap_or o slot)
+  twin-access cpu thread slot None is has = has
+  twin-access cpu thread slot (Some twin) is has = paired-access cpu (slice_get layout.threads thread.0) (slice_get layout.trans slot.0) (slice_get layout.trans twin.0) has (twins.each slot twin is).paired
+
+  twin-within : (slot : VSlot) (o : Option VSlot) → twin_of layout slot ≡ o → slot.0 < length layout.trans → (unwrap_or o slot).0 < length layout.trans
+  twin-within slot None is has = has
+  twin-within slot (Some twin) is has = paired-within (slice_get layout.trans slot.0) twin (slice_get layout.trans twin.0) refl (twins.each slot twin is).paired
+
+  either-access : (b : Bool) (cpu : ℕ) (thread : Thread) (slot : VSlot) → IsAccess layout cpu thread slot → IsAccess layout cpu thread (if b then twin_or layout slot else slot)
+  either-access true cpu thread slot has = twin-access cpu thread slot (twin_of layout slot) refl has
+  either-access false cpu thread slot has = has
+
+  either-within : (b : Bool) (slot : VSlot) → slot.0 < length layout.trans → (if b then twin_or layout slot else slot).0 < length layout.trans
+  either-within true slot has = twin-within slot (twin_of layout slot) refl has
+  either-within false slot has = has
+
+  pub acting-fits : (cpu : ℕ) (cows : List Cow) (command : Command) → IsCommandOf layout cpu command → IsCommandOf layout cpu (acting_in layout cows command)
+  acting-fits cpu cows (commands.Load thread slot line) has = (either-access (cow_in cows slot).switched cpu thread slot has.0, has.1)
+  acting-fits cpu cows (commands.Fetch thread slot line) has = (either-access (cow_in cows slot).switched cpu thread slot has.0, has.1)
+  acting-fits cpu cows (commands.KLoad thread slot line) has = (either-access (cow_in cows slot).switched cpu thread slot has.0, has.1)
+  acting-fits cpu cows (commands.Store thread slot line word) has = (either-access (cow_in cows slot).frozen cpu thread slot has.0, has.1)
+  acting-fits cpu cows (commands.Free slot) has = either-within (cow_in cows slot).switched slot has
+  acting-fits cpu cows command has = has
+
+pub copied-fits : (layout : Layout) (cpu : ℕ) (cows : List Cow) (command : Command) → IsCommandOf layout cpu command → CanCopy layout cpu (acting_in layout cows command) (copied_in cows command)
+copied-fits layout cpu cows (commands.Store thread slot line word) has = by ((cow_in cows slot).frozen && not (cow_in cows slot).switched)
+  where
+    by : (b : Bool) → CanCopy layout cpu (acting_in layout cows (commands.Store thread slot line word)) (if b then Some slot else None)
+    by true = has.0
+    by false = tt
+copied-fits layout cpu cows command has = tt
+
+-- a fork is acted on as it stands
+pub fork-acted : {view : View} {who : Who} (layout : Layout) (cows : List Cow) (own : Command) → CanFork layout view who own → CanFork layout view who (acting_in layout cows own)
+fork-acted layout cows (commands.Load thread slot line) can = tt
+fork-acted layout cows (commands.Fetch thread slot line) can = tt
+fork-acted layout cows (commands.KLoad thread slot line) can = tt
+fork-acted layout cows (commands.Store thread slot line word) can = tt
+fork-acted layout cows (commands.Free slot) can = tt
+fork-acted layout cows own can = can
+
+-- a command of a list of which all fit
+pub at-least : {P : Command → Type 0} (l : List Command) (n : ℕ) (own : Command) → All P l → slice_get l n ≡ Some own → P own
+at-least [] n own all there = absurd (none-some own there)
+at-least {P} (c ∷ cs) zero own all there = subst P (same_Some c own there) all.0
+at-least (c ∷ cs) (suc n) own all there = at-least cs n own all.1 there

@@ -1,0 +1,2 @@
+pub mod CopyCauses
+pub mod ForkCauses
