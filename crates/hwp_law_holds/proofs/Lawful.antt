@@ -1,6 +1,6 @@
 -- The report of a run keeps the whole law.
-use Rattle.hwp_law_records.specs.hwp_geom.declared.Cpu.{Cpu}
 use Rattle.std.proofs.Common.{ℕ, List, Option}
+use Rattle.hwp_law_records.specs.hwp_geom.declared.Cpu.{Cpu}
 use Rattle.hwp_law_records.specs.hwp_geom.declared.Who.{Who}
 use Rattle.hwp_law_records.specs.hwp_geom.declared.VSlot.{VSlot}
 use Rattle.hwp_law_records.specs.hwp_core_rule.declared.State.{State}

@@ -1,8 +1,7 @@
 -- No store copies a page to itself: a translation that a fork froze has a twin, which leads to another page.
-use Rattle.std.proofs.Common.{◌≡◌, ◌≢◌, ◌&&◌, ℕ, ◌+◌, Bool, true, false, not, List, [], ◌∷◌, Option, None, Some, fold, option_and_then, option_map, slice_get, take, unwrap_or, if◌then◌else◌, refl, sym, ap, ◌∙◌, subst, true≢false}
+use Rattle.std.proofs.Common.{◌≡◌, ◌≢◌, ◌&&◌, ℕ, ◌+◌, Bool, true, false, not, List, [], ◌∷◌, Option, None, Some, fold, option_and_then, option_map, slice_get, unwrap_or, if◌then◌else◌, refl, sym, ap, ◌∙◌, subst, true≢false}
 use Rattle.std.specs.Prelude.{IsSomeAnd}
 use Rattle.std.proofs.lemmas.Option.{none-some, same_Some}
-use Rattle.hwp_law_records.specs.hwp_geom.Layout.{twin_of}
 use Rattle.hwp_law_records.specs.hwp_geom.declared.Layout.{Layout}
 use Rattle.hwp_law_records.specs.hwp_geom.declared.Page.{Page}
 use Rattle.hwp_law_records.specs.hwp_geom.declared.Thread.{Thread}
