@@ -289,6 +289,10 @@ class Twin:
         """watch: the guest has no order for it."""
         raise NoForm("Linux collects corrected errors by rules of its own")
 
+    def make_fork(self, step: Step, world: World, seen: Seen) -> Optional[str]:
+        """fork: the guest has no order for it, since it makes all processes of a script at the beginning."""
+        raise NoForm("the processes of a script are there from the beginning, and none is a child of another")
+
     def make_scrub(self, step: Step, world: World, seen: Seen) -> Optional[str]:
         """scrub: a machine check for each bad line that it meets, while no thread runs."""
         group: list[Event] = []

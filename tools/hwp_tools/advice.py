@@ -196,6 +196,8 @@ def _undeclared(here: At) -> Optional[Advice]:
     if here.words[0] in ("sync", "out") and number < above.declared("page"):
         other = "out" if here.words[0] == "sync" else "sync"
         return Advice(start, here.refused.text, f"write `{other} {number}`")
+    if here.words[0] == "cow" and max(map(int, here.words[1:])) < above.declared("trans"):
+        return Advice(start, here.refused.text, "write two translations of one process, to two anonymous pages")
     if slot == "trans" and number < above.declared("trans"):
         return Advice(start, here.refused.text, _own_translations(here))
     below, declares = _declaring(here, slot, number), FORMS[DECLARED_BY.get(slot, slot)].texts[0]
@@ -236,6 +238,8 @@ def _declaring(here: At, slot: str, number: int) -> int:
 
 
 def _twice(here: At) -> Optional[Advice]:
+    if here.words[0] == "cow":
+        return Advice(here.starts[here.refused.word], here.refused.text, "leave one of the two lines out")
     own = here.words[:2] if here.words[0] in (*NUMBERED, "kernel", "cpu") else here.words[:1]
     above = (number for number, line in enumerate(here.lines, 1) if words_of(line)[: len(own)] == own)
     return Advice(here.starts[0], f"`{' '.join(own)}` stands in line {next(above)} already", "leave one of the two out")
@@ -260,8 +264,25 @@ def _wrong_place(here: At) -> Optional[Advice]:
         return Advice(here.starts[1], here.refused.text, f"write `{first} {above.declared(first)}`: numbers rise from 0 without a gap")
     if here.refused.word == 0:
         return Advice(here.starts[0], "no `cpu` line stands above this command", "write `cpu C`, with its processor C, above it")
-    cpu = above.threads[int(here.word)].cpu
-    return Advice(here.starts[here.refused.word], here.refused.text, f"write the command below `cpu {cpu}`")
+    return Advice(here.starts[here.refused.word], here.refused.text, _other_place(here))
+
+
+def _other_place(here: At) -> str:
+    """What to write where a twin, a command of a thread, or a fork stands at a wrong place."""
+    above, first, number = here.refused.above, here.words[0], int(here.word)
+    if first == "cow":
+        return "give each translation a twin that has its page alone, no `cow` line of its own, and no other translation"
+    slot = _named(here)[0]
+    if slot == "trans":
+        return f"write `{above.twins.index(number)}`, the translation whose twin it is"
+    lists = [words for words in map(words_of, here.lines[: here.refused.line - 1]) if words[:1] == ["cpu"]]
+    cpu = above.threads[int(here.words[2 if first == "raise" else 1])].cpu
+    if lists[-1][1] != str(cpu):
+        return f"write the command below `cpu {cpu}`"
+    return (
+        "fork once, before its first command, another process whose threads are all on this processor, as the parent's are; the two "
+        "share each page of a `cow` line of the parent alone, by one translation each with a `cow` line, and no fork above froze it"
+    )
 
 
 def _below(here: At, number: int, words: Sequence[str]) -> Advice:

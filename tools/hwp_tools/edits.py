@@ -8,7 +8,7 @@ WORDS = (
     "0 1 2 3 5 7 8 9 15 16 31 32 63 64 255 256 511 512 4095 4096 00 01 -1 +1 x 0x 0x0 0xc 0xG 18446744073709551615 18446744073709551616 "
     "1. 0. 8. . 0.. 0@lock_frame 1@poison 0@ @poison 0@foo 0@poison@ 0,1 handler nohandler anon file fill user kernel nested "
     "hwp locked open cpus frames recovery early proc thread page trans cpu schedule end load store fetch kload free drop sync out fsync prctl "
-    "bad weak scrub log raise inject soft unpoison watch 1000 1001 65 #"
+    "bad weak scrub log raise inject soft unpoison watch 1000 1001 65 cow fork #"
 ).split()
 BYTES = b" \n\t\r#.@0129azAZx-+_\x00\x7f\x80\xff"
 

@@ -42,6 +42,7 @@ FORMS = {
         "page Q file N fill X",
     ),
     "trans": _form("with a translation V of process P to page Q", "trans V P Q"),
+    "cow": _form("with a translation V and its private twin W, behind `hwp 2`", "cow V W"),
     "cpu": _form("with a processor C, whose commands follow", "cpu C"),
     "schedule": _form("with one or more words C, C. or C@KIND, spaces between them", "schedule W W W"),
     "end": _form("alone, as the last line", "end"),
@@ -67,8 +68,9 @@ FORMS = {
     "soft": _form(FRAME, "soft F"),
     "unpoison": _form(FRAME, "unpoison F"),
     "watch": _form("with a threshold T from 1 to 1000 and a window W from 1 to 64, behind `hwp 2`", "watch T W"),
+    "fork": _form("with a thread T, and the process P that its process makes its child, behind `hwp 2`", "fork T P"),
 }
-GROUPS_TOLD = "cpus, frames, kernel, recovery, early, file, proc, thread, page, trans, cpu with its commands, schedule, end"
+GROUPS_TOLD = "cpus, frames, kernel, recovery, early, file, proc, thread, page, trans, cow, cpu with its commands, schedule, end"
 assert set(FORMS) == {*SHAPES, "schedule", "hwp"} and set(COMMANDS) <= set(FORMS)
 
 

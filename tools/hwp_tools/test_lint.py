@@ -158,6 +158,63 @@ NEWER_MISTAKES: list[tuple[int, Optional[str], int, int, str, str]] = [
     (31, "schedule 0 16", 31, 12, "OverLimit", "0 to 15"),
     (31, "schedule 0 8", 31, 12, "Undeclared", "declared are 0, 1"),
 ]
+FORKS = """hwp 2
+cpus 2
+frames 4
+proc 0
+proc 1
+proc 2
+thread 0 0 0 handler
+thread 1 1 0 handler
+thread 2 2 1 handler
+page 0 anon
+page 1 anon
+page 2 anon
+page 3 anon
+trans 0 0 0
+trans 1 1 0
+trans 2 0 1
+trans 3 1 2
+trans 4 2 3
+cow 0 2
+cow 1 3
+cpu 0
+store 0 0 5 77
+fork 0 1
+load 1 1 5
+end
+"""
+# The same of FORKS.
+FORK_MISTAKES: list[tuple[int, Optional[str], int, int, str, str]] = [
+    (1, "hwp 1", 19, 1, "UnknownWord", "write `hwp 2` as the first line"),
+    (20, "cow 1", 20, 6, "UnknownWord", "words are missing"),
+    (20, "cow 1 x", 20, 7, "BadNumber", "write `cow V W`"),
+    (20, "cow 1 4096", 20, 7, "OverLimit", "0 to 4095"),
+    (20, "cow 1 5", 20, 7, "Undeclared", "by `trans V P Q`"),
+    (20, "cow 1 4", 20, 7, "Undeclared", "two translations of one process"),
+    (20, "cow 1 1", 20, 7, "Undeclared", "two translations of one process"),
+    (20, "cow 0 2", 20, 5, "Twice", "translation 0 has a twin already"),
+    (20, "cow 4 2", 20, 7, "Undeclared", "isn't of process 2"),
+    (20, "cow 2 0", 20, 5, "WrongPlace", "translation 2 is itself a twin"),
+    (18, "trans 4 1 2", 20, 7, "WrongPlace", "page 2, to which translation 3 leads, has another translation"),
+    (21, "cpu 0\ncow 1 3", 22, 5, "Twice", "leave one of the two"),
+    (20, "cpu 0\ncow 1 3", 21, 1, "WrongPlace", "stands below `cpu` (line 20)"),
+    (22, "load 0 2 5", 22, 8, "WrongPlace", "write `0`, the translation whose twin it is"),
+    (22, "free 3", 22, 6, "WrongPlace", "write `1`, the translation whose twin it is"),
+    (22, "store 2 4 5 1", 22, 7, "WrongPlace", "below `cpu 1`"),
+    (23, "fork 0", 23, 7, "UnknownWord", "words are missing"),
+    (23, "Fork 0 1", 23, 1, "UnknownWord", "write `fork T P`"),
+    (23, "fork 0 16", 23, 8, "OverLimit", "0 to 15"),
+    (23, "fork 0 3", 23, 8, "Undeclared", "by `proc P`"),
+    (23, "fork 0 0", 23, 8, "WrongPlace", "process 0 is that of thread 0 itself"),
+    (23, "fork 0 2", 23, 8, "WrongPlace", "thread 2 of process 2 is on another processor"),
+    (23, "fork 2 1", 23, 6, "WrongPlace", "below `cpu 1`"),
+    (22, "load 1 1 5", 23, 8, "WrongPlace", "`load 1 1 5` in line 22"),
+    (22, "fork 0 1", 23, 8, "WrongPlace", "process 1 was forked before"),
+    (20, None, 22, 8, "WrongPlace", "translation 1 to page 0 has no `cow` line"),
+    (18, "trans 4 0 0", 23, 8, "WrongPlace", "translation 4 to page 0 has no `cow` line"),
+    (18, "trans 4 2 0", 23, 8, "WrongPlace", "translation 4 to page 0 is of process 2"),
+]
 # The tables of refused scripts in the tests of the program's reader: what is put in place of what, or which line is another, the line
 # that is named, and the reason.
 READER_TESTS = HOME / "crates" / "hwp_test_texts" / "src" / "scripts.rt"
@@ -179,6 +236,7 @@ class Lint(unittest.TestCase):
     def test_typical_mistakes_are_told_with_what_to_write(self) -> None:
         newer = BASE.replace("hwp 1", "hwp 2")
         mistakes = [(BASE, *mistake) for mistake in MISTAKES] + [(newer, *mistake) for mistake in NEWER_MISTAKES]
+        mistakes += [(FORKS, *mistake) for mistake in FORK_MISTAKES]
         for base, number, text, line, column, why, says in mistakes:
             with self.subTest(base=base[:5], number=number, text=text):
                 fault = fault_of(changed(number, text, base))
@@ -188,6 +246,7 @@ class Lint(unittest.TestCase):
                 self.assertTrue(fault.text.isascii() and fault.text.isprintable(), fault.text)
 
     def test_limits_of_a_script_are_told(self) -> None:
+        self.assertIsNone(fault_of(FORKS.encode()))
         for head, page, ask in (("hwp 1", "anon", "fsync"), ("hwp 2", "anon", "fsync"), ("hwp 2", "anon locked", "open")):
             script = BASE.replace("hwp 1", head).replace("page 0 anon", f"page 0 {page}").replace("fsync 0", f"{ask} 0")
             self.assertIsNone(fault_of(script.encode()))

@@ -70,6 +70,7 @@ COMMANDS = {
     "soft": "frame {frame} is taken out of use while its content is good",
     "unpoison": "takes back that frame {frame} was poisoned",
     "watch": "gets a new collector: {threshold} corrected errors of a frame within {window} rounds take it out of use",
+    "fork": "the process of thread {thread} makes process {proc} its child",
 }
 
 
@@ -86,7 +87,9 @@ def command_says(script: Script, command: Command) -> str:
     page = script.page_of(command)
     if page is not None:
         names["page"] = page
-    return COMMANDS[command.verb].format(**names)
+    twin = script.twin_of(command)
+    private = "" if twin is None else f" (its twin, translation {twin}: page {script.translations[twin].page})"
+    return COMMANDS[command.verb].format(**names) + private
 
 
 def _prctl_says(command: Command) -> str:

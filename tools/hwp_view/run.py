@@ -147,12 +147,17 @@ class Run:
         return self.endings.get((self.script.threads[thread].process, answer.of("page")))
 
     def settings(self) -> list[list[Command]]:
-        """For each thread the commands that set or cleared its policy, in their order."""
+        """For each thread the commands that set or cleared its policy, in their order: also the fork that made its process."""
         settings: list[list[Command]] = [[] for _ in self.script.threads]
         for row in self.works:
             for work in row:
                 command = work.command
-                is_set = command.verb == "prctl" and command.words[2] == "33"
-                if is_set and work.answer is not None and word_of(work.answer) == "done":
+                if work.answer is None or word_of(work.answer) != "done":
+                    continue
+                if command.verb == "prctl" and command.words[2] == "33":
                     settings[command.numbers[0]].append(command)
+                if command.verb == "fork":
+                    for thread, declared in enumerate(self.script.threads):
+                        if declared.process == command.numbers[1]:
+                            settings[thread].append(command)
         return settings

@@ -4,6 +4,7 @@ from __future__ import annotations
 from dataclasses import dataclass, field
 from typing import NamedTuple, NoReturn, Optional
 
+from .forks import Wrong, no_fork, no_pair, no_twin
 from .forms import HIGHEST, Fitted, Malformed, fitted, shown, value
 
 SCRIPT_LIMIT = 1 << 20
@@ -21,6 +22,7 @@ SETTINGS = {
     "thread": "thread proc cpu 'handler|thread proc cpu 'nohandler",
     "page": "page 'anon|page 'file file 'fill word|page 'anon 'locked|page 'file file 'fill word 'locked",
     "trans": "trans proc page",
+    "cow": "trans trans",
     "cpu": "cpu",
     "end": "",
 }
@@ -45,6 +47,7 @@ COMMANDS = {
     "soft": "frame",
     "unpoison": "frame",
     "watch": "threshold window",
+    "fork": "thread proc",
 }
 SHAPES = {first: shapes.split("|") for first, shapes in {**SETTINGS, **COMMANDS}.items()}
 OLD_LIMITS = {
@@ -67,9 +70,9 @@ OLD_LIMITS = {
 NEW_LIMITS = {**OLD_LIMITS, "cpus": (1, 16), "frames": (1, 4096), "frame": (0, 4095), "cpu": (0, 15), "page": (0, 4095), "trans": (0, 4095)}
 LIMITS = {1: OLD_LIMITS, 2: NEW_LIMITS}
 GROUPS = {
-    name: n for n, name in enumerate("cpus frames kernel recovery early file proc thread page trans cpu".split(), 1)
+    name: n for n, name in enumerate("cpus frames kernel recovery early file proc thread page trans cow cpu".split(), 1)
 }
-COMMAND_GROUP, SCHEDULE_GROUP, END_GROUP = 11, 12, 13
+COMMAND_GROUP, SCHEDULE_GROUP, END_GROUP = 12, 13, 14
 NUMBERED = frozenset("file proc thread page trans".split())
 CALLED = {"proc": "process", "trans": "translation", "cpu": "processor"}
 KINDS = frozenset(
@@ -142,6 +145,7 @@ class Script:
     threads: list[Thread] = field(default_factory=list)
     pages: list[Page] = field(default_factory=list)
     translations: list[Translation] = field(default_factory=list)
+    twins: list[Optional[int]] = field(default_factory=list)
     commands: list[list[Command]] = field(default_factory=list)
     schedule: list[str] = field(default_factory=list)
     opening: list[str] = field(default_factory=list)
@@ -163,6 +167,11 @@ class Script:
         """The page that a command names, by itself or through a translation."""
         translation = command.named("trans")
         return command.named("page") if translation is None else self.translations[translation].page
+
+    def twin_of(self, command: Command) -> Optional[int]:
+        """The private twin of the translation that a command names."""
+        translation = command.named("trans")
+        return None if translation is None else self.twins[translation]
 
 
 class Refused(Malformed):
@@ -187,6 +196,11 @@ class _Reader:
     def refuse(self, why: str, text: str, word: int = 0) -> NoReturn:
         """Refuses the line for this reason, at the word of this number."""
         raise Refused(self.line, why, text, word, self.script)
+
+    def refuse_if(self, why: str, wrong: Optional[Wrong]) -> None:
+        """Refuses the line for this reason where there is something wrong."""
+        if wrong is not None:
+            self.refuse(why, *wrong)
 
     def read(self, words: list[str]) -> None:
         """Reads a line behind the header: the reasons to refuse it are looked for in the order of their ranks."""
@@ -243,6 +257,8 @@ class _Reader:
             thread, translation = numbers[slots.index("thread")], numbers[slots.index("trans")]
             if script.threads[thread].process != script.translations[translation].process:
                 self.refuse("Undeclared", f"translation {translation} isn't of the process of thread {thread}", 2)
+        if first == "cow":
+            self.refuse_if("Undeclared", no_pair(script, *numbers))
         if first in ("sync", "out") and (script.pages[numbers[0]].file is None) == (first == "sync"):
             self.refuse("Undeclared", f"page {numbers[0]} is {'anonymous' if first == 'sync' else 'of a file'}", 1)
 
@@ -256,6 +272,10 @@ class _Reader:
         if once.get(first) or (first in NUMBERED and number < script.declared(first)):
             named = f"{first} {number}" if first in (*NUMBERED, "kernel", "cpu") else first
             self.refuse("Twice", f"`{named}` stands above already")
+        if first == "cow" and script.twins[number] is not None:
+            self.refuse("Twice", f"translation {number} has a twin already", 1)
+        if first == "cow" and numbers[1] in script.twins:
+            self.refuse("Twice", f"translation {numbers[1]} is a twin already", 2)
 
     def check_place(self, first: str, found: Fitted, numbers: tuple[int, ...]) -> None:
         """WrongPlace: a line out of order, a number that skips one, a command outside its processor's list."""
@@ -269,15 +289,27 @@ class _Reader:
             self.refuse("WrongPlace", f"`{first}` stands before `cpus` and `frames`")
         if first in NUMBERED and numbers[0] > self.script.declared(first):
             self.refuse("WrongPlace", f"{first} {numbers[0]} skips {first} {self.script.declared(first)}", 1)
+        if first == "cow":
+            self.refuse_if("WrongPlace", no_twin(self.script, *numbers))
         if first in COMMANDS:
-            if self.place is None:
-                self.refuse("WrongPlace", "a command outside a processor's list")
-            if "thread" in found.slots:
-                named = found.slots.index("thread")
-                cpu = self.script.threads[numbers[named]].cpu
-                if cpu != self.place:
-                    text = f"thread {numbers[named]} is on processor {cpu}, and this list is of processor {self.place}"
-                    self.refuse("WrongPlace", text, found.places[named] + 1)
+            self.check_list(first, found, numbers)
+
+    def check_list(self, first: str, found: Fitted, numbers: tuple[int, ...]) -> None:
+        """WrongPlace: a command that may not stand in the list of this processor, or not there."""
+        if self.place is None:
+            self.refuse("WrongPlace", "a command outside a processor's list")
+        if "thread" in found.slots:
+            named = found.slots.index("thread")
+            cpu = self.script.threads[numbers[named]].cpu
+            if cpu != self.place:
+                text = f"thread {numbers[named]} is on processor {cpu}, and this list is of processor {self.place}"
+                self.refuse("WrongPlace", text, found.places[named] + 1)
+        if "trans" in found.slots:
+            named = found.slots.index("trans")
+            if numbers[named] in self.script.twins:
+                self.refuse("WrongPlace", f"translation {numbers[named]} is a twin, which no command names", found.places[named] + 1)
+        if first == "fork":
+            self.refuse_if("WrongPlace", no_fork(self.script, self.place, *numbers))
 
     def add(self, words: list[str], slots: tuple[str, ...], numbers: tuple[int, ...]) -> None:
         """Adds what the line declares."""
@@ -297,6 +329,9 @@ class _Reader:
             script.pages.append(Page(numbers[1], numbers[2], is_locked) if len(numbers) == 3 else Page(None, 0, is_locked))
         elif first == "trans":
             script.translations.append(Translation(numbers[1], numbers[2]))
+            script.twins.append(None)
+        elif first == "cow":
+            script.twins[numbers[0]] = numbers[1]
         elif first == "cpu":
             self.place = numbers[0]
             self.lists.add(numbers[0])
@@ -339,7 +374,7 @@ class _Reader:
 
 def is_newer(words: list[str]) -> bool:
     """Whether the words of a line have a shape of version 2 alone."""
-    return words[0] in ("open", "watch") or (words[0] == "page" and len(words) in (4, 7))
+    return words[0] in ("open", "watch", "cow", "fork") or (words[0] == "page" and len(words) in (4, 7))
 
 
 def _has_turn_shape(word: str) -> bool:

@@ -13,6 +13,7 @@ from typing import Optional
 from hwp_view.forms import ranges
 from hwp_view.order import Order
 from hwp_view.page import page_html
+from hwp_view.plain import command_says
 from hwp_view.report import read_report
 from hwp_view.run import Run
 from hwp_view.script import read_script
@@ -57,6 +58,28 @@ def example(name: str) -> Run:
     """The run of an example."""
     path = next(path for path in EXAMPLES if path.stem == name)
     return run_of(path.read_text(), path.with_suffix(".report").read_text())
+
+
+def worked(name: str) -> Run:
+    """The run of a worked script."""
+    path = PROGRAM.parents[1] / "tests" / "worked" / f"{name}.hwp"
+    return run_of(path.read_text(), path.with_suffix(".report").read_text())
+
+
+class Forks(unittest.TestCase):
+    """What a fork changes."""
+
+    def test_a_fork_is_a_setting_of_each_thread_of_the_child(self) -> None:
+        settings = [[command.text for command in row] for row in worked("forks/child-has-the-policy").settings()]
+        self.assertEqual(settings, [["prctl 0 33 1 1 0 0"], ["fork 0 1"]])
+        settings = [[command.text for command in row] for row in worked("forks/gone-parent").settings()]
+        self.assertEqual(settings, [["prctl 0 33 1 1 0 0"], []])
+
+    def test_an_access_names_the_page_of_its_twin_too(self) -> None:
+        run = worked("forks/child-stores")
+        says = [command_says(run.script, command) for command in run.script.commands[0]]
+        self.assertEqual(says[1], "the process of thread 0 makes process 1 its child")
+        self.assertEqual(says[2], "thread 1 stores 88 at line 5 of page 0 (its twin, translation 3: page 2)")
 
 
 class Rows(unittest.TestCase):

@@ -14,15 +14,27 @@ LOADS = ("load", "store", "mce")
 
 
 def _step_of(page: int, entry: Entry) -> tuple[str, str]:
-    """The kind and the word of the step that makes an entry. A bad line or a word is met at `load_bad` of some frame."""
+    """The kind and the word of the step that makes an entry. A bad line or a word is met at `load_bad` of some frame, by an access through
+    the translation whose word is named then."""
     slot = f"trans {entry.line.get('trans')}"
     if entry.verb in ("load", "store") and entry.line.get("thread") is not None:
         return "load_pte", slot
-    if entry.verb in LOADS or entry.verb == "sync":
+    if entry.verb in LOADS:
+        return "load_bad", slot
+    if entry.verb == "sync":
         return "load_bad", ""
     if entry.verb in ("map", "free"):
         return "set_pte", slot
     return "set_cache", f"cache {page}"
+
+
+def _touched(turns: list[Turn]) -> dict[int, str]:
+    """The word that each of a command's turns is about: of a look at bad lines the translation that its access went through."""
+    words, through = {}, ""
+    for turn in turns:
+        through = turn.place if turn.kind == "load_pte" else through
+        words[turn.number] = through if turn.kind == "load_bad" else turn.place
+    return words
 
 
 class TracedOrder:
@@ -49,10 +61,11 @@ class TracedOrder:
         """Finds the turns of a command's entries, in the order of each page."""
         turns = self.trace.of[(cpu, seq)]
         reached: dict[int, int] = {}
+        touched = _touched(turns)
         for place in places:
             entry = self.run.report.pages[place[0]][place[1]]
             kind, word = _step_of(place[0], entry)
-            fits: Callable[[Turn], bool] = lambda turn: turn.kind == kind and turn.place.startswith(word)
+            fits: Callable[[Turn], bool] = lambda turn: turn.kind == kind and word in ("", touched[turn.number])
             start = reached.get(place[0], turns[0].number)
             found = [turn for turn in turns if turn.number >= start and fits(turn)]
             if not found:

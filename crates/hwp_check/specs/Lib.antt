@@ -1,3 +1,4 @@
+pub mod Acting
 pub mod Parting
 pub mod Judging
 pub mod Text

@@ -1,5 +1,5 @@
 -- A line that is out of place, or a wrong answer, breaks the rule of answers.
-use Rattle.std.proofs.Common.{◌≡◌, inl, inr, ℕ, ◌<◌, List, [], Option, Some, IsSomeAnd, count_by, option_and_then, slice_get, take, unwrap_or, refl, sym, ap, ◌∙◌, subst, arith}
+use Rattle.std.proofs.Common.{◌≡◌, inl, inr, ℕ, ◌<◌, List, [], Option, Some, IsSomeAnd, count_by, option_and_then, slice_get, take, unwrap_or, refl, sym, ap, ◌∙◌, subst, arith, true≢false}
 use Rattle.std.proofs.lemmas.Bool.{cases_lt}
 use Rattle.std.proofs.lemmas.Option.{none-some, same_Some}
 use Rattle.hwp_check_evidence.specs.hwp_geom.declared.Cpu.{Cpu}
@@ -15,7 +15,7 @@ use Rattle.hwp_check_evidence.specs.hwp_law.Answers.{named_in}
 use Rattle.hwp_check_evidence.specs.hwp_law.Lines.{answer_among, answer_of, rows_of, seq_of}
 use Rattle.hwp_check_evidence.specs.hwp_law.States.{entry_named}
 use Rattle.hwp_check_evidence.proofs.ListItems.{item_of_take, none_of_take}
-use Rattle.hwp_check_rules.specs.AnswerFaults.{IsOutside, IsRevived, IsUnnamed}
+use Rattle.hwp_check_rules.specs.AnswerFaults.{IsOutside, IsRevived, IsUnnamed, IsNotLast}
 use Rattle.hwp_check_rules.specs.Answered.{is_answer}
 use Rattle.hwp_check_rules.specs.Rules.{AnswersFit}
 use Rattle.hwp_check_answers.specs.Disorders.{AreOrderly}
@@ -24,6 +24,7 @@ use Rattle.hwp_check_evidence.specs.hwp_law_commands.Commands.{command_at}
 use Rattle.hwp_check_answers.specs.Facts.{IsBadOf, at_number}
 use Rattle.hwp_check_answers.specs.Sifting.{IsAnswerLine}
 use Rattle.hwp_check_answers.proofs.NextLaws.{count-rises, next_of}
+use Rattle.hwp_check_evidence.specs.hwp_geom.declared.VSlot.{VSlot}
 
 abbrev told_in : CpuLine → Answer
 told_in (lines.Answer seq answer) = answer
@@ -52,7 +53,7 @@ one-answer commands rows i j seq a b orderly one other = elim (cases_lt i j) [
     second : seq ≡ count_by is_answer (take j rows)
     second = (orderly.in_place j (lines.Answer seq b) other).of_next
 
-module _ (script : Script) (report : Report) (fit : AnswersFit script report) where
+module _ (script : Script) (copies : Who → Option VSlot) (report : Report) (fit : AnswersFit script copies report) where
   orderly-of : (cpu : Cpu) (commands : List Command) (rows : List CpuLine) → slice_get script.lists cpu.0 ≡ Some commands → slice_get report.cpus cpu.0 ≡ Some rows → AreOrderly commands rows
   orderly-of cpu commands rows of_script of_report = let a = fit.answered cpu commands rows of_script of_report in record { in_place = a.in_place; each = a.each }
 
@@ -78,7 +79,7 @@ module _ (script : Script) (report : Report) (fit : AnswersFit script report) wh
       let next = next_of w.commands w.rows w.row (lines.Answer w.seq w.answer) w.there (λ row shown less is. orderly.in_place row shown is) in
       ap (λ (o : Option (List CpuLine)). answer_among (unwrap_or o []) w.seq) w.of_report ∙ ap (answer_among w.rows) number ∙ next.first w.answer (ap (λ (n : ℕ). lines.Answer n w.answer) number)
 
-  no-unnamed : (line : ℕ) (w : IsWrong line) → IsUnnamed report (at_number w.cpu w.seq) w.answer → ⊥
+  no-unnamed : (line : ℕ) (w : IsWrong line) → IsUnnamed copies report (at_number w.cpu w.seq) w.answer → ⊥
   no-unnamed line w u = by named.0 there named.3 named.4
     where
       named : (shown : CpuLine) × (i : ℕ) × IsSomeAnd (slice_get report.cpus w.cpu.0) (λ (rows : List CpuLine). slice_get rows i ≡ Some shown) × (seq_of shown ≡ w.seq) × (named_in shown ≡ Some u.at)
@@ -99,6 +100,10 @@ module _ (script : Script) (report : Report) (fit : AnswersFit script report) wh
       by (lines.Answer seq answer) at own names =
           u.other (ap entry_named (one-answer w.commands w.rows w.row named.1 w.seq w.answer answer (orderly-of w.cpu w.commands w.rows w.of_script w.of_report) w.there (at ∙ ap (λ (n : ℕ). Some (lines.Answer n answer)) own)) ∙ names)
 
+  no-not-last : (line : ℕ) (w : IsWrong line) → IsNotLast copies report (at_number w.cpu w.seq) w.answer → ⊥
+  no-not-last line w n =
+      true≢false (sym n.stores ∙ fit.last (at_number w.cpu w.seq) n.from n.at n.copied (told-is line w ∙ ap Some n.stored) n.later n.entry n.there n.own n.same_page n.behind)
+
   no-outside : (line : ℕ) (w : IsWrong line) → IsOutside report (take w.row w.rows) (at_number w.cpu w.seq) w.answer → ⊥
   no-outside line w o =
       let window = fit.windows w.cpu w.rows w.row w.seq w.answer o.at w.of_report w.there o.names in
@@ -111,12 +116,12 @@ module _ (script : Script) (report : Report) (fit : AnswersFit script report) wh
   no-revived : (line : ℕ) (w : IsWrong line) → IsRevived script report (at_number w.cpu w.seq) w.answer → ⊥
   no-revived line w r = r.wrong (fit.endings r.who (at_number w.cpu w.seq) r.process w.answer r.ended r.before r.process_is (told-is line w))
 
-  pub line_breaks : (line : ℕ) → IsAnswerLine script report line → ⊥
+  pub line_breaks : (line : ℕ) → IsAnswerLine script copies report line → ⊥
   line_breaks line (inl (inl u)) = u.lacks ((fit.answered u.cpu u.commands u.rows u.of_script u.of_report).each u.seq u.within)
   line_breaks line (inl (inr m)) = m.out ((fit.answered (record { 0 = m.cpu }) m.commands m.rows m.of_script m.of_report).in_place m.row m.shown m.there)
   line_breaks line (inr w) = by w.shown w.there w.made w.wrong
     where
-      by : (shown : CpuLine) → slice_get w.rows w.row ≡ Some shown → slice_get w.commands (seq_of shown) ≡ Some w.command → IsBadOf script report w.cpu (take w.row w.rows) w.command shown → ⊥
+      by : (shown : CpuLine) → slice_get w.rows w.row ≡ Some shown → slice_get w.commands (seq_of shown) ≡ Some w.command → IsBadOf script copies report w.cpu (take w.row w.rows) w.command shown → ⊥
       by (lines.Event event) there made wrong = wrong
       by (lines.Guest guest) there made wrong = wrong
       by (lines.Offlined offlined) there made wrong =
@@ -129,8 +134,11 @@ module _ (script : Script) (report : Report) (fit : AnswersFit script report) wh
         | inr rest ↦ elim rest [
           | inl unnamed ↦ no-unnamed line a unnamed
           | inr more ↦ elim more [
-            | inl outside ↦ no-outside line a outside
-            | inr revived ↦ no-revived line a revived
+            | inl not_last ↦ no-not-last line a not_last
+            | inr others ↦ elim others [
+              | inl outside ↦ no-outside line a outside
+              | inr revived ↦ no-revived line a revived
+            ]
           ]
         ]
       ]

@@ -33,6 +33,7 @@ use Rattle.hwp_check_evidence.proofs.NamedLaws.{at-is, named-at}
 use Rattle.hwp_check_evidence.proofs.NameLaws.{beside-some, some-beside}
 use Rattle.hwp_check_causes.proofs.AskLaws.{caused-asked}
 use Rattle.hwp_check_causes.proofs.CauseLaws.{caused_lines}
+use Rattle.hwp_check_evidence.specs.hwp_geom.declared.VSlot.{VSlot}
 
 module _ (script : Script) (report : Report) (later : Who) (answer : Answer) where
   abbrev WasOver : Proc → Type 0
@@ -78,11 +79,11 @@ or-none : (a b : Bool) → a ≡ false → b ≡ false → (a || b) ≡ false
 or-none true b one other = absurd (true≢false one)
 or-none false b one other = other
 
-module _ (report : Report) (who : Who) (answer : Answer) (naming : Naming) (known : IsNaming report who answer naming) where
+module _ (copies : Who → Option VSlot) (report : Report) (who : Who) (answer : Answer) (naming : Naming) (known : IsNaming copies report who answer naming) where
   abbrev place : Option At
   place = get_or naming.names.answers.items who.seq None
 
-  pub unnamed_is : HasOther report.pages who (is_named naming.names who.seq) → IsUnnamed report who answer
+  pub unnamed_is : HasOther report.pages copies who (is_named naming.names who.seq) → IsUnnamed copies report who answer
   unnamed_is h = record {
     at = h.at;
     entry = h.entry;
@@ -94,7 +95,7 @@ module _ (report : Report) (who : Who) (answer : Answer) (naming : Naming) (know
         true≢false (sym (beside-some who.seq h.at (rows_of report who) row line there own names) ∙ sym (known.beside h.at) ∙ or-right (is_at place h.at) (is_noted naming.names.beside who.seq h.at) h.other);
   }
 
-  pub is_unnamed : IsUnnamed report who answer → HasOther report.pages who (is_named naming.names who.seq)
+  pub is_unnamed : IsUnnamed copies report who answer → HasOther report.pages copies who (is_named naming.names who.seq)
   is_unnamed u = record {
     at = u.at;
     entry = u.entry;

@@ -1,6 +1,7 @@
 mod InPlace
 pub mod OrderLaws
 mod JudgeLaws
+mod LastLaws
 mod SoFarLaws
 mod NextLaws
 mod FactLaws

@@ -28,6 +28,7 @@ use Rattle.hwp_check_answers.specs.Firsts.{line_of}
 use Rattle.hwp_check_answers.specs.Offlining.{AreAllDue, AreAllOfflined, AreDueTo, IsAnsweredIf, IsFirstOfflined, IsFirstUndue, IsOfflinedLine, IsUndueLine}
 use Rattle.hwp_check_answers.specs.Placing.{HasNone, HaveAnswers}
 use Rattle.hwp_check_answers.proofs.OrderLaws.{later-line, next-line}
+use Rattle.hwp_check_evidence.specs.hwp_geom.declared.VSlot.{VSlot}
 
 abbrev cpu_of : ℕ → Cpu
 cpu_of n = record { 0 = n }
@@ -61,7 +62,7 @@ none-lacking commands rows found is lacks = subst (IsAnsweredIf commands rows) i
 
 module _ (script : Script) (report : Report) where
   -- where the rule holds no line is such a fault
-  pub offlined_breaks : AnswersFit script report → (line : ℕ) → IsOfflinedLine script report line → ⊥
+  pub offlined_breaks : {copies : Who → Option VSlot} → AnswersFit script copies report → (line : ℕ) → IsOfflinedLine script report line → ⊥
   offlined_breaks fit line (inl (u, watch)) = u.lacks ((fit.answered u.cpu u.commands u.rows u.of_script u.of_report).each u.seq u.within)
   offlined_breaks fit line (inr (inl l)) = none-lacks script report l.who (fit.offlined l.who l.command l.made) l.lacks
   offlined_breaks fit line (inr (inr w)) =

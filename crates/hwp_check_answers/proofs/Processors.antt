@@ -21,21 +21,23 @@ use Rattle.hwp_check_answers.specs.Facts.{at_number}
 use Rattle.hwp_check_answers.specs.Joining.{IsEventLine, IsWrongEvent}
 use Rattle.hwp_check_answers.specs.Firsts.{line_of}
 use Rattle.hwp_check_answers.proofs.Places.{IsShown, Stands, is-shown, stands}
+use Rattle.hwp_check_evidence.specs.hwp_geom.declared.VSlot.{VSlot}
+use Rattle.hwp_check_evidence.specs.hwp_geom.declared.Who.{Who}
 
 abbrev pub cpu_of : ℕ → Cpu
 cpu_of n = record { 0 = n }
 
 -- where all is told as the law asks no line is wrong
-pub no-lack : (script : Script) (report : Report) (line : ℕ) (l : LacksEvents script report line) (list : List Command) → slice_get script.lists l.who.cpu.0 ≡ Some list → AreTold script report l.who.cpu list → ⊥
+pub no-lack : {copies : Who → Option VSlot} (script : Script) (report : Report) (line : ℕ) (l : LacksEvents script copies report line) (list : List Command) → slice_get script.lists l.who.cpu.0 ≡ Some list → AreTold script copies report l.who.cpu list → ⊥
 no-lack script report line l list of told = (told l.who.seq l.command made).enough l.lacks
   where
     made : slice_get list l.who.seq ≡ Some l.command
     made = ap (λ (o : Option (List Command)). option_and_then (λ (c : List Command). slice_get c l.who.seq) o) (sym of) ∙ l.made
 
-pub no-wrong : (script : Script) (report : Report) (line : ℕ) (w : IsWrongEvent script report line) → AreTold script report w.cpu w.commands → ⊥
+pub no-wrong : {copies : Who → Option VSlot} (script : Script) (report : Report) (line : ℕ) (w : IsWrongEvent script copies report line) → AreTold script copies report w.cpu w.commands → ⊥
 no-wrong script report line w told = w.wrong.wrong.wrong ((told (seq_of w.shown) w.command w.made).right (events_before w.rows w.row (seq_of w.shown)) w.wrong.wrong.line w.wrong.wrong.there)
 
-module _ (script : Script) (report : Report) (n : ℕ) (commands : List Command) (rows : List CpuLine) (of_script : slice_get script.lists n ≡ Some commands) (of_report : slice_get report.cpus n ≡ Some rows) where
+module _ (script : Script) (copies : Who → Option VSlot) (report : Report) (n : ℕ) (commands : List Command) (rows : List CpuLine) (of_script : slice_get script.lists n ≡ Some commands) (of_report : slice_get report.cpus n ≡ Some rows) where
   abbrev heading : ℕ
   heading = cpu_line report n
 
@@ -43,13 +45,13 @@ module _ (script : Script) (report : Report) (n : ℕ) (commands : List Command)
   count = length commands
 
   abbrev Lacking : Type 0
-  Lacking = LacksSome script report (cpu_of n) commands rows count
+  Lacking = LacksSome script copies report (cpu_of n) commands rows count
 
   abbrev WrongAt : ℕ → Type 0
-  WrongAt row = IsWrongRow script report (cpu_of n) commands rows count row
+  WrongAt row = IsWrongRow script copies report (cpu_of n) commands rows count row
 
   -- what was found is a line of the report
-  lack-line : Lacking → LacksEvents script report heading
+  lack-line : Lacking → LacksEvents script copies report heading
   lack-line l = record {
     who = record { cpu = cpu_of n; seq = l.seq };
     command = l.command;
@@ -58,7 +60,7 @@ module _ (script : Script) (report : Report) (n : ℕ) (commands : List Command)
     line_is = refl;
   }
 
-  wrong-line : (row : ℕ) → WrongAt row → IsWrongEvent script report (heading + 1 + row)
+  wrong-line : (row : ℕ) → WrongAt row → IsWrongEvent script copies report (heading + 1 + row)
   wrong-line row w = record {
     cpu = cpu_of n;
     commands = commands;
@@ -72,8 +74,8 @@ module _ (script : Script) (report : Report) (n : ℕ) (commands : List Command)
     event = refl;
     made = subst (λ (s : ℕ). slice_get commands s ≡ Some w.command) (sym at.seq_is) w.made;
     line_is = let p : w.shown.place ≡ 0 + at.k = at.place_is in let r : row ≡ w.shown.place = w.row_is in omega (arith, p, r);
-    wrong = subst (λ (s : ℕ). IsEventWrong script report rows at.k (at_number (cpu_of n) s) w.command) (sym at.seq_is) (record {
-      wrong = subst (λ (k : ℕ). IsWrong script report (at_number (cpu_of n) w.seq) w.command (found_by script report (at_number (cpu_of n) w.seq)) (events_of report (at_number (cpu_of n) w.seq)) k) (sym at.number_is) w.wrong;
+    wrong = subst (λ (s : ℕ). IsEventWrong script copies report rows at.k (at_number (cpu_of n) s) w.command) (sym at.seq_is) (record {
+      wrong = subst (λ (k : ℕ). IsWrong script copies report (at_number (cpu_of n) w.seq) w.command (found_by script copies report (at_number (cpu_of n) w.seq)) (events_of report (at_number (cpu_of n) w.seq)) k) (sym at.number_is) w.wrong;
     });
   }
     where
@@ -89,21 +91,21 @@ module _ (script : Script) (report : Report) (n : ℕ) (commands : List Command)
       omega (arith, within, p, r)
 
   -- a line of this processor is one that was to be found
-  line-lack : (line : ℕ) (l : LacksEvents script report line) → l.who.cpu.0 ≡ n → Lacking
+  line-lack : (line : ℕ) (l : LacksEvents script copies report line) → l.who.cpu.0 ≡ n → Lacking
   line-lack line l here = by l.who.cpu (λ i. record { 0 = here i }) l.who.seq l.command l.made l.lacks
     where
       by : (cpu : Cpu) → cpu ≡ cpu_of n → (seq : ℕ) (command : Command) → option_and_then (λ (c : List Command). slice_get c seq) (slice_get script.lists cpu.0) ≡ Some command
-          → Lacks script report (record { cpu = cpu; seq = seq }) command (found_by script report (record { cpu = cpu; seq = seq })) (events_of report (record { cpu = cpu; seq = seq })) → Lacking
-      by cpu is seq command made lacks = record { seq = seq; command = command; within = slice_get_within commands seq command own; made = own; lacks = subst (λ (c : Cpu). Lacks script report (record { cpu = c; seq = seq }) command (found_by script report (record { cpu = c; seq = seq })) (events_of report (record { cpu = c; seq = seq }))) is lacks }
+          → Lacks script copies report (record { cpu = cpu; seq = seq }) command (found_by script copies report (record { cpu = cpu; seq = seq })) (events_of report (record { cpu = cpu; seq = seq })) → Lacking
+      by cpu is seq command made lacks = record { seq = seq; command = command; within = slice_get_within commands seq command own; made = own; lacks = subst (λ (c : Cpu). Lacks script copies report (record { cpu = c; seq = seq }) command (found_by script copies report (record { cpu = c; seq = seq })) (events_of report (record { cpu = c; seq = seq }))) is lacks }
         where
           own : slice_get commands seq ≡ Some command
           own = ap (λ (o : Option (List Command)). option_and_then (λ (c : List Command). slice_get c seq) o) (sym of_script ∙ ap (λ (c : Cpu). slice_get script.lists c.0) (sym is)) ∙ made
 
-  line-wrong : (line : ℕ) (w : IsWrongEvent script report line) → w.cpu.0 ≡ n → WrongAt w.row
+  line-wrong : (line : ℕ) (w : IsWrongEvent script copies report line) → w.cpu.0 ≡ n → WrongAt w.row
   line-wrong line w here = by w.cpu (λ i. record { 0 = here i }) w.commands w.rows w.row w.shown w.command w.of_script w.of_report w.there w.event w.made w.wrong
     where
       by : (cpu : Cpu) → cpu ≡ cpu_of n → (cs : List Command) (rs : List CpuLine) (row : ℕ) (shown : CpuLine) (command : Command) → slice_get script.lists cpu.0 ≡ Some cs → slice_get report.cpus cpu.0 ≡ Some rs → slice_get rs row ≡ Some shown
-          → is_event shown ≡ true → slice_get cs (seq_of shown) ≡ Some command → IsEventWrong script report rs row (at_number cpu (seq_of shown)) command → WrongAt row
+          → is_event shown ≡ true → slice_get cs (seq_of shown) ≡ Some command → IsEventWrong script copies report rs row (at_number cpu (seq_of shown)) command → WrongAt row
       by cpu is cs rs row shown command one other there event made wrong = record {
         seq = seq_of shown;
         command = command;
@@ -128,29 +130,29 @@ module _ (script : Script) (report : Report) (n : ℕ) (commands : List Command)
           at : IsShown (seq_of shown) rows 0 row
           at = is-shown (seq_of shown) rows 0 row shown (subst (λ (r : List CpuLine). slice_get r row ≡ Some shown) rows_are there) event refl
 
-          own_wrong : IsEventWrong script report rows row (at_number (cpu_of n) (seq_of shown)) command
-          own_wrong = subst (λ (c : Cpu). IsEventWrong script report rows row (at_number c (seq_of shown)) command) is (subst (λ (r : List CpuLine). IsEventWrong script report r row (at_number cpu (seq_of shown)) command) rows_are wrong)
+          own_wrong : IsEventWrong script copies report rows row (at_number (cpu_of n) (seq_of shown)) command
+          own_wrong = subst (λ (c : Cpu). IsEventWrong script copies report rows row (at_number c (seq_of shown)) command) is (subst (λ (r : List CpuLine). IsEventWrong script copies report r row (at_number cpu (seq_of shown)) command) rows_are wrong)
 
   -- the first of them
   pub record IsFirst (line : ℕ) : Type 0 where
-    pub at : IsEventLine script report line
+    pub at : IsEventLine script copies report line
     pub within : line < heading + 1 + length rows
-    pub lack : (other : ℕ) (l : LacksEvents script report other) → l.who.cpu.0 ≡ n → line ≤ other
-    pub wrong : (other : ℕ) (w : IsWrongEvent script report other) → w.cpu.0 ≡ n → line ≤ other
+    pub lack : (other : ℕ) (l : LacksEvents script copies report other) → l.who.cpu.0 ≡ n → line ≤ other
+    pub wrong : (other : ℕ) (w : IsWrongEvent script copies report other) → w.cpu.0 ≡ n → line ≤ other
 
   abbrev Law : Type 0
-  Law = AreEventsFrom script report (cpu_of n) 0 commands empty_banks
+  Law = AreEventsFrom script copies report (cpu_of n) 0 commands empty_banks
 
-  own-walked : (found : Misfits) → IsProcessorJudged script report (cpu_of n) commands found → IsWalked script report (cpu_of n) commands rows count found
-  own-walked found judged = subst (λ (o : Option (List CpuLine)). IsWalked script report (cpu_of n) commands (unwrap_or o []) count found) of_report judged.walked
+  own-walked : (found : Misfits) → IsProcessorJudged script copies report (cpu_of n) commands found → IsWalked script copies report (cpu_of n) commands rows count found
+  own-walked found judged = subst (λ (o : Option (List CpuLine)). IsWalked script copies report (cpu_of n) commands (unwrap_or o []) count found) of_report judged.walked
 
-  pub first-line : (found : Misfits) (line : ℕ) → line ≡ heading → IsProcessorJudged script report (cpu_of n) commands found → MatchOption (line_of found line) Law IsFirst
+  pub first-line : (found : Misfits) (line : ℕ) → line ≡ heading → IsProcessorJudged script copies report (cpu_of n) commands found → MatchOption (line_of found line) Law IsFirst
   first-line found line is judged = subst (λ (h : ℕ). MatchOption (line_of found h) Law IsFirst) (sym is) (by found.lacks found.wrong walked.lacks walked.wrong judged.law)
     where
-      walked : IsWalked script report (cpu_of n) commands rows count found
+      walked : IsWalked script copies report (cpu_of n) commands rows count found
       walked = own-walked found judged
 
-      by : (a : Bool) (o : Option ℕ) → MatchBool a Lacking (Lacking → ⊥) → MatchOption o (AllRight script report (cpu_of n) commands rows count) (IsFirstRow script report (cpu_of n) commands rows count)
+      by : (a : Bool) (o : Option ℕ) → MatchBool a Lacking (Lacking → ⊥) → MatchOption o (AllRight script copies report (cpu_of n) commands rows count) (IsFirstRow script copies report (cpu_of n) commands rows count)
           → MatchBool (is_clean (record { lacks = a; wrong = o })) Law (Law → ⊥) → MatchOption (line_of (record { lacks = a; wrong = o }) heading) Law IsFirst
       by true o lacks wrong law = record {
         at = inl (lack-line lacks);
@@ -169,9 +171,9 @@ module _ (script : Script) (report : Report) (n : ℕ) (commands : List Command)
       }
 
   -- the row that was found is one of the processor's
-  pub row-room : (found : Misfits) (row : ℕ) → IsProcessorJudged script report (cpu_of n) commands found → found.wrong ≡ Some row → row < length rows
+  pub row-room : (found : Misfits) (row : ℕ) → IsProcessorJudged script copies report (cpu_of n) commands found → found.wrong ≡ Some row → row < length rows
   row-room found row judged is = by found.wrong is (own-walked found judged).wrong
     where
-      by : (o : Option ℕ) → o ≡ Some row → MatchOption o (AllRight script report (cpu_of n) commands rows count) (IsFirstRow script report (cpu_of n) commands rows count) → row < length rows
+      by : (o : Option ℕ) → o ≡ Some row → MatchOption o (AllRight script copies report (cpu_of n) commands rows count) (IsFirstRow script copies report (cpu_of n) commands rows count) → row < length rows
       by None none right = absurd (none-some row none)
       by (Some r) same first = row-within row (subst WrongAt (same_Some _ _ same) first.at)

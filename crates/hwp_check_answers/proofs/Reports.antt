@@ -9,7 +9,7 @@ use Rattle.hwp_check_evidence.specs.hwp_geom.declared.Cpu.{Cpu}
 use Rattle.hwp_check_evidence.specs.hwp_page.declared.Entry.{Entry}
 use Rattle.hwp_check_evidence.specs.hwp_page.declared.What.{What}
 use Rattle.hwp_check_evidence.specs.hwp_page.declared.What.TheVariants as entries
-use Rattle.hwp_check_evidence.specs.hwp_script_read.Valid.{IsValid}
+use Rattle.hwp_check_rules.specs.hwp_check_acting.Scripts.{IsDeclared}
 use Rattle.hwp_check_evidence.specs.hwp_script_read.declared.Command.{Command}
 use Rattle.hwp_check_evidence.specs.hwp_script_read.declared.Script.{Script}
 use Rattle.hwp_check_evidence.specs.hwp_report_text.declared.CpuLine.{CpuLine}
@@ -26,6 +26,8 @@ use Rattle.hwp_check_rules.specs.Standing.{cpu_height, cpu_line, entry_height, f
 use Rattle.hwp_check_answers.specs.Joining.{BreakEvents, IsEventLine}
 use Rattle.hwp_check_answers.proofs.OrderLaws.{later-line, next-line}
 use Rattle.hwp_check_answers.proofs.Processors.{IsFirst, cpu_of, no-lack, no-wrong}
+use Rattle.hwp_check_evidence.specs.hwp_geom.declared.VSlot.{VSlot}
+use Rattle.hwp_check_evidence.specs.hwp_geom.declared.Who.{Who}
 
 -- a report has a line for each entry
 entry-line : (e : Entry) → 1 ≤ entry_height e
@@ -56,30 +58,30 @@ row-fits None line many last few within room = record {}
 row-fits (Some row) line many last few within room = let f : row < many = few row refl in omega (arith, f, within, room)
 
 -- the processors below this number are as the law asks
-abbrev pub LegalBelow : Script → Report → ℕ → Type 0
-LegalBelow script report n = (cpu : Cpu) (list : List Command) → cpu.0 < n → slice_get script.lists cpu.0 ≡ Some list → AreEventsFrom script report cpu 0 list empty_banks
+abbrev pub LegalBelow : Script → (Who → Option VSlot) → Report → ℕ → Type 0
+LegalBelow script copies report n = (cpu : Cpu) (list : List Command) → cpu.0 < n → slice_get script.lists cpu.0 ≡ Some list → AreEventsFrom script copies report cpu 0 list empty_banks
 
-module _ (script : Script) (report : Report) (valid : IsValid script) (all : All (λ (l : FrameLine). (l.bad.0 < 2 ^ 64) × (l.weak.0 < 2 ^ 64)) report.frames) where
+module _ (script : Script) (copies : Who → Option VSlot) (report : Report) (valid : IsDeclared script) (all : All (λ (l : FrameLine). (l.bad.0 < 2 ^ 64) × (l.weak.0 < 2 ^ 64)) report.frames) where
   abbrev Law : Cpu → List Command → Type 0
-  Law cpu list = AreEventsFrom script report cpu 0 list empty_banks
+  Law cpu list = AreEventsFrom script copies report cpu 0 list empty_banks
 
-  is-told : (cpu : Cpu) (list : List Command) → slice_get script.lists cpu.0 ≡ Some list → Law cpu list → AreTold script report cpu list
-  is-told cpu list of law = (both script report cpu list valid all of).1 law
+  is-told : (cpu : Cpu) (list : List Command) → slice_get script.lists cpu.0 ≡ Some list → Law cpu list → AreTold script copies report cpu list
+  is-told cpu list of law = (both script copies report cpu list valid all of).1 law
 
   -- the list of a command
-  list-of : (line : ℕ) (l : LacksEvents script report line) → (list : List Command) × (slice_get script.lists l.who.cpu.0 ≡ Some list)
+  list-of : (line : ℕ) (l : LacksEvents script copies report line) → (list : List Command) × (slice_get script.lists l.who.cpu.0 ≡ Some list)
   list-of line l = by (slice_get script.lists l.who.cpu.0) refl l.made
     where
       by : (o : Option (List Command)) → slice_get script.lists l.who.cpu.0 ≡ o → option_and_then (λ (c : List Command). slice_get c l.who.seq) o ≡ Some l.command → (list : List Command) × (slice_get script.lists l.who.cpu.0 ≡ Some list)
       by None is none = absurd (none-some l.command none)
       by (Some list) is made = (list, is)
 
-  pub breaks : BreakEvents script report
+  pub breaks : BreakEvents script copies report
   breaks events line (inl l) = let list = list-of line l in no-lack script report line l list.0 list.1 (is-told l.who.cpu list.0 list.1 (events l.who.cpu list.0 list.1))
   breaks events line (inr w) = no-wrong script report line w (is-told w.cpu w.commands w.of_script (events w.cpu w.commands w.of_script))
 
   abbrev Below : ℕ → Type 0
-  Below n = LegalBelow script report n
+  Below n = LegalBelow script copies report n
 
   pub one-more : (n : ℕ) (commands : List Command) → slice_get script.lists n ≡ Some commands → Law (cpu_of n) commands → Below n → Below (n + 1)
   one-more n commands of law below = λ cpu list less there. elim (cases_lt cpu.0 n) [
@@ -90,7 +92,7 @@ module _ (script : Script) (report : Report) (valid : IsValid script) (all : All
         subst (λ (l : List Command). Law cpu l) same (subst (λ (c : Cpu). Law c commands) (λ i. record { 0 = here i }) law)
   ]
 
-  pub all-legal : (n : ℕ) → ShapeFits script report → min (length script.lists) (length report.cpus) ≤ n → Below n → AreEvents script report
+  pub all-legal : (n : ℕ) → ShapeFits script report → min (length script.lists) (length report.cpus) ≤ n → Below n → AreEvents script copies report
   all-legal n shape most below = λ cpu list there. below cpu list
       (let within : cpu.0 < length script.lists = slice_get_within script.lists cpu.0 list there in let a : length report.cpus ≡ script.layout.cpus = shape.cpus in let b : length script.lists ≡ script.layout.cpus = valid.one_each in omega (arith, most, within, a, b)) there
 
@@ -110,10 +112,10 @@ module _ (script : Script) (report : Report) (valid : IsValid script) (all : All
       ]
     ]
 
-    pub least : (line : ℕ) → IsFirst script report n commands rows of_script of_report line → IsLeast (IsEventLine script report) line
+    pub least : (line : ℕ) → IsFirst script copies report n commands rows of_script of_report line → IsLeast (IsEventLine script copies report) line
     least line f = record { at = f.at; first = first }
       where
-        first : (other : ℕ) → IsEventLine script report other → line ≤ other
+        first : (other : ℕ) → IsEventLine script copies report other → line ≤ other
         first other (inl l) = elim (which l.who.cpu.0) [
           | inl low ↦ let list = list-of other l in absurd (no-lack script report other l list.0 list.1 (is-told l.who.cpu list.0 list.1 (below l.who.cpu list.0 low list.1)))
           | inr (inl here) ↦ f.lack other l here
@@ -125,10 +127,10 @@ module _ (script : Script) (report : Report) (valid : IsValid script) (all : All
           | inr (inr later) ↦ let up : line ≤ cpu_line report w.cpu.0 = behind w.cpu.0 line later f.within in let e : other ≡ cpu_line report w.cpu.0 + 1 + w.row = w.line_is in omega (arith, up, e)
         ]
 
-    pub found : (o : Option ℕ) → is_some o ≡ true → MatchOption o (Law (cpu_of n) commands) (IsFirst script report n commands rows of_script of_report) → MatchOption o (AreEvents script report) (IsLeast (IsEventLine script report))
+    pub found : (o : Option ℕ) → is_some o ≡ true → MatchOption o (Law (cpu_of n) commands) (IsFirst script copies report n commands rows of_script of_report) → MatchOption o (AreEvents script copies report) (IsLeast (IsEventLine script copies report))
     found None some first = absurd (true≢false (sym some))
     found (Some line) some first = least line first
 
-    pub legal : (o : Option ℕ) → is_some o ≡ false → MatchOption o (Law (cpu_of n) commands) (IsFirst script report n commands rows of_script of_report) → Law (cpu_of n) commands
+    pub legal : (o : Option ℕ) → is_some o ≡ false → MatchOption o (Law (cpu_of n) commands) (IsFirst script copies report n commands rows of_script of_report) → Law (cpu_of n) commands
     legal None none law = law
     legal (Some line) none first = absurd (true≢false none)

@@ -1,7 +1,7 @@
 -- The first of the lines of answers and of events that are wrong is the first that breaks the rule of answers.
 use Rattle.std.proofs.Common.{◌≡◌, ◌⊎◌, inl, inr, ℕ, ◌≤◌, min, true, Option, Some, None, MatchOption, slice_get, take, refl, sym, ◌∙◌, subst, true≢false, arith}
 use Rattle.std.proofs.lemmas.Bool.{cases_lt}
-use Rattle.hwp_check_evidence.specs.hwp_script_read.Valid.{IsValid}
+use Rattle.hwp_check_rules.specs.hwp_check_acting.Scripts.{IsDeclared}
 use Rattle.hwp_check_evidence.specs.hwp_script_read.declared.Command.{Command}
 use Rattle.hwp_check_evidence.specs.hwp_script_read.declared.Script.{Script}
 use Rattle.hwp_check_evidence.specs.hwp_report_text.declared.CpuLine.{CpuLine}
@@ -11,10 +11,9 @@ use Rattle.hwp_check_evidence.specs.hwp_law.Events.{AreEvents}
 use Rattle.hwp_check_rules.specs.AnswerFaults.{IsAnswerFault, IsEventWrong, IsLineWrong, IsRowFault}
 use Rattle.hwp_check_rules.specs.Answered.{is_event}
 use Rattle.hwp_check_rules.specs.hwp_law.Lines.{seq_of}
-use Rattle.hwp_check_rules.specs.Firsts.{IsLeast, soonest}
-use Rattle.hwp_check_rules.specs.Rules.{AnswersFit}
-use Rattle.hwp_check_rules.specs.declared.Rule.TheVariants.{Answers, Shape}
-use Rattle.hwp_check_rules.specs.Verdicts.{HoldBelow, IsBroken}
+use Rattle.hwp_check_rules.specs.Firsts.{IsLeast, soonest, IsFirstFault, IsClear}
+use Rattle.hwp_check_rules.specs.Rules.{AnswersFit, ShapeFits, HistoriesFit}
+use Rattle.hwp_check_rules.specs.declared.Rule.TheVariants.{Answers}
 use Rattle.hwp_check_answers.specs.Facts.{IsBadOf, at_number}
 use Rattle.hwp_check_answers.specs.Joining.{BreakEvents, IsEventLine, IsWrongEvent}
 use Rattle.hwp_check_answers.specs.Offlining.{AreAllOfflined, IsOfflinedLine}
@@ -22,24 +21,26 @@ use Rattle.hwp_check_answers.specs.Sifting.{AreAllRight, IsAnswerLine, IsWrongLi
 use Rattle.hwp_check_answers.proofs.BreakLaws.{line_breaks}
 use Rattle.hwp_check_answers.proofs.JoinLaws.{no_answer_line}
 use Rattle.hwp_check_answers.proofs.OfflinedOrder.{no_offlined, offlined_breaks}
-use Rattle.hwp_check_answers.proofs.RuleLaws.{all_answered, all_endings, all_named, all_offlined, all_windows}
+use Rattle.hwp_check_answers.proofs.RuleLaws.{all_answered, all_endings, all_named, all_offlined, all_windows, all_last}
+use Rattle.hwp_check_evidence.specs.hwp_geom.declared.VSlot.{VSlot}
+use Rattle.hwp_check_evidence.specs.hwp_geom.declared.Who.{Who}
 
-module _ (script : Script) (report : Report) where
+module _ (script : Script) (copies : Who → Option VSlot) (report : Report) where
   abbrev IsLine : ℕ → Type 0
-  IsLine line = IsAnswerLine script report line ⊎ IsEventLine script report line ⊎ IsOfflinedLine script report line
+  IsLine line = IsAnswerLine script copies report line ⊎ IsEventLine script copies report line ⊎ IsOfflinedLine script report line
 
   -- a fault of a line is one of what it says, of an event, or of a frame that isn't due
-  row-line : (line : ℕ) → IsRowFault script report line → IsLine line
+  row-line : (line : ℕ) → IsRowFault script copies report line → IsLine line
   row-line line f = elim f.wrong [
     | inl out ↦ inl (inl (inr (record { cpu = f.cpu.0; commands = f.commands; rows = f.rows; row = f.row; shown = f.shown; of_script = f.of_script; of_report = f.of_report; there = f.there; line_is = f.line_is; out = out })))
     | inr wrong ↦ by f.shown f.there wrong.0 wrong.1 wrong.2
   ]
     where
-      said : (shown : CpuLine) → slice_get f.rows f.row ≡ Some shown → (command : Command) → slice_get f.commands (seq_of shown) ≡ Some command → IsBadOf script report f.cpu (take f.row f.rows) command shown → IsLine line
+      said : (shown : CpuLine) → slice_get f.rows f.row ≡ Some shown → (command : Command) → slice_get f.commands (seq_of shown) ≡ Some command → IsBadOf script copies report f.cpu (take f.row f.rows) command shown → IsLine line
       said shown there command made wrong =
           inl (inr (record { cpu = f.cpu; commands = f.commands; rows = f.rows; row = f.row; shown = shown; command = command; of_script = f.of_script; of_report = f.of_report; there = there; made = made; line_is = f.line_is; wrong = wrong }))
 
-      by : (shown : CpuLine) → slice_get f.rows f.row ≡ Some shown → (command : Command) → slice_get f.commands (seq_of shown) ≡ Some command → IsLineWrong script report f.cpu f.rows f.row shown command → IsLine line
+      by : (shown : CpuLine) → slice_get f.rows f.row ≡ Some shown → (command : Command) → slice_get f.commands (seq_of shown) ≡ Some command → IsLineWrong script copies report f.cpu f.rows f.row shown command → IsLine line
       by (lines.Answer seq answer) there command made wrong = said (lines.Answer seq answer) there command made wrong
       by (lines.Event line) there command made wrong =
           inr (inl (inr (record {
@@ -62,34 +63,34 @@ module _ (script : Script) (report : Report) where
       by (lines.Offlined offlined) there command made (inr uncaused) = said (lines.Offlined offlined) there command made uncaused
       by (lines.Guest guest) there command made wrong = absurd wrong
 
-  fault-line : (line : ℕ) → IsAnswerFault script report line → IsLine line
+  fault-line : (line : ℕ) → IsAnswerFault script copies report line → IsLine line
   fault-line line (inl unanswered) = inl (inl (inl unanswered))
   fault-line line (inr (inl lacks)) = inr (inl (inl lacks))
   fault-line line (inr (inr (inl lacks))) = inr (inr (inr (inl lacks)))
   fault-line line (inr (inr (inr fault))) = row-line line fault
 
-  event-row : (line : ℕ) (w : IsWrongEvent script report line) → IsLineWrong script report w.cpu w.rows w.row w.shown w.command
+  event-row : (line : ℕ) (w : IsWrongEvent script copies report line) → IsLineWrong script copies report w.cpu w.rows w.row w.shown w.command
   event-row line w = by w.shown w.event w.wrong
     where
-      by : (shown : CpuLine) → is_event shown ≡ true → IsEventWrong script report w.rows w.row (at_number w.cpu (seq_of shown)) w.command → IsLineWrong script report w.cpu w.rows w.row shown w.command
+      by : (shown : CpuLine) → is_event shown ≡ true → IsEventWrong script copies report w.rows w.row (at_number w.cpu (seq_of shown)) w.command → IsLineWrong script copies report w.cpu w.rows w.row shown w.command
       by (lines.Event line) event wrong = wrong
       by (lines.Offlined offlined) event wrong = absurd (true≢false (sym event))
       by (lines.Guest guest) event wrong = absurd (true≢false (sym event))
       by (lines.Answer seq answer) event wrong = absurd (true≢false (sym event))
 
-  said-row : (line : ℕ) (w : IsWrongLine script report line) → IsLineWrong script report w.cpu w.rows w.row w.shown w.command
+  said-row : (line : ℕ) (w : IsWrongLine script copies report line) → IsLineWrong script copies report w.cpu w.rows w.row w.shown w.command
   said-row line w = by w.shown w.wrong
     where
-      by : (shown : CpuLine) → IsBadOf script report w.cpu (take w.row w.rows) w.command shown → IsLineWrong script report w.cpu w.rows w.row shown w.command
+      by : (shown : CpuLine) → IsBadOf script copies report w.cpu (take w.row w.rows) w.command shown → IsLineWrong script copies report w.cpu w.rows w.row shown w.command
       by (lines.Answer seq answer) wrong = wrong
       by (lines.Offlined offlined) wrong = inr wrong
       by (lines.Event event) wrong = absurd wrong
       by (lines.Guest guest) wrong = absurd wrong
 
-  row-fault : {line : ℕ} → IsRowFault script report line → IsAnswerFault script report line
+  row-fault : {line : ℕ} → IsRowFault script copies report line → IsAnswerFault script copies report line
   row-fault fault = inr (inr (inr fault))
 
-  line-fault : (line : ℕ) → IsLine line → IsAnswerFault script report line
+  line-fault : (line : ℕ) → IsLine line → IsAnswerFault script copies report line
   line-fault line (inl (inl (inl unanswered))) = inl unanswered
   line-fault line (inl (inl (inr m))) =
       row-fault (record { cpu = record { 0 = m.cpu }; commands = m.commands; rows = m.rows; row = m.row; shown = m.shown; of_script = m.of_script; of_report = m.of_report; there = m.there; line_is = m.line_is; wrong = inl m.out })
@@ -114,23 +115,24 @@ module _ (script : Script) (report : Report) where
         wrong = inr (w.command, w.made, inl w.undue);
       })
 
-  module _ (valid : IsValid script) (below : HoldBelow 3 script report) (breaks : BreakEvents script report) where
-    fits : AreAllRight script report → AreEvents script report → AreAllOfflined script report → AnswersFit script report
+  module _ (valid : IsDeclared script) (shape : ShapeFits script report) (histories : HistoriesFit script copies report) (breaks : BreakEvents script copies report) where
+    fits : AreAllRight script copies report → AreEvents script copies report → AreAllOfflined script report → AnswersFit script copies report
     fits all events offlined = record {
-      answered = all_answered script report valid below all offlined;
-      named = all_named script report valid below all;
-      windows = all_windows script report valid below all;
-      endings = all_endings script report valid below all;
+      answered = all_answered script copies report valid shape histories all offlined;
+      named = all_named script copies report valid shape histories all;
+      last = all_last script copies report valid shape histories all;
+      windows = all_windows script copies report valid shape histories all;
+      endings = all_endings script copies report valid shape histories all;
       events = events;
-      offlined = all_offlined script report valid below all offlined;
+      offlined = all_offlined script copies report valid shape histories all offlined;
     }
 
-    no-line : AnswersFit script report → (line : ℕ) → IsLine line → ⊥
-    no-line fit line (inl of-answers) = line_breaks script report fit line of-answers
+    no-line : AnswersFit script copies report → (line : ℕ) → IsLine line → ⊥
+    no-line fit line (inl of-answers) = line_breaks script copies report fit line of-answers
     no-line fit line (inr (inl of-events)) = breaks fit.events line of-events
     no-line fit line (inr (inr of-offlined)) = offlined_breaks script report fit line of-offlined
 
-    broken-by : (line : ℕ) → IsLine line → ((other : ℕ) → IsLine other → line ≤ other) → IsBroken Answers script report line
+    broken-by : (line : ℕ) → IsLine line → ((other : ℕ) → IsLine other → line ≤ other) → IsFirstFault (AnswersFit script copies report) (IsAnswerFault script copies report) line
     broken-by line at first = record { broken = λ fit. no-line fit line at; at = line-fault line at; first = λ other fault. first other (fault-line other fault) }
 
     -- the lower of two first lines is the first of both kinds
@@ -157,29 +159,29 @@ module _ (script : Script) (report : Report) where
       ];
     }
 
-    pub all_lines : (of-answers of-events of-offlined : Option ℕ) → MatchOption of-answers (AreAllRight script report) (IsLeast (IsAnswerLine script report)) → MatchOption of-events (AreEvents script report) (IsLeast (IsEventLine script report))
-        → MatchOption of-offlined (AreAllOfflined script report) (IsLeast (IsOfflinedLine script report)) → MatchOption (soonest (soonest of-answers of-events) of-offlined) (AnswersFit script report) (IsBroken Answers script report)
+    pub all_lines : (of-answers of-events of-offlined : Option ℕ) → MatchOption of-answers (AreAllRight script copies report) (IsLeast (IsAnswerLine script copies report)) → MatchOption of-events (AreEvents script copies report) (IsLeast (IsEventLine script copies report))
+        → MatchOption of-offlined (AreAllOfflined script report) (IsLeast (IsOfflinedLine script report)) → MatchOption (soonest (soonest of-answers of-events) of-offlined) (IsClear (AnswersFit script copies report) (IsAnswerFault script copies report)) (IsFirstFault (AnswersFit script copies report) (IsAnswerFault script copies report))
     all_lines of-answers of-events of-offlined answers events offlined =
         by (soonest (soonest of-answers of-events) of-offlined)
-        (two (λ line. IsAnswerLine script report line ⊎ IsEventLine script report line) (IsOfflinedLine script report) (AreAllRight script report × AreEvents script report) (AreAllOfflined script report) (soonest of-answers of-events) of-offlined
-        (λ both line is. elim is [ inl a ↦ no_answer_line script report both.0 line a | inr e ↦ breaks both.1 line e ])
+        (two (λ line. IsAnswerLine script copies report line ⊎ IsEventLine script copies report line) (IsOfflinedLine script report) (AreAllRight script copies report × AreEvents script copies report) (AreAllOfflined script report) (soonest of-answers of-events) of-offlined
+        (λ both line is. elim is [ inl a ↦ no_answer_line script copies report both.0 line a | inr e ↦ breaks both.1 line e ])
         (λ all line is. none-offlined all line is)
-        (two (IsAnswerLine script report) (IsEventLine script report) (AreAllRight script report) (AreEvents script report) of-answers of-events (λ all line is. no_answer_line script report all line is) (λ all line is. breaks all line is) answers events) offlined)
+        (two (IsAnswerLine script copies report) (IsEventLine script copies report) (AreAllRight script copies report) (AreEvents script copies report) of-answers of-events (λ all line is. no_answer_line script copies report all line is) (λ all line is. breaks all line is) answers events) offlined)
       where
         none-offlined : AreAllOfflined script report → (line : ℕ) → IsOfflinedLine script report line → ⊥
-        none-offlined all line is = no_offlined script report (valid.one_each ∙ sym (below Shape (omega arith)).cpus) all line is
+        none-offlined all line is = no_offlined script report (valid.one_each ∙ sym shape.cpus) all line is
 
-        by : (found : Option ℕ) → Of (λ line. (IsAnswerLine script report line ⊎ IsEventLine script report line) ⊎ IsOfflinedLine script report line) ((AreAllRight script report × AreEvents script report) × AreAllOfflined script report) found
-            → MatchOption found (AnswersFit script report) (IsBroken Answers script report)
-        by None all = fits all.0.0 all.0.1 all.1
+        by : (found : Option ℕ) → Of (λ line. (IsAnswerLine script copies report line ⊎ IsEventLine script copies report line) ⊎ IsOfflinedLine script report line) ((AreAllRight script copies report × AreEvents script copies report) × AreAllOfflined script report) found
+            → MatchOption found (IsClear (AnswersFit script copies report) (IsAnswerFault script copies report)) (IsFirstFault (AnswersFit script copies report) (IsAnswerFault script copies report))
+        by None all = let fit : AnswersFit script copies report = fits all.0.0 all.0.1 all.1 in record { fits = fit; none = λ line fault. no-line fit line (fault-line line fault) }
         by (Some line) least = broken-by line (turned line least.at) (λ other is. least.first other (back other is))
           where
-            turned : (line : ℕ) → (IsAnswerLine script report line ⊎ IsEventLine script report line) ⊎ IsOfflinedLine script report line → IsLine line
+            turned : (line : ℕ) → (IsAnswerLine script copies report line ⊎ IsEventLine script copies report line) ⊎ IsOfflinedLine script report line → IsLine line
             turned line (inl (inl a)) = inl a
             turned line (inl (inr e)) = inr (inl e)
             turned line (inr o) = inr (inr o)
 
-            back : (line : ℕ) → IsLine line → (IsAnswerLine script report line ⊎ IsEventLine script report line) ⊎ IsOfflinedLine script report line
+            back : (line : ℕ) → IsLine line → (IsAnswerLine script copies report line ⊎ IsEventLine script copies report line) ⊎ IsOfflinedLine script report line
             back line (inl a) = inl (inl a)
             back line (inr (inl e)) = inl (inr e)
             back line (inr (inr o)) = inr o

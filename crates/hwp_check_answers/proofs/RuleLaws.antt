@@ -8,7 +8,7 @@ use Rattle.hwp_check_evidence.specs.hwp_geom.declared.Proc.{Proc}
 use Rattle.hwp_check_evidence.specs.hwp_geom.declared.Who.{Who}
 use Rattle.hwp_check_evidence.specs.hwp_page.declared.At.{At}
 use Rattle.hwp_check_evidence.specs.hwp_page.declared.Entry.{Entry}
-use Rattle.hwp_check_evidence.specs.hwp_script_read.Valid.{IsValid}
+use Rattle.hwp_check_rules.specs.hwp_check_acting.Scripts.{IsDeclared}
 use Rattle.hwp_check_evidence.specs.hwp_script_read.declared.Command.{Command}
 use Rattle.hwp_check_evidence.specs.hwp_script_read.declared.Script.{Script}
 use Rattle.hwp_check_evidence.specs.hwp_report_text.declared.Answer.{Answer}
@@ -17,7 +17,7 @@ use Rattle.hwp_check_evidence.specs.hwp_report_text.declared.CpuLine.{CpuLine}
 use Rattle.hwp_check_evidence.specs.hwp_report_text.declared.CpuLine.TheVariants as lines
 use Rattle.hwp_check_evidence.specs.hwp_report_text.declared.OfflinedLine.{OfflinedLine}
 use Rattle.hwp_check_evidence.specs.hwp_report_text.declared.Report.{Report}
-use Rattle.hwp_check_evidence.specs.hwp_law.Answers.{AreInWindows, AreNamed, IsNamed}
+use Rattle.hwp_check_evidence.specs.hwp_law.Answers.{AreInWindows, IsNamed}
 use Rattle.hwp_check_evidence.specs.hwp_law_commands.Commands.{command_at, process_at, process_of_thread, thread_of}
 use Rattle.hwp_check_evidence.specs.hwp_law.Endings.{EndingsStay, IsOver}
 use Rattle.hwp_check_evidence.specs.hwp_law.Lines.{AnswerLine, answer_among, answer_in, rows_of}
@@ -30,14 +30,15 @@ use Rattle.hwp_check_evidence.specs.hwp_law.Offlined.{AreOfflined, IsOffline}
 use Rattle.hwp_check_rules.proofs.OfflinedFaults.{lines-offlined}
 use Rattle.hwp_check_rules.specs.AnswerFaults.{IsDue}
 use Rattle.hwp_check_rules.specs.Answered.{AreAnswered, HasAnswer, is_answer}
-use Rattle.hwp_check_rules.specs.declared.Rule.TheVariants.{Histories, Shape}
-use Rattle.hwp_check_rules.specs.Verdicts.{HoldBelow}
 use Rattle.hwp_check_answers.specs.Disorders.{AreOrderly}
 use Rattle.hwp_check_answers.specs.Facts.{at_number}
 use Rattle.hwp_check_answers.specs.Judging.{IsGood}
 use Rattle.hwp_check_answers.specs.Offlining.{AreAllDue, AreAllOfflined}
 use Rattle.hwp_check_answers.specs.Sifting.{AreAllRight}
 use Rattle.hwp_check_answers.proofs.NextLaws.{count-rises}
+use Rattle.hwp_check_rules.specs.Rules.{ShapeFits, HistoriesFit}
+use Rattle.hwp_check_evidence.specs.hwp_law.Copies.{AreLastStores, AreNamed, is_store}
+use Rattle.hwp_check_evidence.specs.hwp_geom.declared.VSlot.{VSlot}
 
 some-there : {A : Type 0} (o : Option A) (P : A → Type 0) → IsSomeAnd o P → (x : A) × (o ≡ Some x)
 some-there None P holds = absurd holds
@@ -93,9 +94,9 @@ earlier-before commands rows i j seq later answer last orderly one other low = e
       ]
 ]
 
-module _ (script : Script) (report : Report) (valid : IsValid script) (below : HoldBelow 3 script report) where
+module _ (script : Script) (copies : Who → Option VSlot) (report : Report) (valid : IsDeclared script) (shape : ShapeFits script report) (histories : HistoriesFit script copies report) where
   many : length script.lists ≡ length report.cpus
-  many = valid.one_each ∙ sym (below Shape (omega arith)).cpus
+  many = valid.one_each ∙ sym shape.cpus
 
   -- a command that there is, with its list and its processor's lines
   record Made (who : Who) (command : Command) : Type 0 where
@@ -127,9 +128,9 @@ module _ (script : Script) (report : Report) (valid : IsValid script) (below : H
       by None at got = absurd (none-some process got)
       by (Some command) at got = (command, at)
 
-  module _ (all : AreAllRight script report) where
+  module _ (all : AreAllRight script copies report) where
     good-at : (cpu : Cpu) (list : List Command) (rows : List CpuLine) (row seq : ℕ) (answer : Answer) (command : Command) → slice_get script.lists cpu.0 ≡ Some list → slice_get report.cpus cpu.0 ≡ Some rows
-        → slice_get rows row ≡ Some (lines.Answer seq answer) → slice_get list seq ≡ Some command → IsGood script report (take row rows) (at_number cpu seq) command answer
+        → slice_get rows row ≡ Some (lines.Answer seq answer) → slice_get list seq ≡ Some command → IsGood script copies report (take row rows) (at_number cpu seq) command answer
     good-at cpu list rows row seq answer command of_script of_report there is =
         all.good cpu list rows of_script of_report row (lines.Answer seq answer) (slice_get_within rows row (lines.Answer seq answer) there) there command is
 
@@ -172,11 +173,11 @@ module _ (script : Script) (report : Report) (valid : IsValid script) (below : H
             subst (λ (n : ℕ). IsOffline script report (at_number who.cpu n) line.frame line.result) own
             (all.good who.cpu m.list m.rows m.of_script m.of_report row (lines.Offlined line) (slice_get_within m.rows row (lines.Offlined line) there) there command (ap (slice_get m.list) own ∙ m.there))
 
-    pub all_named : AreNamed report.pages report.cpus
+    pub all_named : AreNamed copies report.pages report.cpus
     all_named at e there answering = which (is_at (entry_named has.answer) at) (list_any (names_beside e.who.seq at) m.rows) refl refl
       where
         command : (command : Command) × (command_at script e.who ≡ Some command)
-        command = some-there (command_at script e.who) _ ((below Histories (omega arith)).made at e there)
+        command = some-there (command_at script e.who) _ (histories.made at e there)
 
         m : Made e.who command.0
         m = made e.who command.0 command.1
@@ -184,7 +185,7 @@ module _ (script : Script) (report : Report) (valid : IsValid script) (below : H
         has : HasAnswer m.rows e.who.seq
         has = (all.orderly e.who.cpu.0 m.list m.rows m.of_script m.of_report).each e.who.seq (slice_get_within m.list e.who.seq command.0 m.there)
 
-        good : IsGood script report (take has.row m.rows) (at_number e.who.cpu e.who.seq) command.0 has.answer
+        good : IsGood script copies report (take has.row m.rows) (at_number e.who.cpu e.who.seq) command.0 has.answer
         good = good-at e.who.cpu m.list m.rows has.row e.who.seq has.answer command.0 m.of_script m.of_report has.there m.there
 
         shown : (i : ℕ) (line : CpuLine) → slice_get m.rows i ≡ Some line → IsSomeAnd (slice_get report.cpus e.who.cpu.0) (λ (rows : List CpuLine). slice_get rows i ≡ Some line)
@@ -207,6 +208,25 @@ module _ (script : Script) (report : Report) (valid : IsValid script) (below : H
               other = λ same. true≢false (sym (named-at (entry_named has.answer) at same) ∙ is);
               beside = λ row line at_row own names. true≢false (sym (beside-some e.who.seq at m.rows row line (subst (λ (r : List CpuLine). slice_get r row ≡ Some (lines.Offlined line)) rows_are at_row) own names) ∙ any);
             }))
+
+    pub all_last : AreLastStores copies report
+    all_last who from at copied told later e there own same_page behind = by (is_store e.what) refl
+      where
+        command : (command : Command) × (command_at script who ≡ Some command)
+        command = subst (λ (w : Who). (command : Command) × (command_at script w ≡ Some command)) own (some-there (command_at script e.who) _ (histories.made later e there))
+
+        m : Made who command.0
+        m = made who command.0 command.1
+
+        row : (row : ℕ) × (slice_get m.rows row ≡ Some (lines.Answer who.seq (answers.Stored at)))
+        row = answer-line m.rows who.seq (answers.Stored at) (sym (ap (λ (o : Option (List CpuLine)). answer_among (unwrap_or o []) who.seq) m.of_report) ∙ told)
+
+        good : IsGood script copies report (take row.0 m.rows) (at_number who.cpu who.seq) command.0 (answers.Stored at)
+        good = good-at who.cpu m.list m.rows row.0 who.seq (answers.Stored at) command.0 m.of_script m.of_report row.1 m.there
+
+        by : (b : Bool) → is_store e.what ≡ b → b ≡ false
+        by false is = refl
+        by true is = absurd (good.last (record { from = from; at = at; later = later; entry = e; copied = copied; stored = refl; there = there; own = own; same_page = same_page; behind = behind; stores = is }))
 
     pub all_windows : AreInWindows report.pages report.cpus
     all_windows cpu rows i seq answer at of_report there names =

@@ -13,19 +13,21 @@ use Rattle.hwp_check_evidence.specs.hwp_report_text.declared.Report.{Report}
 use Rattle.hwp_check_evidence.proofs.ListItems.{item_at}
 use Rattle.hwp_check_rules.specs.hwp_law.Lines.{seq_of}
 use Rattle.hwp_check_rules.specs.Standing.{cpu_line}
-use Rattle.hwp_check_rules.specs.declared.Rule.TheVariants.{Shape}
-use Rattle.hwp_check_rules.specs.Verdicts.{HoldBelow}
 use Rattle.hwp_check_answers.specs.Facts.{IsBadOf, IsGoodOf}
 use Rattle.hwp_check_answers.specs.Placing.{AreInPlace, IsFirstOut}
 use Rattle.hwp_check_answers.specs.Sifting.{AreAllSound, AreSound, IsBehind, IsCut, IsFirstAnswer, IsUnsound, IsWrongLine}
 use Rattle.hwp_check_answers.proofs.OrderLaws.{later-line, next-line}
+use Rattle.hwp_check_rules.specs.Rules.{ShapeFits}
+use Rattle.hwp_check_evidence.specs.hwp_geom.declared.VSlot.{VSlot}
+use Rattle.hwp_check_evidence.specs.hwp_geom.declared.Who.{Who}
 
 -- what is good isn't wrong
-pub good-not-wrong : (script : Script) (report : Report) (cpu : Cpu) (before : List CpuLine) (command : Command) (shown : CpuLine) → IsGoodOf script report cpu before command shown → IsBadOf script report cpu before command shown → ⊥
+pub good-not-wrong : {copies : Who → Option VSlot} (script : Script) (report : Report) (cpu : Cpu) (before : List CpuLine) (command : Command) (shown : CpuLine) → IsGoodOf script copies report cpu before command shown → IsBadOf script copies report cpu before command shown → ⊥
 good-not-wrong script report cpu before command (lines.Answer seq answer) good (inl wrong) = wrong good.right
 good-not-wrong script report cpu before command (lines.Answer seq answer) good (inr (inl wrong)) = good.named wrong
-good-not-wrong script report cpu before command (lines.Answer seq answer) good (inr (inr (inl wrong))) = good.within wrong
-good-not-wrong script report cpu before command (lines.Answer seq answer) good (inr (inr (inr wrong))) = good.stays wrong
+good-not-wrong script report cpu before command (lines.Answer seq answer) good (inr (inr (inl wrong))) = good.last wrong
+good-not-wrong script report cpu before command (lines.Answer seq answer) good (inr (inr (inr (inl wrong)))) = good.within wrong
+good-not-wrong script report cpu before command (lines.Answer seq answer) good (inr (inr (inr (inr wrong)))) = good.stays wrong
 good-not-wrong script report cpu before command (lines.Offlined line) good wrong = wrong good
 good-not-wrong script report cpu before command (lines.Event event) good wrong = wrong
 good-not-wrong script report cpu before command (lines.Guest guest) good wrong = wrong
@@ -45,29 +47,29 @@ pub list_there : {X : Type 0} (lists : List (List X)) (n : ℕ) (list : List X) 
 list_there {X = X} lists n list inside is = let x = item_at lists n inside in x.1 ∙ ap Some (sym (is ∙ ap (λ (o : Option (List X)). unwrap_or o []) x.1))
 
 -- the processors below this number are sound
-abbrev pub SoundBelow : Script → Report → ℕ → Type 0
-SoundBelow script report n =
-    (cpu : Cpu) (commands : List Command) (rows : List CpuLine) → cpu.0 < n → slice_get script.lists cpu.0 ≡ Some commands → slice_get report.cpus cpu.0 ≡ Some rows → AreSound script report cpu commands rows
+abbrev pub SoundBelow : Script → (Who → Option VSlot) → Report → ℕ → Type 0
+SoundBelow script copies report n =
+    (cpu : Cpu) (commands : List Command) (rows : List CpuLine) → cpu.0 < n → slice_get script.lists cpu.0 ≡ Some commands → slice_get report.cpus cpu.0 ≡ Some rows → AreSound script copies report cpu commands rows
 
-pub sound_more : (script : Script) (report : Report) (n : ℕ) (commands : List Command) (rows : List CpuLine) → slice_get script.lists n ≡ Some commands → slice_get report.cpus n ≡ Some rows
-    → AreSound script report (record { 0 = n }) commands rows → SoundBelow script report n → SoundBelow script report (n + 1)
-sound_more script report n commands rows of_script of_report sound below cpu cs rs less one other = elim (cases_lt cpu.0 n) [
+pub sound_more : {copies : Who → Option VSlot} (script : Script) (report : Report) (n : ℕ) (commands : List Command) (rows : List CpuLine) → slice_get script.lists n ≡ Some commands → slice_get report.cpus n ≡ Some rows
+    → AreSound script copies report (record { 0 = n }) commands rows → SoundBelow script copies report n → SoundBelow script copies report (n + 1)
+sound_more {copies = copies} script report n commands rows of_script of_report sound below cpu cs rs less one other = elim (cases_lt cpu.0 n) [
   | inl low ↦ below cpu cs rs low one other
   | inr high ↦
       let here : n ≡ cpu.0 = omega (arith, less, high) in
       let commands_are : commands ≡ cs = same_Some _ _ (sym of_script ∙ ap (slice_get script.lists) here ∙ one) in
       let rows_are : rows ≡ rs = same_Some _ _ (sym of_report ∙ ap (slice_get report.cpus) here ∙ other) in
-      subst (λ (c : Cpu). AreSound script report c cs rs) (same-cpu (record { 0 = n }) cpu here)
-      (subst (λ (c : List Command). AreSound script report (record { 0 = n }) c rs) commands_are (subst (λ (r : List CpuLine). AreSound script report (record { 0 = n }) commands r) rows_are sound))
+      subst (λ (c : Cpu). AreSound script copies report c cs rs) (same-cpu (record { 0 = n }) cpu here)
+      (subst (λ (c : List Command). AreSound script copies report (record { 0 = n }) c rs) commands_are (subst (λ (r : List CpuLine). AreSound script copies report (record { 0 = n }) commands r) rows_are sound))
 ]
 
-pub all_sound : (script : Script) (report : Report) (n : ℕ) → length report.cpus ≤ n → SoundBelow script report n → AreAllSound script report
+pub all_sound : {copies : Who → Option VSlot} (script : Script) (report : Report) (n : ℕ) → length report.cpus ≤ n → SoundBelow script copies report n → AreAllSound script copies report
 all_sound script report n all below cpu commands rows one other =
     below cpu commands rows (let w : cpu.0 < length report.cpus = slice_get_within report.cpus cpu.0 rows other in omega (arith, w, all)) one other
 
-module _ (script : Script) (report : Report) where
+module _ (script : Script) (copies : Who → Option VSlot) (report : Report) where
   -- a wrong answer of a sound processor stands behind a line that is out of place
-  pub behind : (w : ℕ) (wrong : IsWrongLine script report w) → AreSound script report wrong.cpu wrong.commands wrong.rows → IsBehind script report w
+  pub behind : (w : ℕ) (wrong : IsWrongLine script copies report w) → AreSound script copies report wrong.cpu wrong.commands wrong.rows → IsBehind script report w
   behind w wrong sound = elim (cases_lt wrong.row sound.end) [
     | inl low ↦ absurd (good-not-wrong script report wrong.cpu (take wrong.row wrong.rows) wrong.command wrong.shown (sound.good wrong.row wrong.shown low wrong.there wrong.command wrong.made) wrong.wrong)
     | inr high ↦ elim sound.cut.whole [
@@ -80,12 +82,12 @@ module _ (script : Script) (report : Report) where
     ]
   ]
 
-  module _ (n heading line : ℕ) (commands : List Command) (rows : List CpuLine) (of_script : slice_get script.lists n ≡ Some commands) (of_report : slice_get report.cpus n ≡ Some rows) (heading_is : heading ≡ cpu_line report n) (below : SoundBelow script report n) where
+  module _ (n heading line : ℕ) (commands : List Command) (rows : List CpuLine) (of_script : slice_get script.lists n ≡ Some commands) (of_report : slice_get report.cpus n ≡ Some rows) (heading_is : heading ≡ cpu_line report n) (below : SoundBelow script copies report n) where
     abbrev here : Cpu
     here = record { 0 = n }
 
     -- the first wrong answer of the first processor that has one is that of the report
-    pub first_answer : IsUnsound script report here commands rows heading line → IsFirstAnswer script report line
+    pub first_answer : IsUnsound script copies report here commands rows heading line → IsFirstAnswer script copies report line
     first_answer u = record {
       at = record {
         cpu = here;
@@ -116,7 +118,7 @@ module _ (script : Script) (report : Report) where
           | inr most ↦ absurd (apart (omega (arith, high, most)))
         ]
 
-        after : (other : ℕ) (w : IsWrongLine script report other) → n + 1 ≤ w.cpu.0 → IsUnsound script report here commands rows heading line → line ≤ other
+        after : (other : ℕ) (w : IsWrongLine script copies report other) → n + 1 ≤ w.cpu.0 → IsUnsound script copies report here commands rows heading line → line ≤ other
         after other w less v =
             let next : cpu_line report (n + 1) ≡ cpu_line report n + 1 + length rows = next-line report n rows of_report in
             let rises : cpu_line report (n + 1) ≤ cpu_line report w.cpu.0 = later-line report (n + 1) w.cpu.0 less in
@@ -125,7 +127,7 @@ module _ (script : Script) (report : Report) where
             let o : other ≡ cpu_line report w.cpu.0 + 1 + w.row = w.line_is in
             omega (arith, next, rises, inside, l, o, heading_is)
 
-        in-here : (other : ℕ) (w : IsWrongLine script report other) → n ≡ w.cpu.0 → IsUnsound script report here commands rows heading line → line ≤ other
+        in-here : (other : ℕ) (w : IsWrongLine script copies report other) → n ≡ w.cpu.0 → IsUnsound script copies report here commands rows heading line → line ≤ other
         in-here other w same v = elim (cases_lt w.row v.row) [
           | inl low ↦
               let rows_are : w.rows ≡ rows = same_Some _ _ (sym w.of_report ∙ ap (slice_get report.cpus) (sym same) ∙ of_report) in
@@ -133,10 +135,10 @@ module _ (script : Script) (report : Report) where
               let cpu_is : here ≡ w.cpu = same-cpu here w.cpu same in
               let there : slice_get rows w.row ≡ Some w.shown = subst (λ (r : List CpuLine). slice_get r w.row ≡ Some w.shown) rows_are w.there in
               let made : slice_get commands (seq_of w.shown) ≡ Some w.command = subst (λ (c : List Command). slice_get c (seq_of w.shown) ≡ Some w.command) commands_are w.made in
-              let good : IsGoodOf script report here (take w.row rows) w.command w.shown = v.bad.before w.row w.shown low there w.command made in
+              let good : IsGoodOf script copies report here (take w.row rows) w.command w.shown = v.bad.before w.row w.shown low there w.command made in
               absurd (good-not-wrong script report w.cpu (take w.row w.rows) w.command w.shown
-              (subst (λ (c : Cpu). IsGoodOf script report c (take w.row w.rows) w.command w.shown) cpu_is
-              (subst (λ (r : List CpuLine). IsGoodOf script report here (take w.row r) w.command w.shown) (sym rows_are) good)) w.wrong)
+              (subst (λ (c : Cpu). IsGoodOf script copies report c (take w.row w.rows) w.command w.shown) cpu_is
+              (subst (λ (r : List CpuLine). IsGoodOf script copies report here (take w.row r) w.command w.shown) (sym rows_are) good)) w.wrong)
           | inr high ↦
               let l : line ≡ heading + 1 + v.row = v.line_is in
               let o : other ≡ cpu_line report w.cpu.0 + 1 + w.row = w.line_is in
@@ -145,17 +147,17 @@ module _ (script : Script) (report : Report) where
         ]
 
   pub found_answer : (n heading : ℕ) (commands : List Command) (rows : List CpuLine) (found : Option ℕ) → slice_get script.lists n ≡ Some commands → slice_get report.cpus n ≡ Some rows → heading ≡ cpu_line report n
-      → SoundBelow script report n → is_some found ≡ true → MatchOption found (AreSound script report (record { 0 = n }) commands rows) (λ line. IsUnsound script report (record { 0 = n }) commands rows heading line)
-      → MatchOption found (AreAllSound script report) (IsFirstAnswer script report)
+      → SoundBelow script copies report n → is_some found ≡ true → MatchOption found (AreSound script copies report (record { 0 = n }) commands rows) (λ line. IsUnsound script copies report (record { 0 = n }) commands rows heading line)
+      → MatchOption found (AreAllSound script copies report) (IsFirstAnswer script copies report)
   found_answer n heading commands rows None of_script of_report is below some sound = absurd (true≢false (sym some))
   found_answer n heading commands rows (Some line) of_script of_report is below some unsound = first_answer n heading line commands rows of_script of_report is below unsound
 
 -- no wrong answer was found in a processor, and then it is sound
-pub none_sound : (script : Script) (report : Report) (n heading : ℕ) (commands : List Command) (rows : List CpuLine) (found : Option ℕ) → found ≡ None
-    → MatchOption found (AreSound script report (record { 0 = n }) commands rows) (λ line. IsUnsound script report (record { 0 = n }) commands rows heading line) → AreSound script report (record { 0 = n }) commands rows
-none_sound script report n heading commands rows found none is =
-    subst (λ (o : Option ℕ). MatchOption o (AreSound script report (record { 0 = n }) commands rows) (λ line. IsUnsound script report (record { 0 = n }) commands rows heading line)) none is
+pub none_sound : {copies : Who → Option VSlot} (script : Script) (report : Report) (n heading : ℕ) (commands : List Command) (rows : List CpuLine) (found : Option ℕ) → found ≡ None
+    → MatchOption found (AreSound script copies report (record { 0 = n }) commands rows) (λ line. IsUnsound script copies report (record { 0 = n }) commands rows heading line) → AreSound script copies report (record { 0 = n }) commands rows
+none_sound {copies = copies} script report n heading commands rows found none is =
+    subst (λ (o : Option ℕ). MatchOption o (AreSound script copies report (record { 0 = n }) commands rows) (λ line. IsUnsound script copies report (record { 0 = n }) commands rows heading line)) none is
 
 -- a report of the right shape has as many processors as its script
-pub cpus_fit : (script : Script) (report : Report) → HoldBelow 3 script report → length report.cpus ≡ script.layout.cpus
-cpus_fit script report below = (below Shape (omega arith)).cpus
+pub cpus_fit : (script : Script) (report : Report) → ShapeFits script report → length report.cpus ≡ script.layout.cpus
+cpus_fit script report shape = shape.cpus

@@ -1,5 +1,5 @@
 -- The walk over a processor's lines.
-use Rattle.std.proofs.Common.{◌≡◌, ◌↔◌, IsTrue, inl, inr, ℕ, ◌+◌, Bool, true, false, true≢false, List, Some, None, MatchBool, count_by, slice_get, take, refl, sym, ap, ◌∙◌, subst, arith}
+use Rattle.std.proofs.Common.{◌≡◌, ◌↔◌, IsTrue, inl, inr, ℕ, ◌+◌, Bool, true, false, true≢false, List, Some, None, MatchBool, count_by, slice_get, take, refl, sym, ap, ◌∙◌, subst, arith, Option}
 use Rattle.std.proofs.lemmas.Bool.{cases_lt}
 use Rattle.std.proofs.lemmas.List.Sums.{count_by_more_no, count_by_more_yes}
 use Rattle.std.proofs.lemmas.Option.{get_or_from_slice_get, none-some, same_Some, slice_get_within}
@@ -17,6 +17,8 @@ use Rattle.hwp_check_answers.specs.Facts.{AreGoodRows, IsGoodRow, at_number}
 use Rattle.hwp_check_answers.specs.Judging.{next_seq}
 use Rattle.hwp_check_answers.specs.Values.{ProcessorValue}
 use Rattle.hwp_check_answers.specs.Walk.{IsBadLine, IsGoodAt, IsGoodLine, IsWrongAt}
+use Rattle.hwp_check_evidence.specs.hwp_geom.declared.VSlot.{VSlot}
+use Rattle.hwp_check_evidence.specs.hwp_geom.declared.Who.{Who}
 
 -- the number of the next command
 pub next_count : (rows : List CpuLine) (row : ℕ) (line : CpuLine) → slice_get rows row ≡ Some line → next_seq (count_by is_answer (take row rows)) line ≡ count_by is_answer (take (row + 1) rows)
@@ -34,14 +36,14 @@ next_count rows row (lines.Answer seq answer) there =
     (ap is_answer (get_or_from_slice_get rows row (lines.Answer seq answer) (lines.Answer seq answer) there)))
 
 -- one good line more
-pub good_more : (script : Script) (report : Report) (cpu : Cpu) (commands : List Command) (rows : List CpuLine) (n : ℕ) (line : CpuLine) → slice_get rows n ≡ Some line
-    → IsGoodRow script report cpu commands (take n rows) line → AreGoodRows script report cpu commands rows n → AreGoodRows script report cpu commands rows (n + 1)
-good_more script report cpu commands rows n line there good before row other less is = elim (cases_lt row n) [
+pub good_more : {copies : Who → Option VSlot} (script : Script) (report : Report) (cpu : Cpu) (commands : List Command) (rows : List CpuLine) (n : ℕ) (line : CpuLine) → slice_get rows n ≡ Some line
+    → IsGoodRow script copies report cpu commands (take n rows) line → AreGoodRows script copies report cpu commands rows n → AreGoodRows script copies report cpu commands rows (n + 1)
+good_more {copies = copies} script report cpu commands rows n line there good before row other less is = elim (cases_lt row n) [
   | inl low ↦ before row other low is
   | inr high ↦
       let here : row ≡ n = omega (arith, less, high) in
       let same : line ≡ other = same_Some _ _ (sym there ∙ ap (slice_get rows) (sym here) ∙ is) in
-      subst (λ (m : ℕ). IsGoodRow script report cpu commands (take m rows) other) (sym here) (subst (λ (l : CpuLine). IsGoodRow script report cpu commands (take n rows) l) same good)
+      subst (λ (m : ℕ). IsGoodRow script copies report cpu commands (take m rows) other) (sym here) (subst (λ (l : CpuLine). IsGoodRow script copies report cpu commands (take n rows) l) same good)
 ]
 
 module _ (p : ProcessorValue) (number : ℕ) where

@@ -1,5 +1,5 @@
 -- What clauses see of a processor, and of the answer that a command was given.
-use Rattle.std.specs.Prelude.{List}
+use Rattle.std.specs.Prelude.{List, Option}
 use Rattle.hwp_check_evidence.specs.hwp_geom.declared.Cpu.{Cpu}
 use Rattle.hwp_check_evidence.specs.hwp_geom.declared.Who.{Who}
 use Rattle.hwp_check_evidence.specs.hwp_script_read.declared.Command.{Command}
@@ -7,10 +7,12 @@ use Rattle.hwp_check_evidence.specs.hwp_script_read.declared.Script.{Script}
 use Rattle.hwp_check_evidence.specs.hwp_report_text.declared.Answer.{Answer}
 use Rattle.hwp_check_evidence.specs.hwp_report_text.declared.CpuLine.{CpuLine}
 use Rattle.hwp_check_evidence.specs.hwp_report_text.declared.Report.{Report}
+use Rattle.hwp_check_evidence.specs.hwp_geom.declared.VSlot.{VSlot}
 
 -- a processor, with its commands in the script and its lines in the report
 pub record ProcessorValue : Type 0 where
   pub script : Script
+  pub copies : Who → Option VSlot
   pub report : Report
   pub cpu : Cpu
   pub commands : List Command
@@ -19,6 +21,7 @@ pub record ProcessorValue : Type 0 where
 -- an answer, after these lines of the command's processor
 pub record AnswerValue : Type 0 where
   pub script : Script
+  pub copies : Who → Option VSlot
   pub report : Report
   pub who : Who
   pub command : Command

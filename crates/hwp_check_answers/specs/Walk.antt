@@ -21,35 +21,35 @@ AreSoFarAt p number seq so_far = AreSoFar p.script p.report (take number p.rows)
 
 -- nothing is wrong about the answer of the command `seq` there; or something is
 abbrev pub IsGoodAt : ProcessorValue → ℕ → ℕ → Command → Answer → Type 0
-IsGoodAt p number seq command answer = IsGood p.script p.report (take number p.rows) (at_number p.cpu seq) command answer
+IsGoodAt p number seq command answer = IsGood p.script p.copies p.report (take number p.rows) (at_number p.cpu seq) command answer
 
 abbrev pub IsWrongAt : ProcessorValue → ℕ → ℕ → Command → Answer → Type 0
-IsWrongAt p number seq command answer = IsAnswerWrong p.script p.report (take number p.rows) (at_number p.cpu seq) command answer
+IsWrongAt p number seq command answer = IsAnswerWrong p.script p.copies p.report (take number p.rows) (at_number p.cpu seq) command answer
 
 -- the same of an answer as it was given
 abbrev pub IsRightlyGiven : AnswerValue → Type 0
-IsRightlyGiven g = IsGood g.script g.report g.before g.who g.command g.answer
+IsRightlyGiven g = IsGood g.script g.copies g.report g.before g.who g.command g.answer
 
 abbrev pub IsWronglyGiven : AnswerValue → Type 0
-IsWronglyGiven g = IsAnswerWrong g.script g.report g.before g.who g.command g.answer
+IsWronglyGiven g = IsAnswerWrong g.script g.copies g.report g.before g.who g.command g.answer
 
 -- the same of a line, if it is an answer
 abbrev pub IsGoodLine : ProcessorValue → ℕ → CpuLine → Type 0
-IsGoodLine p number line = IsGoodRow p.script p.report p.cpu p.commands (take number p.rows) line
+IsGoodLine p number line = IsGoodRow p.script p.copies p.report p.cpu p.commands (take number p.rows) line
 
 abbrev pub IsBadLine : ProcessorValue → ℕ → CpuLine → Type 0
-IsBadLine p number line = IsBadRow p.script p.report p.cpu p.commands (take number p.rows) line
+IsBadLine p number line = IsBadRow p.script p.copies p.report p.cpu p.commands (take number p.rows) line
 
 -- the lines before `end` are good; or this is the first of them that isn't
 abbrev pub AreGoodLines : ProcessorValue → ℕ → Type 0
-AreGoodLines p end = AreGoodRows p.script p.report p.cpu p.commands p.rows end
+AreGoodLines p end = AreGoodRows p.script p.copies p.report p.cpu p.commands p.rows end
 
 abbrev pub IsFirstBadLine : ProcessorValue → ℕ → ℕ → Type 0
-IsFirstBadLine p end row = IsFirstBad p.script p.report p.cpu p.commands p.rows end row
+IsFirstBadLine p end row = IsFirstBad p.script p.copies p.report p.cpu p.commands p.rows end row
 
 -- so are those in place; or this is the report's line of the first that isn't, where the processor's heading stands at `heading`
 abbrev pub AreSoundLines : ProcessorValue → Type 0
-AreSoundLines p = AreSound p.script p.report p.cpu p.commands p.rows
+AreSoundLines p = AreSound p.script p.copies p.report p.cpu p.commands p.rows
 
 abbrev pub IsUnsoundLine : ProcessorValue → ℕ → ℕ → Type 0
-IsUnsoundLine p heading line = IsUnsound p.script p.report p.cpu p.commands p.rows heading line
+IsUnsoundLine p heading line = IsUnsound p.script p.copies p.report p.cpu p.commands p.rows heading line

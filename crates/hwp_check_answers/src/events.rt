@@ -1,14 +1,16 @@
 ghost use Rattle.std.specs.Prelude.{◌≡◌, ◌≤◌, ◌<◌, ◌+◌, ◌^◌, IfOk, IfSome, MatchOption};
-ghost use Rattle.hwp_check_evidence.specs.hwp_script_read.Valid.{IsValid};
+ghost use Rattle.hwp_check_rules.specs.hwp_check_acting.Scripts.{IsDeclared};
 ghost use Rattle.hwp_check_evidence.specs.hwp_law.Events.{AreEvents};
 ghost use Rattle.hwp_check_rules.specs.Firsts.{IsLeast};
 ghost use Rattle.hwp_check_rules.specs.Rules.{ShapeFits};
 ghost use Rattle.hwp_check_rules.specs.Standing.{last_line};
 ghost use Rattle.hwp_check_answers.specs.Joining.{BreakEvents, IsEventLine};
 ghost use Rattle.hwp_check_answers.specs.Firsts.{line_of};
+ghost use Rattle.hwp_check_rules.specs.hwp_check_acting.ActedOn.{copies_in};
 
 use hwp_check_rules::{
-    Cpu, Misfits, OutOfMemory, Report, Script, checkers_of, cpu_at, processor_faults, small_masks,
+    Cpu, List, Misfits, OutOfMemory, Report, Script, VSlot, checkers_of, cpu_at, processor_faults,
+    small_masks,
 };
 use std::alloc::Global;
 
@@ -30,12 +32,13 @@ pub(crate) fn line_of(found: Misfits, heading: u64) -> Option<u64>
 pub(crate) fn event_lines(
     alloc: Global,
     script: &Script,
+    copies: &[List<Option<VSlot>>],
     report: &Report,
 ) -> Result<Option<u64>, OutOfMemory>
-    requires valid { IsValid script.now }
+    requires valid { IsDeclared script.now }
     requires room { last_line report.now < 2 ^ 64 }
     requires shape { ShapeFits script.now report.now }
-    ensures { IfOk result (λ found. MatchOption found (AreEvents script.now report.now) (IsLeast (IsEventLine script.now report.now))) }
+    ensures { IfOk result (λ found. MatchOption found (AreEvents script.now (copies_in copies.now) report.now) (IsLeast (IsEventLine script.now (copies_in copies.now) report.now))) }
 {
     small_masks(report);
     let checkers = checkers_of(alloc, report)?;
@@ -44,7 +47,9 @@ pub(crate) fn event_lines(
     for cpu in 0..script.lists.len().min(report.cpus.len()) {
         let rows = report.cpus.as_slice()[cpu].as_slice();
         let commands = script.lists.as_slice()[cpu].as_slice();
-        let found = processor_faults(alloc, script, report, Cpu(cpu as u8), commands, all)?;
+        let found = processor_faults(
+            alloc, script, copies, report, Cpu(cpu as u8), commands, all,
+        )?;
         let at = line_of(found, line);
         if at.is_some() {
             return Ok(at);
@@ -55,10 +60,11 @@ pub(crate) fn event_lines(
 }
 
 /// Such a line breaks the rule of events.
-pub(crate) fn lines_break(script: &Script, report: &Report)
-    requires { IsValid script.now }
-    ensures { BreakEvents script.now report.now }
+pub(crate) fn lines_break(script: &Script, copies: &[List<Option<VSlot>>], report: &Report)
+    requires { IsDeclared script.now }
+    ensures { BreakEvents script.now (copies_in copies.now) report.now }
 {
     let _script = script;
+    let _copies = copies;
     small_masks(report);
 }

@@ -3,11 +3,14 @@ ghost use Rattle.hwp_check_evidence.specs.hwp_geom.Limits.{page_limit};
 ghost use Rattle.hwp_check_evidence.specs.hwp_kill.declared.Policy.TheVariants.{Default};
 ghost use Rattle.hwp_check_answers.specs.Facts.{AreFacts, AreNamings};
 ghost use Rattle.hwp_check_causes.specs.Knowing.{IsOwn};
+ghost use Rattle.hwp_check_rules.specs.hwp_check_acting.ActedOn.{copies_in};
 
 use crate::judging::Naming;
 use hwp_check_causes::{CommandFacts, ProcessorFacts, own_of, policies_before};
 use hwp_check_evidence::{event_counts, event_ends, names_of};
-use hwp_check_rules::{Command, Cpu, CpuLine, OutOfMemory, Policy, Report, Script};
+use hwp_check_rules::{
+    Command, Cpu, CpuLine, Layout, List, OutOfMemory, Policy, Report, Script, VSlot,
+};
 use std::alloc::Global;
 
 /// What is known of the commands of one processor by their numbers.
@@ -24,12 +27,13 @@ pub struct Facts {
 /// What is known of the commands of a processor with these lines.
 pub(crate) fn facts_of(
     alloc: Global,
+    layout: &Layout,
     commands: &[Command],
     rows: &[CpuLine],
 ) -> Result<Facts, OutOfMemory>
-    ensures { IfOk result (λ facts. AreFacts commands.now rows.now facts) }
+    ensures { IfOk result (λ facts. AreFacts layout.now commands.now rows.now facts) }
 {
-    let policies = policies_before(alloc, commands, rows)?;
+    let policies = policies_before(alloc, layout, commands, rows)?;
     let counts = event_counts(alloc, commands.len(), rows)?;
     let ends = event_ends(alloc, commands.len(), rows)?;
     Ok(Facts {
@@ -43,6 +47,7 @@ pub(crate) fn facts_of(
 pub(crate) fn own_and_naming(
     alloc: Global,
     script: &Script,
+    copies: &[List<Option<VSlot>>],
     report: &Report,
     cpu: Cpu,
     commands: &[Command],
@@ -50,11 +55,11 @@ pub(crate) fn own_and_naming(
 ) -> Result<(ProcessorFacts, Naming), OutOfMemory>
     requires { length report.now.pages ≤ page_limit }
     ensures own { IfOk result (λ known. IsOwn script.now report.now cpu known.0) }
-    ensures naming { IfOk result (λ known. AreNamings report.now cpu commands.now rows.now known.1) }
+    ensures naming { IfOk result (λ known. AreNamings (copies_in copies.now) report.now cpu commands.now rows.now known.1) }
 {
     let count = commands.len();
     let names = names_of(alloc, count, rows)?;
-    let (own, others) = own_of(alloc, script, report, cpu, count, &names)?;
+    let (own, others) = own_of(alloc, script, report, cpu, count, &names, copies)?;
     Ok((own, Naming { names, others }))
 }
 

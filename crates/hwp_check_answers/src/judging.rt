@@ -1,16 +1,17 @@
-ghost use Rattle.std.specs.Prelude.{◌≡◌, ◌⊎◌, ◌↔◌, ◌<◌, IsTrue, MatchBool, Some, length, slice_index_or, false};
+ghost use Rattle.std.specs.Prelude.{◌≡◌, ◌⊎◌, ◌↔◌, ◌<◌, IsTrue, MatchBool, Some, drop, length, slice_index_or, false};
 ghost use Rattle.hwp_check_evidence.specs.hwp_law_commands.Commands.{process_at};
 ghost use Rattle.hwp_check_evidence.specs.hwp_law.Endings.{IsOver};
 ghost use Rattle.hwp_check_evidence.specs.hwp_law.States.{IsInWindow, state_named};
 ghost use Rattle.hwp_check_evidence.specs.Ends.{HadEnded};
-ghost use Rattle.hwp_check_rules.specs.AnswerFaults.{IsOutside, IsRevived, IsUnnamed};
-ghost use Rattle.hwp_check_answers.specs.Judging.{HadGone};
+ghost use Rattle.hwp_check_rules.specs.AnswerFaults.{IsNotLast, IsOutside, IsRevived, IsUnnamed};
+ghost use Rattle.hwp_check_answers.specs.Judging.{HadGone, HasStoreBehind, StoresPast, is_own_store};
+ghost use Rattle.std.specs.List.{list_any};
 ghost use Rattle.hwp_check_answers.specs.Walk.{IsRightlyGiven, IsWronglyGiven};
 
 use crate::given::GivenAnswer;
 use hwp_check_causes::{is_right, named_state, process_at};
 use hwp_check_evidence::{Names, had_ended, is_elsewhere, is_in_span, is_not_below};
-use hwp_check_rules::{Answer, At, Proc};
+use hwp_check_rules::{Answer, At, Entry, Proc, Report, What, Who, copy_of};
 
 /// What the lines before an answer tell.
 #[derive(Drop)]
@@ -110,15 +111,67 @@ fn is_outside(given: &GivenAnswer<'_>) -> bool
 
 /// Whether the command has an entry that a line of it has to name, and none does.
 fn is_unnamed(given: &GivenAnswer<'_>) -> bool
-    ensures { IsTrue result ↔ IsUnnamed given.now.report given.now.who given.now.answer }
+    ensures { IsTrue result ↔ IsUnnamed given.now.copies given.now.report given.now.who given.now.answer }
 {
     let pages = given.case.report().pages.as_slice();
     is_elsewhere(
         pages,
         &given.naming.names,
+        given.copies,
         given.naming.others.as_slice(),
         given.case.who(),
     )
+}
+
+/// Whether an entry of the command is a store.
+fn is_own_store(who: Who, entry: &Entry) -> bool
+    ensures { result ≡ is_own_store who entry.now }
+{
+    entry.who.cpu.0 == who.cpu.0 && entry.who.seq == who.seq && matches!(entry.what, What::Store { .. })
+}
+
+/// Whether the command has a store among the entries behind so many.
+fn stores_behind(who: Who, entries: &[Entry], many: u64) -> bool
+    ensures { result ≡ list_any (is_own_store who) (drop many entries.now) }
+{
+    if many >= entries.len() as u64 {
+        return false;
+    }
+    entries[many as usize..]
+        .iter()
+        .any(|entry| is_own_store(who, entry))
+}
+
+/// Whether the command has a store in the page behind the place.
+#[tactic(auto, using(crate::proofs::LastLaws::behind_has, crate::proofs::LastLaws::has_behind))]
+fn has_store_behind(report: &Report, who: Who, at: At) -> bool
+    ensures { IsTrue result ↔ HasStoreBehind report.now who at }
+{
+    match report.pages.as_slice().get(usize::from(at.page.0)) {
+        Some(entries) => stores_behind(who, entries.as_slice(), at.entry + 1),
+        None => false,
+    }
+}
+
+/// Whether the command stores behind the place that its answer names by `stored`.
+fn stores_past(given: &GivenAnswer<'_>) -> bool
+    ensures { IsTrue result ↔ StoresPast given.now.report given.now.who given.now.answer }
+{
+    match given.answer {
+        Answer::Stored(at) => has_store_behind(given.case.report(), given.case.who(), *at),
+        _ => false,
+    }
+}
+
+/// Whether the command copied a page, and stores behind the place that its answer names.
+#[tactic(auto, using(crate::proofs::LastLaws::not_last, crate::proofs::LastLaws::last_not))]
+fn is_not_last(given: &GivenAnswer<'_>) -> bool
+    ensures { IsTrue result ↔ IsNotLast given.now.copies given.now.report given.now.who given.now.answer }
+{
+    match copy_of(given.copies, given.case.who()) {
+        Some(_) => stores_past(given),
+        None => false,
+    }
 }
 
 /// Whether nothing is wrong about an answer.
@@ -130,6 +183,9 @@ pub(crate) fn is_good(given: &GivenAnswer<'_>) -> bool
         return false;
     }
     if is_unnamed(given) {
+        return false;
+    }
+    if is_not_last(given) {
         return false;
     }
     if is_outside(given) {

@@ -1,5 +1,5 @@
 ghost use Rattle.std.specs.Prelude.{◌≡◌, ◌+◌, ◌<◌, ◌^◌, IfOk, MatchOption, Some, length, slice_get};
-ghost use Rattle.hwp_check_evidence.specs.hwp_script_read.Valid.{IsValid};
+ghost use Rattle.hwp_check_rules.specs.hwp_check_acting.Scripts.{IsDeclared};
 ghost use Rattle.hwp_check_rules.specs.Firsts.{IsLeast};
 ghost use Rattle.hwp_check_rules.specs.Rules.{ShapeFits};
 ghost use Rattle.hwp_check_rules.specs.Standing.{last_line};
@@ -36,7 +36,7 @@ fn offlined_line(
     rows: &[CpuLine],
     heading: u64,
 ) -> Result<Option<u64>, OutOfMemory>
-    requires valid { IsValid script.now }
+    requires valid { IsDeclared script.now }
     requires of_script { slice_get script.now.lists cpu.0 ≡ Some commands.now }
     requires of_report { slice_get report.now.cpus cpu.0 ≡ Some rows.now }
     requires room { heading + 1 + length rows.now < 2 ^ 64 }
@@ -59,7 +59,7 @@ pub(crate) fn offlined_lines(
     script: &Script,
     report: &Report,
 ) -> Result<Option<u64>, OutOfMemory>
-    requires valid { IsValid script.now }
+    requires valid { IsDeclared script.now }
     requires room { last_line report.now < 2 ^ 64 }
     requires shape { ShapeFits script.now report.now }
     ensures { IfOk result (λ found. MatchOption found (AreAllOfflined script.now report.now) (IsLeast (IsOfflinedLine script.now report.now))) }

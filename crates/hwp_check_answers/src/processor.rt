@@ -1,13 +1,14 @@
 ghost use Rattle.std.specs.Prelude.{◌≡◌, ◌≤◌, ◌<◌, IfOk, Some, length, slice_get};
 ghost use Rattle.std.specs.Option.{option_copied};
 ghost use Rattle.hwp_check_evidence.specs.hwp_geom.Limits.{page_limit};
+ghost use Rattle.hwp_check_rules.specs.hwp_check_acting.ActedOn.{copies_in};
 ghost use Rattle.hwp_check_answers.specs.Facts.{at_number};
 ghost use Rattle.hwp_check_causes.specs.Knowing.{IsKnown};
 
 use crate::facts::{Facts, facts_of, own_and_naming, told_at};
 use crate::judging::Naming;
 use hwp_check_causes::{Case, ProcessorFacts, ReportFacts};
-use hwp_check_rules::{Command, Cpu, CpuLine, OutOfMemory, Report, Script, Who};
+use hwp_check_rules::{Command, Cpu, CpuLine, List, OutOfMemory, Report, Script, VSlot, Who};
 use std::alloc::Global;
 use std::marker::Model;
 
@@ -16,6 +17,7 @@ use std::marker::Model;
 #[derive(Drop)]
 pub(crate) struct JudgedProcessor<'a> {
     pub(crate) script: &'a Script,
+    pub(crate) copies: &'a [List<Option<VSlot>>],
     pub(crate) report: &'a Report,
     pub(crate) cpu: Cpu,
     pub(crate) commands: &'a [Command],
@@ -27,14 +29,15 @@ pub(crate) struct JudgedProcessor<'a> {
 }
 
 impl<'a> Model for JudgedProcessor<'a> {
+    ghost use Rattle.hwp_check_rules.specs.hwp_check_acting.ActedOn.{copies_in};
     ghost use Rattle.hwp_check_answers.specs.Facts.{IsReady};
     ghost use Rattle.hwp_check_answers.specs.Values.{ProcessorValue};
 
     ghost Value = { ProcessorValue };
 
-    ghost view = { λ p. record { script = p.script.now; report = p.report.now; cpu = p.cpu; commands = p.commands.now; rows = p.rows.now } };
+    ghost view = { λ p. record { script = p.script.now; copies = copies_in p.copies.now; report = p.report.now; cpu = p.cpu; commands = p.commands.now; rows = p.rows.now } };
 
-    ghost invariant = { λ p. IsReady p.script.now p.report.now p.cpu p.commands.now p.rows.now p.known.now p.own p.facts p.naming };
+    ghost invariant = { λ p. IsReady p.script.now (copies_in p.copies.now) p.report.now p.cpu p.commands.now p.rows.now p.known.now p.own p.facts p.naming };
 }
 
 impl<'a> JudgedProcessor<'a> {
@@ -42,6 +45,7 @@ impl<'a> JudgedProcessor<'a> {
     pub(crate) fn new(
         alloc: Global,
         script: &'a Script,
+        copies: &'a [List<Option<VSlot>>],
         report: &'a Report,
         known: &'a ReportFacts,
         cpu: Cpu,
@@ -52,12 +56,13 @@ impl<'a> JudgedProcessor<'a> {
         requires known { IsKnown script.now report.now known.now }
         requires of_script { slice_get script.now.lists cpu.0 ≡ Some commands.now }
         requires of_report { slice_get report.now.cpus cpu.0 ≡ Some rows.now }
-        ensures { IfOk result (λ processor. processor ≡ record { script = script.now; report = report.now; cpu = cpu; commands = commands.now; rows = rows.now }) }
+        ensures { IfOk result (λ processor. processor ≡ record { script = script.now; copies = copies_in copies.now; report = report.now; cpu = cpu; commands = commands.now; rows = rows.now }) }
     {
-        let (own, naming) = own_and_naming(alloc, script, report, cpu, commands, rows)?;
-        let facts = facts_of(alloc, commands, rows)?;
+        let (own, naming) = own_and_naming(alloc, script, copies, report, cpu, commands, rows)?;
+        let facts = facts_of(alloc, &script.layout, commands, rows)?;
         Ok(JudgedProcessor {
             script,
+            copies,
             report,
             cpu,
             commands,

@@ -1,9 +1,10 @@
 ghost use Rattle.std.specs.Prelude.{◌+◌, ◌<◌, ◌^◌, IfOk, MatchOption, length};
-ghost use Rattle.hwp_check_evidence.specs.hwp_script_read.Valid.{IsValid};
+ghost use Rattle.hwp_check_rules.specs.hwp_check_acting.Scripts.{IsDeclared};
 ghost use Rattle.hwp_check_answers.specs.Sifting.{AreAllSound, IsCut, IsFirstAnswer};
 ghost use Rattle.hwp_check_answers.specs.Walk.{AreGoodLines, AreSoundLines, IsFirstBadLine, IsUnsoundLine};
 ghost use Rattle.hwp_check_rules.specs.Standing.{last_line};
-ghost use Rattle.hwp_check_rules.specs.Verdicts.{HoldBelow};
+ghost use Rattle.hwp_check_rules.specs.hwp_check_acting.ActedOn.{copies_in};
+ghost use Rattle.hwp_check_rules.specs.Rules.{ShapeFits, AreLegal};
 
 use crate::placing::first_out;
 use crate::processor::JudgedProcessor;
@@ -11,7 +12,7 @@ use crate::so_far::begin;
 use crate::walk::first_bad;
 use hwp_check_causes::known_of;
 use hwp_check_rules::{
-    Command, Cpu, CpuLine, OutOfMemory, Report, Script, commands_of, cpu_at, rows_on,
+    Command, Cpu, CpuLine, List, OutOfMemory, Report, Script, VSlot, commands_of, cpu_at, rows_on,
 };
 use std::alloc::Global;
 
@@ -59,12 +60,14 @@ fn unsound(
 pub(crate) fn unsound_answers(
     alloc: Global,
     script: &Script,
+    copies: &[List<Option<VSlot>>],
     report: &Report,
 ) -> Result<Option<u64>, OutOfMemory>
-    requires valid { IsValid script.now }
+    requires valid { IsDeclared script.now }
     requires room { last_line report.now < 2 ^ 64 }
-    requires below { HoldBelow 3 script.now report.now }
-    ensures { IfOk result (λ found. MatchOption found (AreAllSound script.now report.now) (IsFirstAnswer script.now report.now)) }
+    requires shape { ShapeFits script.now report.now }
+    requires histories { AreLegal script.now report.now }
+    ensures { IfOk result (λ found. MatchOption found (AreAllSound script.now (copies_in copies.now) report.now) (IsFirstAnswer script.now (copies_in copies.now) report.now)) }
 {
     let known = known_of(alloc, script, report)?;
     let mut line = cpu_at(report, 0);
@@ -72,7 +75,9 @@ pub(crate) fn unsound_answers(
         let cpu = Cpu(number);
         let commands = commands_of(script, cpu);
         let rows = rows_on(report, cpu);
-        let processor = JudgedProcessor::new(alloc, script, report, &known, cpu, commands, rows)?;
+        let processor = JudgedProcessor::new(
+            alloc, script, copies, report, &known, cpu, commands, rows,
+        )?;
         let found = unsound(alloc, &processor, line)?;
         if found.is_some() {
             return Ok(found);

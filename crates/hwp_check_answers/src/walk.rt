@@ -35,6 +35,7 @@ fn is_good_command<'a>(
         before: &processor.rows[..number],
         so_far,
         naming: &processor.naming,
+        copies: processor.copies,
     })
 }
 

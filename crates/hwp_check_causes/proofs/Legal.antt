@@ -14,13 +14,11 @@ use Rattle.hwp_check_evidence.specs.hwp_page.declared.Entry.{Entry}
 use Rattle.hwp_check_evidence.specs.hwp_page.declared.PageState.{PageState}
 use Rattle.hwp_check_evidence.specs.hwp_page.declared.What.{What}
 use Rattle.hwp_check_evidence.specs.hwp_page.declared.What.TheVariants as entries
-use Rattle.hwp_check_evidence.specs.hwp_script_read.Valid.{IsValid}
+use Rattle.hwp_check_rules.specs.hwp_check_acting.Scripts.{IsDeclared}
 use Rattle.hwp_check_evidence.specs.hwp_script_read.declared.Script.{Script}
 use Rattle.hwp_check_evidence.specs.hwp_report_text.declared.Report.{Report}
 use Rattle.hwp_check_evidence.specs.Glances.{AreLegalSteps}
-use Rattle.hwp_check_rules.specs.Rules.{HistoriesFit, ShapeFits}
-use Rattle.hwp_check_rules.specs.declared.Rule.TheVariants.{Histories, Shape}
-use Rattle.hwp_check_rules.specs.Verdicts.{HoldBelow}
+use Rattle.hwp_check_rules.specs.Rules.{ShapeFits, AreLegal}
 
 declared : (o : Option TransDecl) (P : TransDecl → Type 0) → IsSomeAnd o P → (t : TransDecl) × (o ≡ Some t)
 declared None P some = absurd some
@@ -39,17 +37,11 @@ all-within layout page state last [] sound leads = All-nil (λ (e : Entry). Maps
 all-within layout page state last (e ∷ rest) sound leads =
     All-cons (λ (x : Entry). MapsWithin x.what) e rest (slot-within layout page state e.what sound leads.0) (all-within layout page (after state e.what) last rest sound leads.1)
 
-module _ (script : Script) (report : Report) (below : HoldBelow 3 script report) where
-  histories : HistoriesFit script report
-  histories = below Histories (omega arith)
-
-  shape : ShapeFits script report
-  shape = below Shape (omega arith)
-
-  pub legal_steps : IsValid script → AreLegalSteps report.pages
-  legal_steps valid page list there =
-      let h = histories.legal (record { 0 = page }) list there in
+module _ (script : Script) (report : Report) where
+  pub legal_steps : AreLegal script report → IsDeclared script → AreLegalSteps report.pages
+  legal_steps histories valid page list there =
+      let h = histories (record { 0 = page }) list there in
       all-within script.layout (record { 0 = page }) (opening_of h.1.kind (is_locked script.layout (record { 0 = page }))) h.0 list valid.sound h.1.leads
 
-  pub pages_fit : length script.layout.pages ≡ length report.pages
-  pages_fit = sym shape.pages
+  pub pages_fit : ShapeFits script report → length script.layout.pages ≡ length report.pages
+  pages_fit shape = sym shape.pages

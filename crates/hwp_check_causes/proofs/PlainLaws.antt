@@ -29,6 +29,7 @@ caused-plain script report who (commands.Log status addr misc) answers.Done plai
 caused-plain script report who (commands.Bad frame line) answers.Done plain h = h
 caused-plain script report who (commands.Weak frame line) answers.Done plain h = h
 caused-plain script report who (commands.Watch threshold window) answers.Done plain h = h
+caused-plain script report who (commands.Fork thread process) answers.Done plain h = h
 caused-plain script report who (commands.Prctl thread args) answers.Done plain h = absurd (true≢false (sym plain))
 caused-plain script report who (commands.Unpoison frame) answers.Done plain h = absurd (true≢false (sym plain))
 caused-plain script report who (commands.Inject frame) answers.Done plain h = absurd h.1
@@ -83,6 +84,7 @@ plain-caused script report who (commands.Log status addr misc) answers.Done h = 
 plain-caused script report who (commands.Bad frame line) answers.Done h = h
 plain-caused script report who (commands.Weak frame line) answers.Done h = h
 plain-caused script report who (commands.Watch threshold window) answers.Done h = h
+plain-caused script report who (commands.Fork thread process) answers.Done h = h
 plain-caused script report who command answers.Done h = absurd h
 plain-caused script report who (commands.Fsync file) (answers.Eio lost) h = h
 plain-caused script report who command (answers.Eio lost) h = absurd h

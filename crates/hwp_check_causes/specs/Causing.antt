@@ -38,6 +38,7 @@ is_by_thread (commands.Fetch thread slot line) = true
 is_by_thread (commands.KLoad thread slot line) = true
 is_by_thread (commands.Store thread slot line word) = true
 is_by_thread (commands.Prctl thread args) = true
+is_by_thread (commands.Fork thread process) = true
 is_by_thread (commands.RaiseUser thread ripv eipv) = true
 is_by_thread _ = false
 

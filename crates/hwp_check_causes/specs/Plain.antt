@@ -51,6 +51,7 @@ IsDone (commands.Log status addr misc) = Unit {0}
 IsDone (commands.Bad frame line) = Unit {0}
 IsDone (commands.Weak frame line) = Unit {0}
 IsDone (commands.Watch threshold window) = Unit {0}
+IsDone (commands.Fork thread process) = Unit {0}
 IsDone _ = ⊥
 
 -- some losses were told

@@ -129,6 +129,7 @@ fn is_by_thread(command: &Command) -> bool
             | Command::KLoad { .. }
             | Command::Store { .. }
             | Command::Prctl { .. }
+            | Command::Fork { .. }
             | Command::RaiseUser { .. }
     )
 }
@@ -143,6 +144,7 @@ fn thread_of(command: &Command) -> Option<Thread>
         | Command::KLoad { thread, .. }
         | Command::Store { thread, .. }
         | Command::Prctl { thread, .. }
+        | Command::Fork { thread, .. }
         | Command::RaiseUser { thread, .. } => Some(thread),
         _ => None,
     }

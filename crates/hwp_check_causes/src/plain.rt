@@ -67,6 +67,7 @@ fn is_done(command: &Command) -> bool
             | Command::Bad { .. }
             | Command::Weak { .. }
             | Command::Watch { .. }
+            | Command::Fork { .. }
     )
 }
 

@@ -17,16 +17,15 @@ use Rattle.hwp_law.specs.hwp_report_text.declared.EventLine.{EventLine}
 use Rattle.hwp_law.specs.hwp_report_text.declared.Report.{Report}
 use Rattle.hwp_law.specs.Checks.{IsCheck}
 use Rattle.hwp_banks.specs.Banks.{Banks, empty_banks}
-use Rattle.hwp_law.specs.hwp_law_commands.Commands.{arrival_of, is_check}
+use Rattle.hwp_law.specs.hwp_law_commands.Commands.{arrival_of}
 use Rattle.hwp_law.specs.hwp_severity.declared.Arrival.{Arrival}
-use Rattle.hwp_law.specs.Events.{AreEventsOf, AreScrubbed, IsAccessChecked, IsDamaged, IsRaise, is_raised, logged_if_done}
+use Rattle.hwp_law.specs.Events.{AreEventsOf, AreScrubbed, IsDamaged, IsRaise, is_raised, logged_if_done, AreAccessChecks, access_lines, store_lines}
 use Rattle.hwp_banks.specs.Banks.{raw_event}
 use Rattle.hwp_law.specs.Lines.{answer_of}
-use Rattle.hwp_law.specs.Pairings.{entries_of}
-use Rattle.hwp_check_events.specs.Accesses.{IsAccessLine, IsRaisedLine, asked_by_access}
+use Rattle.hwp_check_events.specs.Accesses.{IsAccessLine, IsRaisedLine, asked_by_access, access_of}
 use Rattle.hwp_check_event_line.specs.Firsts.{AreRight}
 use Rattle.hwp_check_event_line.specs.Found.{of_access, resting}
-use Rattle.hwp_check_events.specs.Misfits.{IsFit, IsRightLine, Lacks, access_of, course_of, leaves, logged_if}
+use Rattle.hwp_check_events.specs.Misfits.{IsFit, IsRightLine, Lacks, course_of, leaves, logged_if}
 use Rattle.hwp_check_scrub.specs.Scrubs.{Course, IsScrubbedLine, after, after_all, comes_instead, is_instead, lacking, marked_from, reach_from, turn}
 use Rattle.hwp_check_scrub.specs.Scrubbing.{IsRightIn}
 use Rattle.hwp_check_scrub.specs.declared.Reach.{Reach}
@@ -37,6 +36,7 @@ use Rattle.hwp_check_events.proofs.LowestMarks.{HasLines, backs, lows, most}
 use Rattle.hwp_check_events.proofs.RaiseLaws.{check-back, check-forth}
 use Rattle.hwp_check_scrub.proofs.ScrubBack.{frames-back}
 use Rattle.hwp_check_scrub.proofs.ScrubForth.{AllGood, Ready, bound-has, can-meet, frames-forth, step}
+use Rattle.hwp_banks.specs.hwp_geom.declared.VSlot.{VSlot}
 
 -- lines that can be damaged are lines
 abbrev pub AreMasks : Report → Type 0
@@ -52,37 +52,37 @@ none-right Right lines none = λ n l there. absurd (none-some l (sym (ap (λ (ls
 
 module _ (script : Script) (report : Report) (who : Who) where
   -- an access
-  module _ (how : Arrival) (origin : Origin) (access : of_access origin ≡ true) (at : ℕ) (raw : Option Event) (lines : List EventLine) where
+  module _ (how : Arrival) (origin : Origin) (access : of_access origin ≡ true) (ats : List ℕ) (raw : Option Event) (lines : List EventLine) where
     abbrev Right : ℕ → EventLine → Type 0
-    Right number line = IsAccessLine script report who how (access_of report who origin at raw) lines number line
+    Right number line = IsAccessLine script report who how (access_of origin ats raw) lines number line
 
     abbrev left : Option Event
-    left = cond (entries_of report who is_check == 0) raw None
+    left = cond (length ats == 0) raw None
 
-    accessed-forth : (banks : Banks) → IsAccessChecked script report who how origin at (resting raw) lines banks → AreRight Right lines × (length lines < asked_by_access (access_of report who origin at raw) → ⊥) × (banks ≡ resting left)
+    accessed-forth : (banks : Banks) → AreAccessChecks script report who how origin ats (resting raw) lines banks → AreRight Right lines × (length lines < asked_by_access (access_of origin ats raw) → ⊥) × (banks ≡ resting left)
     accessed-forth banks are =
-        let all = access-forth script report who how origin access at (entries_of report who is_check) raw lines banks are in
-        (all.1, λ less. let e : length lines ≡ asked_by_access (access_of report who origin at raw) = all.0 in omega (arith, e, less), all.2)
+        let all = access-forth script report who how origin access ats raw lines banks are in
+        (all.1, λ less. let e : length lines ≡ asked_by_access (access_of origin ats raw) = all.0 in omega (arith, e, less), all.2)
 
-    accessed-back : AreRight Right lines → (length lines < asked_by_access (access_of report who origin at raw) → ⊥) → IsAccessChecked script report who how origin at (resting raw) lines (resting left)
-    accessed-back right enough = access-back script report who how origin access at (entries_of report who is_check) raw lines size right
+    accessed-back : AreRight Right lines → (length lines < asked_by_access (access_of origin ats raw) → ⊥) → AreAccessChecks script report who how origin ats (resting raw) lines (resting left)
+    accessed-back right enough = access-back script report who how origin access ats raw lines size right
       where
-        few : length lines ≤ asked_by_access (access_of report who origin at raw)
-        few = elim (cases_lt (asked_by_access (access_of report who origin at raw)) (length lines)) [
+        few : length lines ≤ asked_by_access (access_of origin ats raw)
+        few = elim (cases_lt (asked_by_access (access_of origin ats raw)) (length lines)) [
           | inl more ↦ absurd (over lines more right)
           | inr most ↦ most
         ]
           where
-            over : (ls : List EventLine) → asked_by_access (access_of report who origin at raw) < length ls → AreRight Right ls → ⊥
+            over : (ls : List EventLine) → asked_by_access (access_of origin ats raw) < length ls → AreRight Right ls → ⊥
             over [] more all = omega (arith, more)
             over (d ∷ ls) more all =
-                let one : asked_by_access (access_of report who origin at raw) < asked_by_access (access_of report who origin at raw) = (all (asked_by_access (access_of report who origin at raw)) _ (slice_get-get_or (d ∷ ls) (asked_by_access (access_of report who origin at raw)) d more)).0 in
+                let one : asked_by_access (access_of origin ats raw) < asked_by_access (access_of origin ats raw) = (all (asked_by_access (access_of origin ats raw)) _ (slice_get-get_or (d ∷ ls) (asked_by_access (access_of origin ats raw)) d more)).0 in
                 omega (arith, one)
 
-        size : length lines ≡ asked_by_access (access_of report who origin at raw)
-        size = elim (cases_lt (length lines) (asked_by_access (access_of report who origin at raw))) [
+        size : length lines ≡ asked_by_access (access_of origin ats raw)
+        size = elim (cases_lt (length lines) (asked_by_access (access_of origin ats raw))) [
           | inl less ↦ absurd (enough less)
-          | inr most ↦ let f : length lines ≤ asked_by_access (access_of report who origin at raw) = few in omega (arith, f, most)
+          | inr most ↦ let f : length lines ≤ asked_by_access (access_of origin ats raw) = few in omega (arith, f, most)
         ]
 
   -- a raise
@@ -221,32 +221,32 @@ module _ (script : Script) (report : Report) (who : Who) where
   logged-is (Some _) event raw = refl
 
   -- any command
-  module _ (masks : AreMasks report) (has_lines : HasLines script) (raw : Option Event) (lines : List EventLine) where
+  module _ (copies : Who → Option VSlot) (masks : AreMasks report) (has_lines : HasLines script) (raw : Option Event) (lines : List EventLine) where
     abbrev Fits : Command → Type 0
-    Fits command = AreRight (IsRightLine script report who command raw lines) lines × (Lacks script report who command raw lines → ⊥)
+    Fits command = AreRight (IsRightLine script copies report who command raw lines) lines × (Lacks script copies report who command raw lines → ⊥)
 
     abbrev Allowed : Command → Banks → Type 0
-    Allowed command banks = AreEventsOf script report who (arrival_of command) command (resting raw) lines banks
+    Allowed command banks = AreEventsOf script copies report who (arrival_of command) command (resting raw) lines banks
 
     nothing-forth : {left : Banks} (banks : Banks) → (lines ≡ []) × (banks ≡ left) → AreRight (λ (n : ℕ) (l : EventLine). ⊥) lines × (⊥ → ⊥) × (banks ≡ left)
     nothing-forth banks none = (none-right (λ (n : ℕ) (l : EventLine). ⊥) lines none.0, λ b. b, none.1)
 
-    pub whole-forth : (command : Command) (banks : Banks) → IsFit command → Allowed command banks → AreRight (IsRightLine script report who command raw lines) lines × (Lacks script report who command raw lines → ⊥) × (banks ≡ resting (leaves script report who command raw lines))
-    whole-forth (commands.Load thread slot at) banks fit are = accessed-forth (arrival_of (commands.Load thread slot at)) origins.Access refl at raw lines banks are
-    whole-forth (commands.Fetch thread slot at) banks fit are = accessed-forth (arrival_of (commands.Fetch thread slot at)) origins.Fetch refl at raw lines banks are
-    whole-forth (commands.KLoad thread slot at) banks fit are = accessed-forth (arrival_of (commands.KLoad thread slot at)) origins.Access refl at raw lines banks are
-    whole-forth (commands.Store thread slot at word) banks fit are = accessed-forth (arrival_of (commands.Store thread slot at word)) origins.Access refl at raw lines banks are
+    pub whole-forth : (command : Command) (banks : Banks) → IsFit command → Allowed command banks → AreRight (IsRightLine script copies report who command raw lines) lines × (Lacks script copies report who command raw lines → ⊥) × (banks ≡ resting (leaves script copies report who command raw lines))
+    whole-forth (commands.Load thread slot at) banks fit are = accessed-forth (arrival_of (commands.Load thread slot at)) origins.Access refl (access_lines report who at) raw lines banks are
+    whole-forth (commands.Fetch thread slot at) banks fit are = accessed-forth (arrival_of (commands.Fetch thread slot at)) origins.Fetch refl (access_lines report who at) raw lines banks are
+    whole-forth (commands.KLoad thread slot at) banks fit are = accessed-forth (arrival_of (commands.KLoad thread slot at)) origins.Access refl (access_lines report who at) raw lines banks are
+    whole-forth (commands.Store thread slot at word) banks fit are = accessed-forth (arrival_of (commands.Store thread slot at word)) origins.Access refl (store_lines script.layout report who (copies who) slot at) raw lines banks are
     whole-forth (commands.Scrub first last) banks fit are = scrub-forth masks has_lines first last fit raw lines banks are
     whole-forth (commands.RaiseUser thread ripv eipv) banks fit are = raise-forth (arrival_of (commands.RaiseUser thread ripv eipv)) raw lines banks are
     whole-forth (commands.RaiseKernel ripv eipv) banks fit are = raise-forth (arrival_of (commands.RaiseKernel ripv eipv)) raw lines banks are
     whole-forth (commands.Log status addr misc) banks fit are = (none-right (λ (n : ℕ) (l : EventLine). ⊥) lines are.0, λ b. b, are.1 ∙ logged-is (answer_of report who) (raw_event status addr misc) raw)
     whole-forth _ banks fit are = nothing-forth banks are
 
-    pub whole-back : (command : Command) → IsFit command → AreRight (IsRightLine script report who command raw lines) lines → (Lacks script report who command raw lines → ⊥) → Allowed command (resting (leaves script report who command raw lines))
-    whole-back (commands.Load thread slot at) fit right enough = accessed-back (arrival_of (commands.Load thread slot at)) origins.Access refl at raw lines right enough
-    whole-back (commands.Fetch thread slot at) fit right enough = accessed-back (arrival_of (commands.Fetch thread slot at)) origins.Fetch refl at raw lines right enough
-    whole-back (commands.KLoad thread slot at) fit right enough = accessed-back (arrival_of (commands.KLoad thread slot at)) origins.Access refl at raw lines right enough
-    whole-back (commands.Store thread slot at word) fit right enough = accessed-back (arrival_of (commands.Store thread slot at word)) origins.Access refl at raw lines right enough
+    pub whole-back : (command : Command) → IsFit command → AreRight (IsRightLine script copies report who command raw lines) lines → (Lacks script copies report who command raw lines → ⊥) → Allowed command (resting (leaves script copies report who command raw lines))
+    whole-back (commands.Load thread slot at) fit right enough = accessed-back (arrival_of (commands.Load thread slot at)) origins.Access refl (access_lines report who at) raw lines right enough
+    whole-back (commands.Fetch thread slot at) fit right enough = accessed-back (arrival_of (commands.Fetch thread slot at)) origins.Fetch refl (access_lines report who at) raw lines right enough
+    whole-back (commands.KLoad thread slot at) fit right enough = accessed-back (arrival_of (commands.KLoad thread slot at)) origins.Access refl (access_lines report who at) raw lines right enough
+    whole-back (commands.Store thread slot at word) fit right enough = accessed-back (arrival_of (commands.Store thread slot at word)) origins.Access refl (store_lines script.layout report who (copies who) slot at) raw lines right enough
     whole-back (commands.Scrub first last) fit right enough = scrub-back masks has_lines first last fit raw lines right enough
     whole-back (commands.RaiseUser thread ripv eipv) fit right enough = raise-back (arrival_of (commands.RaiseUser thread ripv eipv)) raw lines right enough
     whole-back (commands.RaiseKernel ripv eipv) fit right enough = raise-back (arrival_of (commands.RaiseKernel ripv eipv)) raw lines right enough

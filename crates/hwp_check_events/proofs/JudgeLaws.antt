@@ -18,15 +18,14 @@ use Rattle.hwp_law.specs.hwp_script_read.declared.Script.{Script}
 use Rattle.hwp_law.specs.hwp_report_text.declared.Answer.{Answer}
 use Rattle.hwp_law.specs.hwp_report_text.declared.EventLine.{EventLine}
 use Rattle.hwp_law.specs.hwp_report_text.declared.Report.{Report}
-use Rattle.hwp_law.specs.hwp_law_commands.Commands.{arrival_of, is_check}
+use Rattle.hwp_law.specs.hwp_law_commands.Commands.{arrival_of}
 use Rattle.hwp_law.specs.hwp_severity.declared.Arrival.{Arrival}
-use Rattle.hwp_law.specs.Events.{is_raised}
+use Rattle.hwp_law.specs.Events.{is_raised, access_lines, store_lines}
 use Rattle.hwp_law.specs.Lines.{answer_of}
-use Rattle.hwp_law.specs.Pairings.{entries_of}
-use Rattle.hwp_check_events.specs.Accesses.{Access, IsAccessLine, IsRaisedLine, access_by, asked_by_access}
+use Rattle.hwp_check_events.specs.Accesses.{Access, IsAccessLine, IsRaisedLine, access_by, asked_by_access, access_of, lines_met}
 use Rattle.hwp_check_event_line.specs.Firsts.{IsScanned, shown_lines}
 use Rattle.hwp_check_events.specs.Judged.{IsAccessJudged, IsJudged, IsScrubJudged, IsTable}
-use Rattle.hwp_check_events.specs.Misfits.{access_of, commands_before, course_of, is_scrubbed, low_of}
+use Rattle.hwp_check_events.specs.Misfits.{commands_before, course_of, is_scrubbed, low_of}
 use Rattle.hwp_check_scrub.specs.Scrubs.{Course, after_all, bound_from, lacking, lowest, reach_from}
 use Rattle.hwp_check_scrub.specs.Scrubbing.{IsRightIn, course_by, low_of as low_by}
 use Rattle.hwp_check_event_line.specs.declared.Faults.{Faults}
@@ -41,18 +40,18 @@ module _ (script : Script) (report : Report) (who : Who) (raw left : Option Even
   abbrev lines : List EventLine
   lines = shown_lines shown
 
-  pub access-judged : (how expected : Arrival) (origin : Origin) (at : ℕ) (checks : Checks) → how ≡ expected → checks.origin ≡ origin → checks.at ≡ at → checks.count ≡ entries_of report who is_check
-      → IsScanned (IsAccessLine script report who how (access_by checks raw) lines) lines wrong → lacks ≡ nat_lt (length shown) (asked_by_access (access_by checks raw)) → left ≡ cond (checks.count == 0) raw None
-      → IsScanned (IsAccessLine script report who expected (access_of report who origin at raw) lines) lines wrong
-      × MatchBool lacks (length lines < asked_by_access (access_of report who origin at raw)) (length lines < asked_by_access (access_of report who origin at raw) → ⊥) × (left ≡ cond (entries_of report who is_check == 0) raw None)
-  access-judged how expected origin at checks how_is origin_is at_is count_is scanned lacks_is left_is = (
-    subst (λ (a : Access). IsScanned (IsAccessLine script report who expected a lines) lines wrong) same (subst (λ (h : Arrival). IsScanned (IsAccessLine script report who h (access_by checks raw) lines) lines wrong) how_is scanned),
-    less-decides (length lines) (asked_by_access (access_of report who origin at raw)) lacks (lacks_is ∙ ap (λ (n : ℕ). nat_lt n (asked_by_access (access_by checks raw))) (sym (length-map shown (λ (s : Shown). s.line))) ∙ ap (λ (a : Access). nat_lt (length lines) (asked_by_access a)) same),
+  pub access-judged : (origin : Origin) (ats : List ℕ) (how : Arrival) (checks : Checks) (copied : List ℕ) → checks.origin ≡ origin → lines_met checks copied ≡ ats → checks.count ≡ length ats
+      → IsScanned (IsAccessLine script report who how (access_by checks copied raw) lines) lines wrong → lacks ≡ nat_lt (length shown) (asked_by_access (access_by checks copied raw)) → left ≡ cond (checks.count == 0) raw None
+      → IsScanned (IsAccessLine script report who how (access_of origin ats raw) lines) lines wrong
+      × MatchBool lacks (length lines < asked_by_access (access_of origin ats raw)) (length lines < asked_by_access (access_of origin ats raw) → ⊥) × (left ≡ cond (length ats == 0) raw None)
+  access-judged origin ats how checks copied origin_is ats_are count_is scanned lacks_is left_is = (
+    subst (λ (a : Access). IsScanned (IsAccessLine script report who how a lines) lines wrong) same scanned,
+    less-decides (length lines) (asked_by_access (access_of origin ats raw)) lacks (lacks_is ∙ ap (λ (n : ℕ). nat_lt n (asked_by_access (access_by checks copied raw))) (sym (length-map shown (λ (s : Shown). s.line))) ∙ ap (λ (a : Access). nat_lt (length lines) (asked_by_access a)) same),
     left_is ∙ ap (λ (n : ℕ). cond (n == 0) raw None) count_is,
   )
     where
-      same : access_by checks raw ≡ access_of report who origin at raw
-      same = λ i. record { origin = origin_is i; at = at_is i; checks = count_is i; raw = raw }
+      same : access_by checks copied raw ≡ access_of origin ats raw
+      same = λ i. record { origin = origin_is i; at = ats_are i; raw = raw }
 
   pub raise-judged : (how expected : Arrival) (answer : Option Answer) → how ≡ expected → answer ≡ answer_of report who
       → IsScanned (λ (n : ℕ) (l : EventLine). MatchBool (is_raised answer lines) (IsRaisedLine script report who how raw n l) ⊥) lines wrong → lacks ≡ nat_lt (length shown) (cond (is_raised answer lines) (from_bool (is_some raw)) 0) → left ≡ cond (is_raised answer lines) None raw
@@ -93,32 +92,30 @@ module _ (script : Script) (report : Report) (who : Who) (raw left : Option Even
       same = same-course table whole first last is whole_is
 
 -- the same of the commands themselves
-module _ (script : Script) (report : Report) (who : Who) (command : Command) (raw left : Option Event) (lines : List EventLine) (faults : Faults) (how : Arrival) (how_is : how ≡ arrival_of command) where
+module _ (script : Script) (copies : Who → Option VSlot) (report : Report) (who : Who) (command : Command) (raw left : Option Event) (lines : List EventLine) (faults : Faults) (how : Arrival) (how_is : how ≡ arrival_of command) where
   abbrev Judged : Command → Type 0
-  Judged c = IsJudged script report who c raw left lines faults
+  Judged c = IsJudged script copies report who c raw left lines faults
 
-  load-judged : (thread : Thread) (slot : VSlot) (at : ℕ) → command ≡ commands.Load thread slot at → IsAccessJudged script report who how origins.Access at raw left lines faults → Judged command
+  load-judged : (thread : Thread) (slot : VSlot) (at : ℕ) → command ≡ commands.Load thread slot at → IsAccessJudged script report who how origins.Access (access_lines report who at) raw left lines faults → Judged command
   load-judged thread slot at is judged =
-      let j = subst (λ (h : Arrival). IsAccessJudged script report who h origins.Access at raw left lines faults) (how_is ∙ ap arrival_of is) judged in
+      let j = subst (λ (h : Arrival). IsAccessJudged script report who h origins.Access (access_lines report who at) raw left lines faults) (how_is ∙ ap arrival_of is) judged in
       subst Judged (sym is) (record { scanned = j.scanned; lacks = j.lacks; left_is = j.left_is })
 
-  kload-judged : (thread : Thread) (slot : VSlot) (at : ℕ) → command ≡ commands.KLoad thread slot at → IsAccessJudged script report who how origins.Access at raw left lines faults → Judged command
+  kload-judged : (thread : Thread) (slot : VSlot) (at : ℕ) → command ≡ commands.KLoad thread slot at → IsAccessJudged script report who how origins.Access (access_lines report who at) raw left lines faults → Judged command
   kload-judged thread slot at is judged =
-      let j = subst (λ (h : Arrival). IsAccessJudged script report who h origins.Access at raw left lines faults) (how_is ∙ ap arrival_of is) judged in
+      let j = subst (λ (h : Arrival). IsAccessJudged script report who h origins.Access (access_lines report who at) raw left lines faults) (how_is ∙ ap arrival_of is) judged in
       subst Judged (sym is) (record { scanned = j.scanned; lacks = j.lacks; left_is = j.left_is })
 
-  store-judged : (thread : Thread) (slot : VSlot) (at word : ℕ) → command ≡ commands.Store thread slot at word → IsAccessJudged script report who how origins.Access at raw left lines faults → Judged command
+  pub store-judged : (thread : Thread) (slot : VSlot) (at word : ℕ) → command ≡ commands.Store thread slot at word → IsAccessJudged script report who how origins.Access (store_lines script.layout report who (copies who) slot at) raw left lines faults → Judged command
   store-judged thread slot at word is judged =
-      let j = subst (λ (h : Arrival). IsAccessJudged script report who h origins.Access at raw left lines faults) (how_is ∙ ap arrival_of is) judged in
+      let j = subst (λ (h : Arrival). IsAccessJudged script report who h origins.Access (store_lines script.layout report who (copies who) slot at) raw left lines faults) (how_is ∙ ap arrival_of is) judged in
       subst Judged (sym is) (record { scanned = j.scanned; lacks = j.lacks; left_is = j.left_is })
 
-  -- any of the three
-  pub accessed-judged : (at : ℕ) → ((thread : Thread) × (slot : VSlot) × (command ≡ commands.Load thread slot at))
-      ⊎ (((thread : Thread) × (slot : VSlot) × (command ≡ commands.KLoad thread slot at)) ⊎ ((thread : Thread) × (slot : VSlot) × (word : ℕ) × (command ≡ commands.Store thread slot at word)))
-      → IsAccessJudged script report who how origins.Access at raw left lines faults → Judged command
+  -- a load, or one of the kernel
+  pub accessed-judged : (at : ℕ) → ((thread : Thread) × (slot : VSlot) × (command ≡ commands.Load thread slot at)) ⊎ ((thread : Thread) × (slot : VSlot) × (command ≡ commands.KLoad thread slot at))
+      → IsAccessJudged script report who how origins.Access (access_lines report who at) raw left lines faults → Judged command
   accessed-judged at (inl (thread, slot, is)) judged = load-judged thread slot at is judged
-  accessed-judged at (inr (inl (thread, slot, is))) judged = kload-judged thread slot at is judged
-  accessed-judged at (inr (inr (thread, slot, word, is))) judged = store-judged thread slot at word is judged
+  accessed-judged at (inr (thread, slot, is)) judged = kload-judged thread slot at is judged
 
   pub scrubbed-judged : (first last : Frame) → command ≡ commands.Scrub first last → IsScrubJudged script report who how first last raw left lines faults → Judged command
   scrubbed-judged first last is judged =

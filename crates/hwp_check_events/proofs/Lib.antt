@@ -1,3 +1,4 @@
+mod CopyLaws
 mod AccessLaws
 mod AccessScans
 mod RaiseLaws
@@ -14,3 +15,4 @@ mod TableLaws
 mod WalkLaws
 mod WalkSteps
 pub mod Verdicts
+pub use Rattle.hwp_check_acting.proofs as of_hwp_check_acting

@@ -10,7 +10,8 @@ use Rattle.hwp_banks.specs.hwp_geom.declared.Layout.{Layout}
 use Rattle.hwp_banks.specs.hwp_geom.declared.Who.{Who}
 use Rattle.hwp_banks.specs.declared.Origin.{Origin}
 use Rattle.hwp_banks.specs.declared.Origin.TheVariants as origins
-use Rattle.hwp_law.specs.hwp_script_read.Valid.{AreLists, IsCommandOf, IsValid}
+use Rattle.hwp_law.specs.hwp_script_read.Valid.{AreLists, IsCommandOf}
+use Rattle.hwp_check_acting.specs.Scripts.{IsDeclared}
 use Rattle.hwp_law.specs.hwp_script_read.declared.Command.{Command}
 use Rattle.hwp_law.specs.hwp_script_read.declared.Command.TheVariants as commands
 use Rattle.hwp_law.specs.hwp_script_read.declared.Script.{Script}
@@ -26,14 +27,14 @@ list-at layout cpu [] i list are there = absurd (none-some list there)
 list-at layout cpu (l ∷ ls) zero list are there = subst (All (IsCommandOf layout (cpu + 0))) (same_Some _ _ there) (subst (λ (c : ℕ). All (IsCommandOf layout c) l) (let e : cpu ≡ cpu + 0 = omega arith in e) are.0)
 list-at layout cpu (l ∷ ls) (suc i) list are there = subst (λ (c : ℕ). All (IsCommandOf layout c) list) (let e : cpu + 1 + i ≡ cpu + suc i = omega arith in e) (list-at layout (cpu + 1) ls i list are.1 there)
 
-pub command-of : (script : Script) (cpu n : ℕ) (list : List Command) (command : Command) → IsValid script → slice_get script.lists cpu ≡ Some list → slice_get list n ≡ Some command → IsCommandOf script.layout (0 + cpu) command
+pub command-of : (script : Script) (cpu n : ℕ) (list : List Command) (command : Command) → IsDeclared script → slice_get script.lists cpu ≡ Some list → slice_get list n ≡ Some command → IsCommandOf script.layout (0 + cpu) command
 command-of script cpu n list command valid of there = all-at (IsCommandOf script.layout (0 + cpu)) list n command (list-at script.layout 0 script.lists cpu list valid.lists of) there
 
 fit : (layout : Layout) (cpu : ℕ) (command : Command) → IsCommandOf layout cpu command → IsFit command
 fit layout cpu (commands.Scrub first last) is = is.0
 fit layout cpu _ is = record {}
 
-pub fits : (script : Script) (cpu : ℕ) (list : List Command) → IsValid script → slice_get script.lists cpu ≡ Some list → (n : ℕ) (command : Command) → slice_get list n ≡ Some command → IsFit command
+pub fits : (script : Script) (cpu : ℕ) (list : List Command) → IsDeclared script → slice_get script.lists cpu ≡ Some list → (n : ℕ) (command : Command) → slice_get list n ≡ Some command → IsFit command
 fits script cpu list valid of = λ n command there. fit script.layout (0 + cpu) command (command-of script cpu n list command valid of there)
 
 marked : (layout : Layout) (cpu : ℕ) (origin : Origin) (frame : Frame) (line : ℕ) → IsCommandOf layout cpu (marking origin frame line) → line < line_limit
@@ -42,7 +43,7 @@ marked layout cpu origins.BadLine frame line is = is.1
 marked layout cpu origins.Access frame line is = is.1
 marked layout cpu origins.Fetch frame line is = is.1
 
-pub has-lines : (script : Script) → IsValid script → HasLines script
+pub has-lines : (script : Script) → IsDeclared script → HasLines script
 has-lines script valid = λ who origin frame line made. by who origin frame line (slice_get script.lists who.cpu.0) refl made
   where
     by : (who : Who) (origin : Origin) (frame : Frame) (line : ℕ) (o : Option (List Command)) → slice_get script.lists who.cpu.0 ≡ o → option_and_then (λ (list : List Command). slice_get list who.seq) o ≡ Some (marking origin frame line) → line < line_limit

@@ -12,7 +12,7 @@ use Rattle.hwp_banks.specs.hwp_geom.Limits.{line_limit}
 use Rattle.hwp_banks.specs.hwp_geom.declared.Cpu.{Cpu}
 use Rattle.hwp_banks.specs.declared.Origin.{Origin}
 use Rattle.hwp_banks.specs.declared.Origin.TheVariants as origins
-use Rattle.hwp_law.specs.hwp_script_read.Valid.{IsValid}
+use Rattle.hwp_check_acting.specs.Scripts.{IsDeclared}
 use Rattle.hwp_law.specs.hwp_script_read.declared.Command.{Command}
 use Rattle.hwp_law.specs.hwp_script_read.declared.Script.{Script}
 use Rattle.hwp_law.specs.hwp_report_text.declared.CpuLine.{CpuLine}
@@ -27,6 +27,8 @@ use Rattle.hwp_check_event_line.proofs.LineLaws.{no-line}
 use Rattle.hwp_check_events.proofs.ValidLaws.{fits, has-lines}
 use Rattle.hwp_check_events.proofs.Walks.{processor-law}
 use Rattle.hwp_check_events.proofs.CommandEvents.{AreMasks}
+use Rattle.hwp_banks.specs.hwp_geom.declared.VSlot.{VSlot}
+use Rattle.hwp_banks.specs.hwp_geom.declared.Who.{Who}
 
 -- a bit of a word is below 64
 low-bit : (mask at : ℕ) → mask < 2 ^ 64 → IsBitSet mask at → at < 64
@@ -65,33 +67,33 @@ empty-table table all = λ place. elim (cases_lt place (length table)) [
   | inr past ↦ get_or_past table place line_limit past
 ]
 
-module _ (script : Script) (report : Report) (cpu : Cpu) (list : List Command) (valid : IsValid script) (all : All Small report.frames) (of_script : slice_get script.lists cpu.0 ≡ Some list) where
+module _ (script : Script) (copies : Who → Option VSlot) (report : Report) (cpu : Cpu) (list : List Command) (valid : IsDeclared script) (all : All Small report.frames) (of_script : slice_get script.lists cpu.0 ≡ Some list) where
   abbrev rows : List CpuLine
   rows = unwrap_or (slice_get report.cpus cpu.0) []
 
   abbrev Law : Type 0
-  Law = AreEventsFrom script report cpu 0 list empty_banks
+  Law = AreEventsFrom script copies report cpu 0 list empty_banks
 
-  pub both : AreTold script report cpu list ↔ Law
-  both = processor-law script report (masks report all) (has-lines script valid) cpu list of_script (fits script cpu.0 list valid of_script)
+  pub both : AreTold script copies report cpu list ↔ Law
+  both = processor-law script copies report (masks report all) (has-lines script valid) cpu list of_script (fits script cpu.0 list valid of_script)
 
-  none-lacks : (LacksSome script report cpu list rows (length list) → ⊥) → AllRight script report cpu list rows (length list) → AreTold script report cpu list
+  none-lacks : (LacksSome script copies report cpu list rows (length list) → ⊥) → AllRight script copies report cpu list rows (length list) → AreTold script copies report cpu list
   none-lacks enough right = λ seq command made. record {
     right = right seq command (slice_get_within list seq command made) made;
     enough = λ lacks. enough (record { seq = seq; command = command; within = slice_get_within list seq command made; made = made; lacks = lacks });
   }
 
-  some-lack : LacksSome script report cpu list rows (length list) → AreTold script report cpu list → ⊥
+  some-lack : LacksSome script copies report cpu list rows (length list) → AreTold script copies report cpu list → ⊥
   some-lack l told = (told l.seq l.command l.made).enough l.lacks
 
-  some-wrong : (row : ℕ) → IsWrongRow script report cpu list rows (length list) row → AreTold script report cpu list → ⊥
+  some-wrong : (row : ℕ) → IsWrongRow script copies report cpu list rows (length list) row → AreTold script copies report cpu list → ⊥
   some-wrong row w told = w.wrong.wrong ((told w.seq w.command w.made).right w.number w.wrong.line w.wrong.there)
 
-  pub processor-judged : (found : Misfits) → IsWalked script report cpu list rows (length list) found → IsProcessorJudged script report cpu list found
+  pub processor-judged : (found : Misfits) → IsWalked script copies report cpu list rows (length list) found → IsProcessorJudged script copies report cpu list found
   processor-judged found w = record { walked = w; law = by found.lacks found.wrong w.lacks w.wrong }
     where
-      by : (a : Bool) (o : Option ℕ) → MatchBool a (LacksSome script report cpu list rows (length list)) (LacksSome script report cpu list rows (length list) → ⊥)
-          → MatchOption o (AllRight script report cpu list rows (length list)) (IsFirstRow script report cpu list rows (length list)) → MatchBool (not a && is_none o) Law (Law → ⊥)
+      by : (a : Bool) (o : Option ℕ) → MatchBool a (LacksSome script copies report cpu list rows (length list)) (LacksSome script copies report cpu list rows (length list) → ⊥)
+          → MatchOption o (AllRight script copies report cpu list rows (length list)) (IsFirstRow script copies report cpu list rows (length list)) → MatchBool (not a && is_none o) Law (Law → ⊥)
       by true None lacks right = λ law. some-lack lacks (both.1 law)
       by true (Some row) lacks right = λ law. some-lack lacks (both.1 law)
       by false None enough right = both.0 (none-lacks enough right)

@@ -21,6 +21,7 @@ use Rattle.hwp_check_events.specs.Walked.{AllRight, IsFirstRow, IsWalked, IsWron
 use Rattle.hwp_check_event_line.specs.declared.Faults.{Faults}
 use Rattle.hwp_check_events.specs.declared.misfits.Misfits.{Misfits}
 use Rattle.hwp_check_event_line.specs.declared.Shown.{Shown}
+use Rattle.hwp_banks.specs.hwp_geom.declared.VSlot.{VSlot}
 
 -- the places of a command's event lines rise
 from-place : (seq : ℕ) (rows : List CpuLine) (place i : ℕ) (s : Shown) → slice_get (shown_from seq place rows) i ≡ Some s → place ≤ s.place
@@ -65,7 +66,7 @@ shown-of [] k line there = absurd (none-some line there)
 shown-of (x ∷ xs) zero line there = (x, refl)
 shown-of (x ∷ xs) (suc k) line there = shown-of xs k line there
 
-module _ (script : Script) (report : Report) (cpu : Cpu) (list : List Command) (rows : List CpuLine) where
+module _ (script : Script) (copies : Who → Option VSlot) (report : Report) (cpu : Cpu) (list : List Command) (rows : List CpuLine) where
   abbrev at : ℕ → Who
   at n = record { cpu = cpu; seq = n }
 
@@ -73,17 +74,17 @@ module _ (script : Script) (report : Report) (cpu : Cpu) (list : List Command) (
   events n = events_of report (at n)
 
   abbrev Right : ℕ → Command → ℕ → EventLine → Type 0
-  Right n command = IsRightLine script report (at n) command (found_by script report (at n)) (events n)
+  Right n command = IsRightLine script copies report (at n) command (found_by script copies report (at n)) (events n)
 
   -- over one command more
-  lacks-more : (n : ℕ) → LacksSome script report cpu list rows n → LacksSome script report cpu list rows (n + 1)
+  lacks-more : (n : ℕ) → LacksSome script copies report cpu list rows n → LacksSome script copies report cpu list rows (n + 1)
   lacks-more n l = record { seq = l.seq; command = l.command; within = let w : l.seq < n = l.within in omega (arith, w); made = l.made; lacks = l.lacks }
 
-  row-more : (n row : ℕ) → IsWrongRow script report cpu list rows n row → IsWrongRow script report cpu list rows (n + 1) row
+  row-more : (n row : ℕ) → IsWrongRow script copies report cpu list rows n row → IsWrongRow script copies report cpu list rows (n + 1) row
   row-more n row w = record { seq = w.seq; command = w.command; number = w.number; shown = w.shown; within = let l : w.seq < n = w.within in omega (arith, l); made = w.made; there = w.there; row_is = w.row_is; wrong = w.wrong }
 
   module _ (n : ℕ) (command : Command) (made : slice_get list n ≡ Some command) (left : Option Event) (faults : Faults) (lines : List Shown) (lines_are : lines ≡ shown_from n 0 rows) (told_are : shown_lines lines ≡ events n)
-      (judged : IsJudged script report (at n) command (found_by script report (at n)) left (events n) faults) where
+      (judged : IsJudged script copies report (at n) command (found_by script copies report (at n)) left (events n) faults) where
     abbrev Less : ℕ → Type 0
     Less seq = (seq < n) ⊎ (seq ≡ n)
 
@@ -97,22 +98,22 @@ module _ (script : Script) (report : Report) (cpu : Cpu) (list : List Command) (
     same seq c is there = same_Some _ _ (sym there ∙ ap (slice_get list) is ∙ made)
 
     -- whether some command lacks lines
-    lacks-next : (a b : Bool) → MatchBool a (LacksSome script report cpu list rows n) (LacksSome script report cpu list rows n → ⊥)
-        → MatchBool b (Lacks script report (at n) command (found_by script report (at n)) (events n)) (Lacks script report (at n) command (found_by script report (at n)) (events n) → ⊥)
-        → MatchBool (a || b) (LacksSome script report cpu list rows (n + 1)) (LacksSome script report cpu list rows (n + 1) → ⊥)
+    lacks-next : (a b : Bool) → MatchBool a (LacksSome script copies report cpu list rows n) (LacksSome script copies report cpu list rows n → ⊥)
+        → MatchBool b (Lacks script copies report (at n) command (found_by script copies report (at n)) (events n)) (Lacks script copies report (at n) command (found_by script copies report (at n)) (events n) → ⊥)
+        → MatchBool (a || b) (LacksSome script copies report cpu list rows (n + 1)) (LacksSome script copies report cpu list rows (n + 1) → ⊥)
     lacks-next true b old new = lacks-more n old
     lacks-next false true old new = record { seq = n; command = command; within = omega arith; made = made; lacks = new }
     lacks-next false false old new = λ l. elim (which l.seq l.within) [
       | inl low ↦ old (record { seq = l.seq; command = l.command; within = low; made = l.made; lacks = l.lacks })
-      | inr here ↦ new (subst (λ (c : Command). Lacks script report (at n) c (found_by script report (at n)) (events n)) (same l.seq l.command here l.made)
-          (subst (λ (m : ℕ). Lacks script report (at m) l.command (found_by script report (at m)) (events m)) here l.lacks))
+      | inr here ↦ new (subst (λ (c : Command). Lacks script copies report (at n) c (found_by script copies report (at n)) (events n)) (same l.seq l.command here l.made)
+          (subst (λ (m : ℕ). Lacks script copies report (at m) l.command (found_by script copies report (at m)) (events m)) here l.lacks))
     ]
 
     -- a wrong row is of a command before, or of this one
     abbrev Here : ℕ → Type 0
-    Here row = (number : ℕ) × (s : Shown) × (slice_get lines number ≡ Some s) × (row ≡ s.place) × IsWrong script report (at n) command (found_by script report (at n)) (events n) number
+    Here row = (number : ℕ) × (s : Shown) × (slice_get lines number ≡ Some s) × (row ≡ s.place) × IsWrong script copies report (at n) command (found_by script copies report (at n)) (events n) number
 
-    row-cases : (row : ℕ) → IsWrongRow script report cpu list rows (n + 1) row → IsWrongRow script report cpu list rows n row ⊎ Here row
+    row-cases : (row : ℕ) → IsWrongRow script copies report cpu list rows (n + 1) row → IsWrongRow script copies report cpu list rows n row ⊎ Here row
     row-cases row w = elim (which w.seq w.within) [
       | inl low ↦ inl (record { seq = w.seq; command = w.command; number = w.number; shown = w.shown; within = low; made = w.made; there = w.there; row_is = w.row_is; wrong = w.wrong })
       | inr here ↦ inr (
@@ -120,12 +121,12 @@ module _ (script : Script) (report : Report) (cpu : Cpu) (list : List Command) (
         w.shown,
         subst (λ (l : List Shown). slice_get l w.number ≡ Some w.shown) (sym lines_are) (subst (λ (m : ℕ). slice_get (shown_from m 0 rows) w.number ≡ Some w.shown) here w.there),
         w.row_is,
-        subst (λ (c : Command). IsWrong script report (at n) c (found_by script report (at n)) (events n) w.number) (same w.seq w.command here w.made)
-            (subst (λ (m : ℕ). IsWrong script report (at m) w.command (found_by script report (at m)) (events m) w.number) here w.wrong),
+        subst (λ (c : Command). IsWrong script copies report (at n) c (found_by script copies report (at n)) (events n) w.number) (same w.seq w.command here w.made)
+            (subst (λ (m : ℕ). IsWrong script copies report (at m) w.command (found_by script copies report (at m)) (events m) w.number) here w.wrong),
       )
     ]
 
-    row-here : (row : ℕ) → Here row → IsWrongRow script report cpu list rows (n + 1) row
+    row-here : (row : ℕ) → Here row → IsWrongRow script copies report cpu list rows (n + 1) row
     row-here row (number, s, there, row_is, wrong) = record {
       seq = n;
       command = command;
@@ -138,13 +139,13 @@ module _ (script : Script) (report : Report) (cpu : Cpu) (list : List Command) (
       wrong = wrong;
     }
 
-    all-right : AllRight script report cpu list rows n → AreRight (Right n command) (events n) → AllRight script report cpu list rows (n + 1)
+    all-right : AllRight script copies report cpu list rows n → AreRight (Right n command) (events n) → AllRight script copies report cpu list rows (n + 1)
     all-right old new = λ seq c within there. elim (which seq within) [
       | inl low ↦ old seq c low there
       | inr here ↦ subst (λ (m : ℕ). AreRight (Right m c) (events m)) (sym here) (subst (λ (d : Command). AreRight (Right n d) (events n)) (sym (same seq c here there)) new)
     ]
 
-    not-old : (row : ℕ) → AllRight script report cpu list rows n → IsWrongRow script report cpu list rows n row → ⊥
+    not-old : (row : ℕ) → AllRight script copies report cpu list rows n → IsWrongRow script copies report cpu list rows n row → ⊥
     not-old row old w = w.wrong.wrong (old w.seq w.command w.within w.made w.number w.wrong.line w.wrong.there)
 
     not-here : (row : ℕ) → AreRight (Right n command) (events n) → Here row → ⊥
@@ -173,8 +174,8 @@ module _ (script : Script) (report : Report) (cpu : Cpu) (list : List Command) (
             | inr high ↦ high
           ]
 
-    wrong-next : (found own : Option ℕ) → MatchOption found (AllRight script report cpu list rows n) (IsFirstRow script report cpu list rows n) → MatchOption own (AreRight (Right n command) (events n)) (IsFirstWrong (Right n command) (events n))
-        → MatchOption (joined_wrong found own lines) (AllRight script report cpu list rows (n + 1)) (IsFirstRow script report cpu list rows (n + 1))
+    wrong-next : (found own : Option ℕ) → MatchOption found (AllRight script copies report cpu list rows n) (IsFirstRow script copies report cpu list rows n) → MatchOption own (AreRight (Right n command) (events n)) (IsFirstWrong (Right n command) (events n))
+        → MatchOption (joined_wrong found own lines) (AllRight script copies report cpu list rows (n + 1)) (IsFirstRow script copies report cpu list rows (n + 1))
     wrong-next None None old new = all-right old new
     wrong-next (Some w) None old new = record {
       at = row-more n w old.at;
@@ -198,25 +199,25 @@ module _ (script : Script) (report : Report) (cpu : Cpu) (list : List Command) (
       ];
     }
       where
-        lowest : (w < place_at lines k) ⊎ (place_at lines k ≤ w) → IsWrongRow script report cpu list rows (n + 1) (min w (place_at lines k))
-        lowest (inl less) = let e : w ≡ min w (place_at lines k) = omega (arith, less) in subst (IsWrongRow script report cpu list rows (n + 1)) e (row-more n w old.at)
-        lowest (inr less) = let e : place_at lines k ≡ min w (place_at lines k) = omega (arith, less) in subst (IsWrongRow script report cpu list rows (n + 1)) e (row-here (place_at lines k) (here-first k new))
+        lowest : (w < place_at lines k) ⊎ (place_at lines k ≤ w) → IsWrongRow script copies report cpu list rows (n + 1) (min w (place_at lines k))
+        lowest (inl less) = let e : w ≡ min w (place_at lines k) = omega (arith, less) in subst (IsWrongRow script copies report cpu list rows (n + 1)) e (row-more n w old.at)
+        lowest (inr less) = let e : place_at lines k ≡ min w (place_at lines k) = omega (arith, less) in subst (IsWrongRow script copies report cpu list rows (n + 1)) e (row-here (place_at lines k) (here-first k new))
 
-    pub walked-next : (found : Misfits) → IsWalked script report cpu list rows n found → IsWalked script report cpu list rows (n + 1) (joined found faults lines)
+    pub walked-next : (found : Misfits) → IsWalked script copies report cpu list rows n found → IsWalked script copies report cpu list rows (n + 1) (joined found faults lines)
     walked-next found w = record { lacks = lacks-next found.lacks faults.lacks w.lacks judged.lacks; wrong = wrong-next found.wrong faults.wrong w.wrong judged.scanned }
 
-  pub walked-first : IsWalked script report cpu list rows 0 (record { lacks = false; wrong = None })
+  pub walked-first : IsWalked script copies report cpu list rows 0 (record { lacks = false; wrong = None })
   walked-first = record { lacks = λ l. absurd (let w : l.seq < 0 = l.within in omega (arith, w)); wrong = λ seq c within there. absurd (omega (arith, within)) }
 
   -- what is left in bank 1 behind one command more
-  left-more : (xs : List Command) (m : ℕ) (c : Command) (raw : Option Event) → left_by script report cpu m (xs ++ c ∷ []) raw ≡ leaves script report (at (m + length xs)) c (left_by script report cpu m xs raw) (events (m + length xs))
-  left-more [] m c raw = ap (λ (k : ℕ). leaves script report (at k) c raw (events k)) (let e : m ≡ m + 0 = omega arith in e)
+  left-more : (xs : List Command) (m : ℕ) (c : Command) (raw : Option Event) → left_by script copies report cpu m (xs ++ c ∷ []) raw ≡ leaves script copies report (at (m + length xs)) c (left_by script copies report cpu m xs raw) (events (m + length xs))
+  left-more [] m c raw = ap (λ (k : ℕ). leaves script copies report (at k) c raw (events k)) (let e : m ≡ m + 0 = omega arith in e)
   left-more (x ∷ xs) m c raw =
-      left-more xs (m + 1) c (leaves script report (at m) x raw (events m))
-      ∙ ap (λ (k : ℕ). leaves script report (at k) c (left_by script report cpu (m + 1) xs (leaves script report (at m) x raw (events m))) (events k)) (let e : m + 1 + length xs ≡ m + suc (length xs) = omega arith in e)
+      left-more xs (m + 1) c (leaves script copies report (at m) x raw (events m))
+      ∙ ap (λ (k : ℕ). leaves script copies report (at k) c (left_by script copies report cpu (m + 1) xs (leaves script copies report (at m) x raw (events m))) (events k)) (let e : m + 1 + length xs ≡ m + suc (length xs) = omega arith in e)
 
-  pub left-next : (n : ℕ) (d : Command) (raw left : Option Event) → n < length list → left ≡ leaves script report (at n) (get_or list n d) raw (events n) → raw ≡ left_by script report cpu 0 (take n list) None → left ≡ left_by script report cpu 0 (take (n + 1) list) None
+  pub left-next : (n : ℕ) (d : Command) (raw left : Option Event) → n < length list → left ≡ leaves script copies report (at n) (get_or list n d) raw (events n) → raw ≡ left_by script copies report cpu 0 (take n list) None → left ≡ left_by script copies report cpu 0 (take (n + 1) list) None
   left-next n d raw left within left_is raw_is =
-      left_is ∙ ap (λ (r : Option Event). leaves script report (at n) (get_or list n d) r (events n)) raw_is
-      ∙ ap (λ (k : ℕ). leaves script report (at k) (get_or list n d) (left_by script report cpu 0 (take n list) None) (events k)) (let l : length (take n list) ≡ n = length-take-le n list (omega (arith, within)) in let e : n ≡ 0 + length (take n list) = omega (arith, l) in e)
-      ∙ sym (left-more (take n list) 0 (get_or list n d) None) ∙ ap (λ (l : List Command). left_by script report cpu 0 l None) (sym (take_more list n d within))
+      left_is ∙ ap (λ (r : Option Event). leaves script copies report (at n) (get_or list n d) r (events n)) raw_is
+      ∙ ap (λ (k : ℕ). leaves script copies report (at k) (get_or list n d) (left_by script copies report cpu 0 (take n list) None) (events k)) (let l : length (take n list) ≡ n = length-take-le n list (omega (arith, within)) in let e : n ≡ 0 + length (take n list) = omega (arith, l) in e)
+      ∙ sym (left-more (take n list) 0 (get_or list n d) None) ∙ ap (λ (l : List Command). left_by script copies report cpu 0 l None) (sym (take_more list n d within))

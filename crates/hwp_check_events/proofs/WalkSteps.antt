@@ -6,7 +6,8 @@ use Rattle.hwp_banks.specs.hwp_geom.declared.Cpu.{Cpu}
 use Rattle.hwp_banks.specs.hwp_geom.declared.Who.{Who}
 use Rattle.hwp_banks.specs.declared.Event.{Event}
 use Rattle.hwp_law.specs.hwp_page.declared.Entry.{Entry}
-use Rattle.hwp_law.specs.hwp_script_read.Valid.{IsCommandOf, IsValid}
+use Rattle.hwp_law.specs.hwp_script_read.Valid.{IsCommandOf}
+use Rattle.hwp_check_acting.specs.Scripts.{IsDeclared}
 use Rattle.hwp_law.specs.hwp_script_read.declared.Command.{Command}
 use Rattle.hwp_law.specs.hwp_script_read.declared.Command.TheVariants as commands
 use Rattle.hwp_law.specs.hwp_script_read.declared.Script.{Script}
@@ -29,30 +30,31 @@ use Rattle.hwp_check_events.proofs.IndexLaws.{told-is}
 use Rattle.hwp_check_events.proofs.TableLaws.{table-next, table-size}
 use Rattle.hwp_check_events.proofs.ValidLaws.{command-of, fits}
 use Rattle.hwp_check_events.proofs.WalkLaws.{left-next, walked-first, walked-next}
+use Rattle.hwp_banks.specs.hwp_geom.declared.VSlot.{VSlot}
 
 -- before the command with number n
-pub record SoFar (script : Script) (report : Report) (cpu : Cpu) (list : List Command) (rows : List CpuLine) (n : ℕ) (raw : Option Event) (table : List ℕ) (found : Misfits) : Type 0 where
-  pub raw_is : raw ≡ left_by script report cpu 0 (take n list) None
+pub record SoFar (script : Script) (copies : Who → Option VSlot) (report : Report) (cpu : Cpu) (list : List Command) (rows : List CpuLine) (n : ℕ) (raw : Option Event) (table : List ℕ) (found : Misfits) : Type 0 where
+  pub raw_is : raw ≡ left_by script copies report cpu 0 (take n list) None
   pub lows : IsTableOf (take n list) table
   pub size : length table ≡ 2 * script.layout.frames
-  pub walked : IsWalked script report cpu list rows n found
+  pub walked : IsWalked script copies report cpu list rows n found
 
-module _ (script : Script) (report : Report) (cpu : Cpu) (list : List Command) (rows : List CpuLine) (valid : IsValid script) (of_script : slice_get script.lists cpu.0 ≡ Some list) (of_report : rows ≡ unwrap_or (slice_get report.cpus cpu.0) []) where
+module _ (script : Script) (copies : Who → Option VSlot) (report : Report) (cpu : Cpu) (list : List Command) (rows : List CpuLine) (valid : IsDeclared script) (of_script : slice_get script.lists cpu.0 ≡ Some list) (of_report : rows ≡ unwrap_or (slice_get report.cpus cpu.0) []) where
   abbrev at : ℕ → Who
   at n = record { cpu = cpu; seq = n }
 
-  pub so-first : (table : List ℕ) → length table ≡ 2 * script.layout.frames → IsTableOf [] table → SoFar script report cpu list rows 0 None table (record { lacks = false; wrong = None })
-  so-first table size empty = record { raw_is = ap (λ (l : List Command). left_by script report cpu 0 l None) (sym (take-none list)); lows = subst (λ (l : List Command). IsTableOf l table) (sym (take-none list)) empty; size = size; walked = walked-first script report cpu list rows }
+  pub so-first : (table : List ℕ) → length table ≡ 2 * script.layout.frames → IsTableOf [] table → SoFar script copies report cpu list rows 0 None table (record { lacks = false; wrong = None })
+  so-first table size empty = record { raw_is = ap (λ (l : List Command). left_by script copies report cpu 0 l None) (sym (take-none list)); lows = subst (λ (l : List Command). IsTableOf l table) (sym (take-none list)) empty; size = size; walked = walked-first script copies report cpu list rows }
     where
       take-none : (xs : List Command) → take 0 xs ≡ []
       take-none [] = refl
       take-none (x ∷ xs) = refl
 
   -- what the command finds in bank 1, and the table for it
-  found-is : (n : ℕ) → found_by script report (at n) ≡ left_by script report cpu 0 (take n list) None
-  found-is n = ap (λ (o : Option (List Command)). left_by script report cpu 0 (take n (unwrap_or o [])) None) of_script
+  found-is : (n : ℕ) → found_by script copies report (at n) ≡ left_by script copies report cpu 0 (take n list) None
+  found-is n = ap (λ (o : Option (List Command)). left_by script copies report cpu 0 (take n (unwrap_or o [])) None) of_script
 
-  pub table-is : (n : ℕ) (raw : Option Event) (table : List ℕ) (found : Misfits) → SoFar script report cpu list rows n raw table found → IsTable script (at n) table
+  pub table-is : (n : ℕ) (raw : Option Event) (table : List ℕ) (found : Misfits) → SoFar script copies report cpu list rows n raw table found → IsTable script (at n) table
   table-is n raw table found so = subst (λ (o : Option (List Command)). IsTableOf (take n (unwrap_or o [])) table) (sym of_script) so.lows
 
   -- its number is small
@@ -87,13 +89,13 @@ module _ (script : Script) (report : Report) (cpu : Cpu) (list : List Command) (
 
   -- one command more
   pub so-next : (n : ℕ) (raw left : Option Event) (table next : List ℕ) (found : Misfits) (faults : Faults) (lines lists_d : List Shown) (lists : List (List Shown)) (command d : Command) → n < length list → command ≡ get_or list n d → lines ≡ get_or lists n lists_d
-      → AreShown rows (length list) lists → IsJudged script report (at n) command raw left (shown_lines lines) faults → next ≡ with_mark command table
-      → SoFar script report cpu list rows n raw table found → SoFar script report cpu list rows (n + 1) left next (joined found faults lines)
+      → AreShown rows (length list) lists → IsJudged script copies report (at n) command raw left (shown_lines lines) faults → next ≡ with_mark command table
+      → SoFar script copies report cpu list rows n raw table found → SoFar script copies report cpu list rows (n + 1) left next (joined found faults lines)
   so-next n raw left table next found faults lines lists_d lists command d within command_is lines_are shown judged next_is so = record {
-    raw_is = left-next script report cpu list rows n d raw left within (left_is ∙ ap (λ (c : Command). leaves script report (at n) c raw (events_of report (at n))) command_is) so.raw_is;
+    raw_is = left-next script copies report cpu list rows n d raw left within (left_is ∙ ap (λ (c : Command). leaves script copies report (at n) c raw (events_of report (at n))) command_is) so.raw_is;
     lows = table-next list n d table next within (subst (λ (c : Command). HasPlace c table) command_is (has-place command table is_command so.size)) (next_is ∙ ap (λ (c : Command). with_mark c table) command_is) so.lows;
     size = ap length next_is ∙ table-size command table ∙ so.size;
-    walked = walked-next script report cpu list rows n command made left faults lines own told_are own_judged found so.walked;
+    walked = walked-next script copies report cpu list rows n command made left faults lines own told_are own_judged found so.walked;
   }
     where
       made : slice_get list n ≡ Some command
@@ -108,9 +110,9 @@ module _ (script : Script) (report : Report) (cpu : Cpu) (list : List Command) (
       told_are : shown_lines lines ≡ events_of report (at n)
       told_are = ap shown_lines own ∙ told-is n rows ∙ ap (λ (r : List CpuLine). events_among r n) of_report
 
-      own_judged : IsJudged script report (at n) command (found_by script report (at n)) left (events_of report (at n)) faults
-      own_judged = subst (λ (l : List EventLine). IsJudged script report (at n) command (found_by script report (at n)) left l faults) told_are
-          (subst (λ (r : Option Event). IsJudged script report (at n) command r left (shown_lines lines) faults) (so.raw_is ∙ sym (found-is n)) judged)
+      own_judged : IsJudged script copies report (at n) command (found_by script copies report (at n)) left (events_of report (at n)) faults
+      own_judged = subst (λ (l : List EventLine). IsJudged script copies report (at n) command (found_by script copies report (at n)) left l faults) told_are
+          (subst (λ (r : Option Event). IsJudged script copies report (at n) command r left (shown_lines lines) faults) (so.raw_is ∙ sym (found-is n)) judged)
 
-      left_is : left ≡ leaves script report (at n) command raw (events_of report (at n))
-      left_is = judged.left_is ∙ ap (leaves script report (at n) command raw) told_are
+      left_is : left ≡ leaves script copies report (at n) command raw (events_of report (at n))
+      left_is = judged.left_is ∙ ap (leaves script copies report (at n) command raw) told_are

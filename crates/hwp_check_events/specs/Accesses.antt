@@ -1,5 +1,5 @@
 -- The event lines that the machine checks of an access ask, and the one line of a machine check that is raised.
-use Rattle.std.specs.Prelude.{◌≡◌, ℕ, ◌+◌, ◌-◌, ◌<◌, ◌==◌, ◌&&◌, ◌||◌, Bool, false, cond, List, [], ◌∷◌, Option, None, MatchBool, is_some}
+use Rattle.std.specs.Prelude.{◌≡◌, ℕ, ◌+◌, ◌-◌, ◌<◌, ◌==◌, ◌&&◌, ◌||◌, Bool, false, cond, List, [], ◌∷◌, Option, None, MatchBool, is_some, ◌++◌, get_or, length, replicate}
 use Rattle.hwp_banks.specs.hwp_geom.declared.Frame.{Frame}
 use Rattle.hwp_banks.specs.hwp_geom.declared.Who.{Who}
 use Rattle.hwp_banks.specs.Events.{bank_of}
@@ -15,16 +15,25 @@ use Rattle.hwp_law.specs.hwp_report_text.declared.EventLine.{EventLine}
 use Rattle.hwp_check_event_line.specs.Found.{IsRawLine, beside, has_stopper, may_stop, own_found}
 use Rattle.hwp_check_events.specs.declared.known.Checks.{Checks}
 
--- so many machine checks of an access, at a line, of which the first finds this in bank 1
+-- the machine checks of an access, each at a line, of which the first finds this in bank 1
 pub record Access : Type 0 where
   pub origin : Origin
-  pub at : ℕ
-  pub checks : ℕ
+  pub at : List ℕ
   pub raw : Option Event
 
--- the machine checks of an access, of which the first finds this in bank 1
-abbrev pub access_by : Checks → Option Event → Access
-access_by checks raw = record { origin = checks.origin; at = checks.at; checks = checks.count; raw = raw }
+abbrev pub access_of : Origin → List ℕ → Option Event → Access
+access_of origin at raw = record { origin = origin; at = at; raw = raw }
+
+-- the line of the machine check with this number
+abbrev pub met_at : Access → ℕ → ℕ
+met_at a n = get_or a.at n 0
+
+-- the lines that are met: those that a copy meets, and then one line so often that they are as many as there are machine checks
+abbrev pub lines_met : Checks → List ℕ → List ℕ
+lines_met checks copied = copied ++ replicate (checks.count - length copied) checks.at
+
+abbrev pub access_by : Checks → List ℕ → Option Event → Access
+access_by checks copied raw = access_of checks.origin (lines_met checks copied) raw
 
 -- the line tells the own event of a machine check of an access, whose line is bad in some frame
 pub record IsOwnLine (script : Script) (report : Report) (who : Who) (how : Arrival) (origin : Origin) (at : ℕ) (raw : Option Event) (line : EventLine) : Type 0 where
@@ -42,16 +51,16 @@ abbrev pub asked_first : Origin → Option Event → ℕ
 asked_first origin raw = cond (is_some (beside origin raw)) 2 1
 
 abbrev pub asked_by_access : Access → ℕ
-asked_by_access a = cond (a.checks == 0) 0 (a.checks - 1 + asked_first a.origin a.raw)
+asked_by_access a = cond (length a.at == 0) 0 (length a.at - 1 + asked_first a.origin a.raw)
 
 -- the line is right as the one with this number: of the first machine check the own event, and then what it found beside; of each
 -- later one the own event
 abbrev pub IsAccessLine : Script → Report → Who → Arrival → Access → List EventLine → ℕ → EventLine → Type 0
 IsAccessLine script report who how a lines number line =
     (number < asked_by_access a)
-    × MatchBool (number == 0) (IsOwnLine script report who how a.origin a.at a.raw line)
+    × MatchBool (number == 0) (IsOwnLine script report who how a.origin (met_at a 0) a.raw line)
     (MatchBool ((number == 1) && is_some (beside a.origin a.raw)) (IsRawLine script report who how (has_stopper how a.origin a.raw || begins_in_panic lines) (beside a.origin a.raw) line)
-    (IsOwnLine script report who how a.origin a.at None line))
+    (IsOwnLine script report who how a.origin (met_at a (number + 1 - asked_first a.origin a.raw)) None line))
 
 -- the line is right as the one with this number of a machine check that was raised
 abbrev pub IsRaisedLine : Script → Report → Who → Arrival → Option Event → ℕ → EventLine → Type 0

@@ -9,28 +9,27 @@ use Rattle.hwp_law.specs.hwp_script_read.declared.Command.{Command}
 use Rattle.hwp_law.specs.hwp_script_read.declared.Script.{Script}
 use Rattle.hwp_law.specs.hwp_report_text.declared.Report.{Report}
 use Rattle.hwp_law.specs.hwp_severity.declared.Arrival.{Arrival}
-use Rattle.hwp_law.specs.hwp_law_commands.Commands.{is_check}
 use Rattle.hwp_law.specs.hwp_report_text.declared.EventLine.{EventLine}
-use Rattle.hwp_law.specs.Pairings.{entries_of}
-use Rattle.hwp_check_events.specs.Accesses.{IsAccessLine, asked_by_access}
+use Rattle.hwp_check_events.specs.Accesses.{IsAccessLine, asked_by_access, access_of}
 use Rattle.hwp_check_event_line.specs.Firsts.{IsScanned}
-use Rattle.hwp_check_events.specs.Misfits.{IsRightLine, Lacks, access_of, commands_before, course_of, leaves}
+use Rattle.hwp_check_events.specs.Misfits.{IsRightLine, Lacks, commands_before, course_of, leaves}
 use Rattle.hwp_check_scrub.specs.Scrubs.{after_all, lacking, lowest, reach_from}
 use Rattle.hwp_check_scrub.specs.Scrubbing.{IsRightIn}
 use Rattle.hwp_check_scrub.specs.declared.Reach.{Reach}
 use Rattle.hwp_check_event_line.specs.declared.Faults.{Faults}
+use Rattle.hwp_banks.specs.hwp_geom.declared.VSlot.{VSlot}
 
 -- where a command found `raw` in bank 1, and leaves `left` there: the first of its lines that is wrong, and whether it lacks some
-pub record IsJudged (script : Script) (report : Report) (who : Who) (command : Command) (raw left : Option Event) (lines : List EventLine) (faults : Faults) : Type 0 where
-  pub scanned : IsScanned (IsRightLine script report who command raw lines) lines faults.wrong
-  pub lacks : MatchBool faults.lacks (Lacks script report who command raw lines) (Lacks script report who command raw lines → ⊥)
-  pub left_is : left ≡ leaves script report who command raw lines
+pub record IsJudged (script : Script) (copies : Who → Option VSlot) (report : Report) (who : Who) (command : Command) (raw left : Option Event) (lines : List EventLine) (faults : Faults) : Type 0 where
+  pub scanned : IsScanned (IsRightLine script copies report who command raw lines) lines faults.wrong
+  pub lacks : MatchBool faults.lacks (Lacks script copies report who command raw lines) (Lacks script copies report who command raw lines → ⊥)
+  pub left_is : left ≡ leaves script copies report who command raw lines
 
 -- the same of an access whose machine checks arrive so, and of a scrub
-pub record IsAccessJudged (script : Script) (report : Report) (who : Who) (how : Arrival) (origin : Origin) (at : ℕ) (raw left : Option Event) (lines : List EventLine) (faults : Faults) : Type 0 where
-  pub scanned : IsScanned (IsAccessLine script report who how (access_of report who origin at raw) lines) lines faults.wrong
-  pub lacks : MatchBool faults.lacks (length lines < asked_by_access (access_of report who origin at raw)) (length lines < asked_by_access (access_of report who origin at raw) → ⊥)
-  pub left_is : left ≡ cond (entries_of report who is_check == 0) raw None
+pub record IsAccessJudged (script : Script) (report : Report) (who : Who) (how : Arrival) (origin : Origin) (at : List ℕ) (raw left : Option Event) (lines : List EventLine) (faults : Faults) : Type 0 where
+  pub scanned : IsScanned (IsAccessLine script report who how (access_of origin at raw) lines) lines faults.wrong
+  pub lacks : MatchBool faults.lacks (length lines < asked_by_access (access_of origin at raw)) (length lines < asked_by_access (access_of origin at raw) → ⊥)
+  pub left_is : left ≡ cond (length at == 0) raw None
 
 -- how far a scrub comes
 abbrev pub end_of : Script → Report → Who → Frame → Frame → Option Event → List EventLine → Reach

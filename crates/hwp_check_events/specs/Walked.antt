@@ -2,6 +2,8 @@
 use Rattle.std.specs.Prelude.{◌≡◌, ℕ, ◌+◌, ◌*◌, ◌<◌, ◌≤◌, min, ◌||◌, ◌&&◌, Bool, not, List, [], Option, Some, None, is_none, MatchBool, MatchOption, length, option_map, slice_get, slice_index_or, slice_set, unwrap_or}
 use Rattle.hwp_banks.specs.hwp_geom.Limits.{line_limit}
 use Rattle.hwp_banks.specs.hwp_geom.declared.Cpu.{Cpu}
+use Rattle.hwp_banks.specs.hwp_geom.declared.VSlot.{VSlot}
+use Rattle.hwp_banks.specs.hwp_geom.declared.Who.{Who}
 use Rattle.hwp_law.specs.hwp_script_read.declared.Command.{Command}
 use Rattle.hwp_law.specs.hwp_script_read.declared.Command.TheVariants as commands
 use Rattle.hwp_law.specs.hwp_script_read.declared.Script.{Script}
@@ -38,14 +40,14 @@ HasPlace _ table = Unit {0}
 abbrev pub IsTableOf : List Command → List ℕ → Type 0
 IsTableOf list table = (place : ℕ) → slice_index_or table place line_limit ≡ lowest list place
 
-module _ (script : Script) (report : Report) (cpu : Cpu) (list : List Command) (rows : List CpuLine) where
+module _ (script : Script) (copies : Who → Option VSlot) (report : Report) (cpu : Cpu) (list : List Command) (rows : List CpuLine) where
   -- one of the first n commands lacks event lines
   pub record LacksSome (n : ℕ) : Type 0 where
     pub seq : ℕ
     pub command : Command
     pub within : seq < n
     pub made : slice_get list seq ≡ Some command
-    pub lacks : Lacks script report (record { cpu = cpu; seq = seq }) command (found_by script report (record { cpu = cpu; seq = seq })) (events_of report (record { cpu = cpu; seq = seq }))
+    pub lacks : Lacks script copies report (record { cpu = cpu; seq = seq }) command (found_by script copies report (record { cpu = cpu; seq = seq })) (events_of report (record { cpu = cpu; seq = seq }))
 
   -- the row shows a wrong event line of one of the first n commands
   pub record IsWrongRow (n row : ℕ) : Type 0 where
@@ -57,13 +59,13 @@ module _ (script : Script) (report : Report) (cpu : Cpu) (list : List Command) (
     pub made : slice_get list seq ≡ Some command
     pub there : slice_get (shown_from seq 0 rows) number ≡ Some shown
     pub row_is : row ≡ shown.place
-    pub wrong : IsWrong script report (record { cpu = cpu; seq = seq }) command (found_by script report (record { cpu = cpu; seq = seq })) (events_of report (record { cpu = cpu; seq = seq })) number
+    pub wrong : IsWrong script copies report (record { cpu = cpu; seq = seq }) command (found_by script copies report (record { cpu = cpu; seq = seq })) (events_of report (record { cpu = cpu; seq = seq })) number
 
   -- all event lines of the first n commands are right
   abbrev pub AllRight : ℕ → Type 0
   AllRight n =
       (seq : ℕ) (command : Command) → seq < n → slice_get list seq ≡ Some command
-      → AreRight (IsRightLine script report (record { cpu = cpu; seq = seq }) command (found_by script report (record { cpu = cpu; seq = seq })) (events_of report (record { cpu = cpu; seq = seq }))) (events_of report (record { cpu = cpu; seq = seq }))
+      → AreRight (IsRightLine script copies report (record { cpu = cpu; seq = seq }) command (found_by script copies report (record { cpu = cpu; seq = seq })) (events_of report (record { cpu = cpu; seq = seq }))) (events_of report (record { cpu = cpu; seq = seq }))
 
   -- the row is the first that shows a wrong one
   pub record IsFirstRow (n row : ℕ) : Type 0 where
@@ -97,6 +99,6 @@ abbrev pub is_clean : Misfits → Bool
 is_clean found = not found.lacks && is_none found.wrong
 
 -- what is said of a processor's event lines: what was found, and whether they are those that the law asks
-pub record IsProcessorJudged (script : Script) (report : Report) (cpu : Cpu) (list : List Command) (found : Misfits) : Type 0 where
-  pub walked : IsWalked script report cpu list (unwrap_or (slice_get report.cpus cpu.0) []) (length list) found
-  pub law : MatchBool (is_clean found) (AreEventsFrom script report cpu 0 list empty_banks) (AreEventsFrom script report cpu 0 list empty_banks → ⊥)
+pub record IsProcessorJudged (script : Script) (copies : Who → Option VSlot) (report : Report) (cpu : Cpu) (list : List Command) (found : Misfits) : Type 0 where
+  pub walked : IsWalked script copies report cpu list (unwrap_or (slice_get report.cpus cpu.0) []) (length list) found
+  pub law : MatchBool (is_clean found) (AreEventsFrom script copies report cpu 0 list empty_banks) (AreEventsFrom script copies report cpu 0 list empty_banks → ⊥)

@@ -1,8 +1,8 @@
-ghost use Rattle.std.specs.Prelude.{◌≡◌, ◌↔◌, ◌<◌, ◌≤◌, ◌+◌, ◌^◌, ◌||◌, ℕ, true, None, IsTrue, IsBitSet, MatchOption, length};
+ghost use Rattle.std.specs.Prelude.{◌≡◌, ◌↔◌, ◌<◌, ◌≤◌, ◌+◌, ◌^◌, ◌||◌, ℕ, true, None, IsTrue, IsBitSet, MatchOption, get_or, length};
 ghost use Rattle.hwp_law.specs.Lines.{bad_lines_of};
 ghost use Rattle.hwp_check_event_line.specs.Firsts.{IsScanned, shown_lines};
 ghost use Rattle.hwp_check_event_line.specs.Found.{IsCandidate, beside, may_stop, of_access, own_found, stops};
-ghost use Rattle.hwp_check_events.specs.Accesses.{IsAccessLine, IsOwnLine, access_by, asked_by_access, begins_in_panic};
+ghost use Rattle.hwp_check_events.specs.Accesses.{IsAccessLine, IsOwnLine, access_by, asked_by_access, begins_in_panic, lines_met};
 
 use crate::known::Checks;
 use hwp_banks::{Bank, Event, Origin};
@@ -78,20 +78,21 @@ fn is_own_line(
     report: &Traced<'_>,
     who: Who,
     how: Arrival,
-    checks: &Checks,
+    origin: Origin,
+    at: Line,
     raw: &mut Bank,
     line: &EventLine,
 ) -> bool
-    requires access { of_access checks.now.origin ≡ true }
+    requires access { of_access origin ≡ true }
     requires frames { length report.now.frames ≤ 65536 }
-    ensures { IsTrue result ↔ IsOwnLine script.now report.now who how checks.now.origin checks.now.at raw.old line.now }
+    ensures { IsTrue result ↔ IsOwnLine script.now report.now who how origin at raw.old line.now }
 {
-    match candidate(report, checks.at, line.addr) {
+    match candidate(report, at, line.addr) {
         Some(frame) => {
-            let beside = beside(checks.origin, raw.get());
-            let own = own_found(checks.origin, raw, frame, checks.at);
+            let beside = beside(origin, raw.get());
+            let own = own_found(origin, raw, frame, at);
             let held = has_stopper(how, own, beside);
-            let bank = checks.origin.bank() as u8;
+            let bank = origin.bank() as u8;
             is_line_of(script, report, who, how, held, bank, own, line)
         }
         None => false,
@@ -109,10 +110,12 @@ fn begins_in_panic(lines: &[Shown]) -> bool
 }
 
 /// How many lines the machine checks ask, of which the first finds this in bank 1.
-pub(crate) fn asked_by_access(checks: &Checks, raw: Option<Event>) -> u64
-    requires { checks.now.count + 1 < 2 ^ 64 }
-    ensures { result ≡ asked_by_access (access_by checks.now raw) }
+pub(crate) fn asked_by_access(checks: &Checks, copied: &[Line], raw: Option<Event>) -> u64
+    requires few { checks.now.count + 1 < 2 ^ 64 }
+    requires within { length copied.now ≤ checks.now.count }
+    ensures { result ≡ asked_by_access (access_by checks.now copied.now raw) }
 {
+    let _copied = copied;
     if checks.count == 0 {
         return 0;
     }
@@ -124,6 +127,17 @@ pub(crate) fn asked_by_access(checks: &Checks, raw: Option<Event>) -> u64
         }
 }
 
+/// The line of the machine check with this number.
+fn met_at(checks: &Checks, copied: &[Line], number: u64) -> Line
+    requires { number < checks.now.count }
+    ensures { result ≡ get_or (lines_met checks.now copied.now) number 0 }
+{
+    match copied.get(number as usize) {
+        Some(line) => *line,
+        None => checks.at,
+    }
+}
+
 /// Whether the line is right as the first one. Bank 1 is given up.
 fn is_first_line(
     script: &Script,
@@ -131,17 +145,22 @@ fn is_first_line(
     who: Who,
     how: Arrival,
     checks: &Checks,
+    copied: &[Line],
     raw: &mut Bank,
     line: &EventLine,
 ) -> bool
     requires access { of_access checks.now.origin ≡ true }
     requires frames { length report.now.frames ≤ 65536 }
     requires few { checks.now.count + 1 < 2 ^ 64 }
-    ensures first { IsTrue result ↔ ((0 < asked_by_access (access_by checks.now raw.old)) × IsOwnLine script.now report.now who how checks.now.origin checks.now.at raw.old line.now) }
+    requires within { length copied.now ≤ checks.now.count }
+    ensures first { IsTrue result ↔ ((0 < asked_by_access (access_by checks.now copied.now raw.old)) × IsOwnLine script.now report.now who how checks.now.origin (get_or (lines_met checks.now copied.now) 0 0) raw.old line.now) }
     ensures kept { checks.now.count ≡ 0 → raw.new ≡ raw.old }
 {
-    asked_by_access(checks, raw.get()) > 0
-        && is_own_line(script, report, who, how, checks, raw, line)
+    if checks.count == 0 {
+        return false;
+    }
+    let at = met_at(checks, copied, 0);
+    is_own_line(script, report, who, how, checks.origin, at, raw, line)
 }
 
 /// Whether the line is right as the one with this number, not the first.
@@ -151,6 +170,7 @@ fn is_later_line(
     who: Who,
     how: Arrival,
     checks: &Checks,
+    copied: &[Line],
     raw: Option<Event>,
     lines: &[Shown],
     number: usize,
@@ -159,10 +179,11 @@ fn is_later_line(
     requires access { of_access checks.now.origin ≡ true }
     requires frames { length report.now.frames ≤ 65536 }
     requires few { checks.now.count + 1 < 2 ^ 64 }
+    requires within { length copied.now ≤ checks.now.count }
     requires later { 0 < number }
-    ensures { IsTrue result ↔ IsAccessLine script.now report.now who how (access_by checks.now raw) (shown_lines lines.now) number line.now }
+    ensures { IsTrue result ↔ IsAccessLine script.now report.now who how (access_by checks.now copied.now raw) (shown_lines lines.now) number line.now }
 {
-    if number as u64 >= asked_by_access(checks, raw) {
+    if number as u64 >= asked_by_access(checks, copied, raw) {
         return false;
     }
     let beside = beside(checks.origin, raw);
@@ -170,7 +191,10 @@ fn is_later_line(
         let held = is_held(how, checks, beside, lines);
         return is_raw_line(script, report, who, how, held, beside, line);
     }
-    is_own_line(script, report, who, how, checks, &mut Bank::new(), line)
+    let place = number as u64 - u64::from(beside.is_some());
+    let at = met_at(checks, copied, place);
+    let none = &mut Bank::new();
+    is_own_line(script, report, who, how, checks.origin, at, none, line)
 }
 
 /// The first line that isn't the one that the machine checks ask at its place. Bank 1 is given up.
@@ -180,25 +204,30 @@ pub(crate) fn access_wrong(
     who: Who,
     how: Arrival,
     checks: &Checks,
+    copied: &[Line],
     raw: &mut Bank,
     lines: &[Shown],
 ) -> Option<usize>
     requires access { of_access checks.now.origin ≡ true }
     requires frames { length report.now.frames ≤ 65536 }
     requires few { checks.now.count + 1 < 2 ^ 64 }
-    ensures scanned { IsScanned (IsAccessLine script.now report.now who how (access_by checks.now raw.old) (shown_lines lines.now)) (shown_lines lines.now) result }
+    requires within { length copied.now ≤ checks.now.count }
+    ensures scanned { IsScanned (IsAccessLine script.now report.now who how (access_by checks.now copied.now raw.old) (shown_lines lines.now)) (shown_lines lines.now) result }
     ensures kept { checks.now.count ≡ 0 → raw.new ≡ raw.old }
 {
     let held = raw.get();
     if lines.is_empty() {
         return None;
     }
-    if !is_first_line(script, report, who, how, checks, raw, &lines[0].line) {
+    let first = &lines[0].line;
+    if !is_first_line(script, report, who, how, checks, copied, raw, first) {
         return Some(0);
     }
     for number in 1..lines.len() {
         let line = &lines[number].line;
-        if !is_later_line(script, report, who, how, checks, held, lines, number, line) {
+        if !is_later_line(
+            script, report, who, how, checks, copied, held, lines, number, line,
+        ) {
             return Some(number);
         }
     }

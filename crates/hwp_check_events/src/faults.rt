@@ -9,7 +9,7 @@ use crate::accesses::{access_wrong, asked_by_access};
 use crate::known::Checks;
 use hwp_banks::{Bank, Event};
 use hwp_check_event_line::{Faults, Shown, Traced, is_raw_line, may_stop};
-use hwp_law::{Answer, Arrival, Script, Who};
+use hwp_law::{Answer, Arrival, Line, Script, Who};
 
 /// The first line where none is asked.
 pub(crate) fn any(lines: &[Shown]) -> Option<usize>
@@ -25,18 +25,20 @@ pub(crate) fn access_faults(
     who: Who,
     how: Arrival,
     checks: &Checks,
+    copied: &[Line],
     raw: &mut Bank,
     lines: &[Shown],
 ) -> Faults
     requires access { of_access checks.now.origin ≡ true }
     requires frames { length report.now.frames ≤ 65536 }
     requires few { checks.now.count + 1 < 2 ^ 64 }
-    ensures scanned { IsScanned (IsAccessLine script.now report.now who how (access_by checks.now raw.old) (shown_lines lines.now)) (shown_lines lines.now) result.wrong }
-    ensures lacks { result.lacks ≡ nat_lt (length lines.now) (asked_by_access (access_by checks.now raw.old)) }
+    requires within { length copied.now ≤ checks.now.count }
+    ensures scanned { IsScanned (IsAccessLine script.now report.now who how (access_by checks.now copied.now raw.old) (shown_lines lines.now)) (shown_lines lines.now) result.wrong }
+    ensures lacks { result.lacks ≡ nat_lt (length lines.now) (asked_by_access (access_by checks.now copied.now raw.old)) }
     ensures left { raw.new ≡ cond (checks.now.count == 0) raw.old None }
 {
-    let asked = asked_by_access(checks, raw.get());
-    let wrong = access_wrong(script, report, who, how, checks, raw, lines);
+    let asked = asked_by_access(checks, copied, raw.get());
+    let wrong = access_wrong(script, report, who, how, checks, copied, raw, lines);
     if checks.count != 0 {
         let _ = raw.take();
     }

@@ -1,9 +1,13 @@
 ghost use Rattle.std.specs.Prelude.{◌≡◌, ◌≤◌, ◌+◌, ◌<◌, ◌^◌, true, false, length};
 ghost use Rattle.hwp_law.specs.hwp_law_commands.Commands.{arrival_of, is_check};
+ghost use Rattle.hwp_banks.specs.declared.Origin.TheVariants.{Access};
+ghost use Rattle.hwp_law.specs.Events.{access_lines, store_lines};
 ghost use Rattle.hwp_law.specs.Lines.{answer_of};
 ghost use Rattle.hwp_law.specs.Pairings.{entries_of};
 ghost use Rattle.hwp_check_event_line.specs.Firsts.{IsScanned, shown_lines};
 ghost use Rattle.hwp_check_event_line.specs.Found.{of_access};
+ghost use Rattle.hwp_check_acting.specs.ActedOn.{copies_in};
+ghost use Rattle.hwp_check_events.specs.Copied.{copied_by, copied_from};
 ghost use Rattle.hwp_check_events.specs.Judged.{IsAccessJudged, IsJudged, IsScrubJudged, IsTable};
 ghost use Rattle.hwp_check_events.specs.Misfits.{IsFit, is_scrubbed, logged_if};
 
@@ -12,7 +16,10 @@ use crate::known::{Checks, Known};
 use hwp_banks::{Bank, Event, Origin, Status};
 use hwp_check_event_line::{Faults, Shown, Traced};
 use hwp_check_scrub::scrub_faults;
-use hwp_law::{Answer, Arrival, Command, Frame, Line, McgBits, Mode, Script, Who};
+use hwp_check_acting::copy_of;
+use hwp_law::{
+    Answer, Arrival, Command, Frame, Line, List, McgBits, Mode, Script, VSlot, Who,
+};
 
 /// How the machine checks of a command arrive.
 fn arrival_of(command: &Command) -> Arrival
@@ -30,15 +37,11 @@ fn arrival_of(command: &Command) -> Arrival
     }
 }
 
-/// The machine checks of an access at a line.
-fn checks_of(origin: Origin, at: Line, known: &Known) -> Checks
-    ensures { (result.origin ≡ origin) × (result.at ≡ at) × (result.count ≡ known.now.checks) }
+/// So many machine checks of an access at a line.
+fn checks_of(origin: Origin, at: Line, count: u64) -> Checks
+    ensures { (result.origin ≡ origin) × (result.at ≡ at) × (result.count ≡ count) }
 {
-    Checks {
-        origin,
-        at,
-        count: known.checks,
-    }
+    Checks { origin, at, count }
 }
 
 /// Whether the answer says that a scrub went to its end.
@@ -84,10 +87,67 @@ fn judge_access(
     requires frames { length report.now.frames ≤ 65536 }
     requires few { known.now.checks + 1 < 2 ^ 64 }
     requires checks { known.now.checks ≡ entries_of report.now who is_check }
-    ensures { IsAccessJudged script.now report.now who how origin at raw.old raw.new (shown_lines lines.now) result }
+    ensures { IsAccessJudged script.now report.now who how origin (access_lines report.now who at) raw.old raw.new (shown_lines lines.now) result }
 {
-    let checks = checks_of(origin, at, known);
-    access_faults(script, report, who, how, &checks, raw, lines)
+    let checks = checks_of(origin, at, known.checks);
+    access_faults(script, report, who, how, &checks, &[], raw, lines)
+}
+
+/// What is wrong about the lines of a store that copied a page, and met machine checks at these lines.
+fn judge_copy(
+    script: &Script,
+    report: &Traced<'_>,
+    who: Who,
+    how: Arrival,
+    at: Line,
+    copied: &[Line],
+    raw: &mut Bank,
+    lines: &[Shown],
+) -> Faults
+    requires frames { length report.now.frames ≤ 65536 }
+    ensures { IsAccessJudged script.now report.now who how Access copied.now raw.old raw.new (shown_lines lines.now) result }
+{
+    let checks = checks_of(Origin::Access, at, copied.len() as u64);
+    access_faults(script, report, who, how, &checks, copied, raw, lines)
+}
+
+/// What is wrong about the lines of a store, which met machine checks at these lines where it copied a page.
+fn judge_store(
+    script: &Script,
+    copies: &[List<Option<VSlot>>],
+    report: &Traced<'_>,
+    who: Who,
+    how: Arrival,
+    slot: VSlot,
+    at: Line,
+    known: &Known,
+    copied: &[Line],
+    raw: &mut Bank,
+    lines: &[Shown],
+) -> Faults
+    requires frames { length report.now.frames ≤ 65536 }
+    requires few { known.now.checks + 1 < 2 ^ 64 }
+    requires checks { known.now.checks ≡ entries_of report.now who is_check }
+    requires copied { copied.now ≡ copied_from script.now.layout report.now who (copies_in copies.now who) slot }
+    ensures { IsAccessJudged script.now report.now who how Access (store_lines script.now.layout report.now who (copies_in copies.now who) slot at) raw.old raw.new (shown_lines lines.now) result }
+{
+    let _slot = slot;
+    match copy_of(copies, who) {
+        Some(_) => judge_copy(script, report, who, how, at, copied, raw, lines),
+        None => {
+            judge_access(
+                script,
+                report,
+                who,
+                how,
+                Origin::Access,
+                at,
+                known,
+                raw,
+                lines,
+            )
+        }
+    }
 }
 
 /// What is wrong about the lines of a scrub, by what the report says of it.
@@ -117,10 +177,12 @@ fn judge_scrub(
 /// What is wrong about the event lines of a command, where bank 1 holds this; bank 1 is left as the command leaves it.
 pub(crate) fn command_faults(
     script: &Script,
+    copies: &[List<Option<VSlot>>],
     report: &Traced<'_>,
     who: Who,
     command: &Command,
     known: &Known,
+    copied: &[Line],
     table: &[u8],
     raw: &mut Bank,
     lines: &[Shown],
@@ -131,11 +193,12 @@ pub(crate) fn command_faults(
     requires answer { known.now.answer ≡ answer_of report.now who }
     requires table { IsTable script.now who table.now }
     requires fit { IsFit command.now }
-    ensures { IsJudged script.now report.now who command.now raw.old raw.new (shown_lines lines.now) result }
+    requires copied { copied.now ≡ copied_by script.now.layout (copies_in copies.now) report.now who command.now }
+    ensures { IsJudged script.now (copies_in copies.now) report.now who command.now raw.old raw.new (shown_lines lines.now) result }
 {
     let how = arrival_of(command);
     match *command {
-        Command::Load { line, .. } | Command::KLoad { line, .. } | Command::Store { line, .. } => {
+        Command::Load { line, .. } | Command::KLoad { line, .. } => {
             judge_access(
                 script,
                 report,
@@ -146,6 +209,11 @@ pub(crate) fn command_faults(
                 known,
                 raw,
                 lines,
+            )
+        }
+        Command::Store { slot, line, .. } => {
+            judge_store(
+                script, copies, report, who, how, slot, line, known, copied, raw, lines,
             )
         }
         Command::Fetch { line, .. } => {

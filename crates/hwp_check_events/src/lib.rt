@@ -4,6 +4,7 @@
 
 mod accesses;
 mod checks;
+mod copied;
 mod faults;
 mod index;
 mod judge;
@@ -14,6 +15,7 @@ mod tables;
 mod walk;
 
 pub use checks::checkers_of;
+pub use hwp_check_acting::{ActedScript, acted_on, copy_of, freezes_slot, has_fork, pairs_of};
 pub use hwp_check_event_line::Shown;
 pub use index::events_by_command;
 pub use misfits::Misfits;

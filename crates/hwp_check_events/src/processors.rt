@@ -1,16 +1,18 @@
 ghost use Rattle.std.specs.Prelude.{◌≡◌, ◌≤◌, ◌<◌, ◌+◌, ◌*◌, ◌^◌, [], Some, length, slice_get, sum_by, unwrap_or, All, IfOk};
 ghost use Rattle.hwp_law.specs.hwp_report_text.declared.FrameLine.{FrameLine};
-ghost use Rattle.hwp_law.specs.hwp_script_read.Valid.{IsValid};
+ghost use Rattle.hwp_check_acting.specs.ActedOn.{copies_in};
+ghost use Rattle.hwp_check_acting.specs.Scripts.{IsDeclared};
 ghost use Rattle.hwp_check_events.specs.Indexed.{all_checkers};
 ghost use Rattle.hwp_check_events.specs.Walked.{IsProcessorJudged};
 
 use crate::checks::checks_by_command;
+use crate::copied::copied_of;
 use crate::index::{answers_by_command, events_by_command};
 use crate::misfits::Misfits;
 use crate::walk::walk;
 use hwp_check_event_line::Traced;
 use hwp_check_poison::{past_of, results_of};
-use hwp_law::{Command, Cpu, CpuLine, OutOfMemory, Report, Script, Who};
+use hwp_law::{Command, Cpu, CpuLine, List, OutOfMemory, Report, Script, VSlot, Who};
 use std::alloc::Global;
 
 /// A mask has 64 bits.
@@ -44,17 +46,18 @@ fn rows_on(report: &Report, cpu: Cpu) -> &[CpuLine]
 pub fn processor_faults(
     alloc: Global,
     script: &Script,
+    copies: &[List<Option<VSlot>>],
     report: &Report,
     cpu: Cpu,
     commands: &[Command],
     checkers: &[Who],
 ) -> Result<Misfits, OutOfMemory>
-    requires valid { IsValid script.now }
+    requires valid { IsDeclared script.now }
     requires frames { length report.now.frames ≤ 65536 }
     requires room { sum_by length report.now.pages + 1 < 2 ^ 64 }
     requires of_script { slice_get script.now.lists cpu.0 ≡ Some commands.now }
     requires checkers { checkers.now ≡ all_checkers report.now.pages }
-    ensures { IfOk result (λ found. IsProcessorJudged script.now report.now cpu commands.now found) }
+    ensures { IfOk result (λ found. IsProcessorJudged script.now (copies_in copies.now) report.now cpu commands.now found) }
 {
     small_masks(report);
     let rows = rows_on(report, cpu);
@@ -62,13 +65,16 @@ pub fn processor_faults(
     let lists = events_by_command(alloc, count, rows)?;
     let answers = answers_by_command(alloc, count, rows)?;
     let checks = checks_by_command(alloc, count, cpu, report.pages.as_slice(), checkers)?;
+    let layout = &script.layout;
+    let copied = copied_of(alloc, layout, copies, report, cpu, commands)?;
     let mut table = Vec::new(alloc);
-    table.resize(2 * usize::from(script.layout.frames), 64)?;
+    table.resize(2 * usize::from(layout.frames), 64)?;
     let past = past_of(alloc, cpu, report.frames.as_slice())?;
     let results = results_of(alloc, cpu, report.frames.as_slice())?;
     let traced = Traced::new(cpu, report, &past, &results);
     Ok(walk(
         script,
+        copies,
         &traced,
         cpu,
         commands,
@@ -76,6 +82,7 @@ pub fn processor_faults(
         lists.as_slice(),
         answers.as_slice(),
         checks.as_slice(),
+        copied.as_slice(),
         &mut table,
     ))
 }

@@ -1,15 +1,18 @@
 ghost use Rattle.std.specs.Prelude.{◌≡◌, ◌≤◌, ◌<◌, ◌+◌, ◌*◌, ◌^◌, [], Some, length, slice_get, sum_by, unwrap_or};
-ghost use Rattle.hwp_law.specs.hwp_script_read.Valid.{IsValid};
+ghost use Rattle.hwp_check_acting.specs.ActedOn.{copies_in};
+ghost use Rattle.hwp_check_acting.specs.Scripts.{IsDeclared};
+ghost use Rattle.hwp_check_events.specs.Copied.{AreCopied};
 ghost use Rattle.hwp_check_events.specs.Indexed.{AreChecks, AreFirst, AreShown};
 ghost use Rattle.hwp_check_events.specs.Walked.{IsTableOf, IsWalked, joined, place_at, sooner};
 
+use crate::copied::list_at;
 use crate::judge::command_faults;
 use crate::known::Known;
 use crate::misfits::Misfits;
 use crate::tables::mark;
 use hwp_banks::Bank;
 use hwp_check_event_line::{Faults, Shown, Traced};
-use hwp_law::{Answer, Command, Cpu, CpuLine, List, Script, Who};
+use hwp_law::{Answer, Command, Cpu, CpuLine, Line, List, Script, VSlot, Who};
 
 /// The lower of a row that was found so far, if one was, and one more.
 fn sooner(found: Option<usize>, place: usize) -> Option<usize>
@@ -49,6 +52,7 @@ fn join(found: Misfits, faults: Faults, lines: &[Shown]) -> Misfits
 /// machine checks. The table of marked lines is filled.
 pub(crate) fn walk(
     script: &Script,
+    copies: &[List<Option<VSlot>>],
     report: &Traced<'_>,
     cpu: Cpu,
     commands: &[Command],
@@ -56,9 +60,10 @@ pub(crate) fn walk(
     lists: &[List<Shown>],
     answers: &[Option<Answer>],
     checks: &[u64],
+    copied: &[List<Line>],
     table: &mut Vec<u8>,
 ) -> Misfits
-    requires valid { IsValid script.now }
+    requires valid { IsDeclared script.now }
     requires frames { length report.now.frames ≤ 65536 }
     requires room { sum_by length report.now.pages + 1 < 2 ^ 64 }
     requires of_script { slice_get script.now.lists cpu.0 ≡ Some commands.now }
@@ -66,9 +71,10 @@ pub(crate) fn walk(
     requires lists { AreShown rows.now (length commands.now) lists.now }
     requires answers { AreFirst rows.now (length commands.now) answers.now }
     requires checks { AreChecks cpu (length commands.now) report.now.pages checks.now }
+    requires copied { AreCopied script.now.layout (copies_in copies.now) report.now cpu commands.now (length commands.now) copied.now }
     requires size { length table.old.items ≡ 2 * script.now.layout.frames }
     requires empty { IsTableOf [] table.old.items }
-    ensures { IsWalked script.now report.now cpu commands.now rows.now (length commands.now) result }
+    ensures { IsWalked script.now (copies_in copies.now) report.now cpu commands.now rows.now (length commands.now) result }
 {
     let mut raw = Bank::new();
     let mut found = Misfits {
@@ -88,10 +94,12 @@ pub(crate) fn walk(
         let lines = lists[number].as_slice();
         let faults = command_faults(
             script,
+            copies,
             report,
             who,
             command,
             &known,
+            list_at(copied, number),
             table.as_slice(),
             &mut raw,
             lines,

@@ -4,12 +4,13 @@ ghost use Rattle.hwp_check_evidence.specs.Ends.{any_ended, never, own_page_ends,
 ghost use Rattle.hwp_check_evidence.specs.Firsts.{is_named};
 ghost use Rattle.hwp_check_evidence.specs.Findings.{AreFound, IsAdded};
 ghost use Rattle.hwp_check_evidence.specs.Named.{flagged_page};
+ghost use Rattle.hwp_check_acting.specs.ActedOn.{copies_in};
 
 use crate::ends::{end_any, end_own, no_ends, process_numbers};
 use crate::named::flag;
 use crate::names::Names;
 use crate::windows::{Span, page_span};
-use hwp_law::{At, Cpu, Entry, Layout, List, OutOfMemory, Page};
+use hwp_law::{At, Cpu, Entry, Layout, List, OutOfMemory, Page, VSlot};
 use std::alloc::Global;
 
 /// What the histories tell of the commands of one processor.
@@ -32,13 +33,14 @@ fn note_page(
     others: &mut Vec<bool>,
     layout: &Layout,
     names: &Names,
+    copies: &[List<Option<VSlot>>],
     cpu: Cpu,
     page: Page,
     entries: &[Entry],
 )
     ensures any { ends.new.items ≡ fold (any_ended layout.now cpu) ends.old.items entries.now }
     ensures own { ended.new.items ≡ own_page_ends layout.now cpu ended.old.items entries.now }
-    ensures others { others.new.items ≡ flagged_page (is_named names.now) cpu page others.old.items 0 entries.now }
+    ensures others { others.new.items ≡ flagged_page (is_named names.now) (copies_in copies.now) cpu page others.old.items 0 entries.now }
 {
     let mut number = 0;
     for entry in entries {
@@ -47,6 +49,7 @@ fn note_page(
         flag(
             others,
             names,
+            copies,
             cpu,
             At {
                 page,
@@ -64,13 +67,14 @@ fn add_page(
     found: &mut Findings,
     layout: &Layout,
     names: &Names,
+    copies: &[List<Option<VSlot>>],
     cpu: Cpu,
     processes: usize,
     page: Page,
     entries: &[Entry],
 ) -> Result<(), OutOfMemory>
     requires { processes ≡ process_numbers layout.now }
-    ensures { OnOk result (IsAdded layout.now (is_named names.now) cpu page entries.now found.old found.new) }
+    ensures { OnOk result (IsAdded layout.now (is_named names.now) (copies_in copies.now) cpu page entries.now found.old found.new) }
 {
     let mut ends = no_ends(alloc, processes)?;
     note_page(
@@ -79,6 +83,7 @@ fn add_page(
         &mut found.others,
         layout,
         names,
+        copies,
         cpu,
         page,
         entries,
@@ -120,10 +125,11 @@ pub fn findings_of(
     cpu: Cpu,
     commands: usize,
     names: &Names,
+    copies: &[List<Option<VSlot>>],
     pages: &[List<Entry>],
 ) -> Result<Findings, OutOfMemory>
     requires { length pages.now ≤ page_limit }
-    ensures { IfOk result (λ found. AreFound layout.now (is_named names.now) cpu commands pages.now found) }
+    ensures { IfOk result (λ found. AreFound layout.now (is_named names.now) (copies_in copies.now) cpu commands pages.now found) }
 {
     let processes = processes_of(layout);
     let mut found = nothing(alloc, commands, processes)?;
@@ -134,6 +140,7 @@ pub fn findings_of(
             &mut found,
             layout,
             names,
+            copies,
             cpu,
             processes,
             Page(number),

@@ -1,10 +1,13 @@
 ghost use Rattle.std.specs.Prelude.{◌≡◌, ◌↔◌, ◌<◌, false, None, IsTrue, length, replicate, slice_index_or};
 ghost use Rattle.hwp_law.specs.Answers.{is_answering};
+ghost use Rattle.hwp_law.specs.Copies.{is_sigbus, must_be_named};
+ghost use Rattle.hwp_check_acting.specs.ActedOn.{copies_in};
 ghost use Rattle.hwp_check_evidence.specs.Firsts.{is_at, is_named};
 ghost use Rattle.hwp_check_evidence.specs.Named.{HasOther, flagged, flagged_pages, is_other};
 
 use crate::names::{Names, is_named};
-use hwp_law::{At, Cpu, Entry, List, What, Who};
+use hwp_check_acting::copy_of;
+use hwp_law::{At, Cpu, Entry, List, Met, VSlot, What, Who};
 
 /// Whether a line of the command has to name the entry.
 fn is_answering(what: &What) -> bool
@@ -14,6 +17,26 @@ fn is_answering(what: &What) -> bool
         what,
         What::FaultIn | What::Map { .. } | What::Mce { .. } | What::Fail { .. }
     )
+}
+
+/// Whether the entry sent SIGBUS to who met it.
+fn is_sigbus(what: &What) -> bool
+    ensures { result ≡ is_sigbus what.now }
+{
+    match what {
+        What::Load { met, .. } | What::Store { met, .. } => matches!(met, Met::Sigbus { .. }),
+        _ => false,
+    }
+}
+
+/// Whether a line of a command has to name the entry, where the command copied from this translation, if it copied.
+fn must_be_named(from: Option<VSlot>, what: &What) -> bool
+    ensures { result ≡ must_be_named from what.now }
+{
+    match from {
+        None => is_answering(what),
+        Some(_) => is_sigbus(what) || matches!(what, What::Soft),
+    }
 }
 
 /// Whether this place is named.
@@ -37,17 +60,32 @@ pub(crate) fn named_at(named: &[Option<At>], seq: u32) -> Option<At>
 }
 
 /// Whether the entry is one of the processor that a line of its command has to name, and none does.
-fn is_other(names: &Names, cpu: Cpu, at: At, entry: &Entry) -> bool
-    ensures { result ≡ is_other (is_named names.now) cpu at entry.now }
+fn is_other(
+    names: &Names,
+    copies: &[List<Option<VSlot>>],
+    cpu: Cpu,
+    at: At,
+    entry: &Entry,
+) -> bool
+    ensures { result ≡ is_other (is_named names.now) (copies_in copies.now) cpu at entry.now }
 {
-    entry.who.cpu.0 == cpu.0 && is_answering(&entry.what) && !is_named(names, entry.who.seq, at)
+    entry.who.cpu.0 == cpu.0
+        && must_be_named(copy_of(copies, entry.who), &entry.what)
+        && !is_named(names, entry.who.seq, at)
 }
 
 /// Sets the flag of the entry's command, if none of its lines names the entry.
-pub(crate) fn flag(flags: &mut Vec<bool>, names: &Names, cpu: Cpu, at: At, entry: &Entry)
-    ensures { flags.new.items ≡ flagged (is_named names.now) cpu flags.old.items at entry.now }
+pub(crate) fn flag(
+    flags: &mut Vec<bool>,
+    names: &Names,
+    copies: &[List<Option<VSlot>>],
+    cpu: Cpu,
+    at: At,
+    entry: &Entry,
+)
+    ensures { flags.new.items ≡ flagged (is_named names.now) (copies_in copies.now) cpu flags.old.items at entry.now }
 {
-    if is_other(names, cpu, at, entry) {
+    if is_other(names, copies, cpu, at, entry) {
         let seq = entry.who.seq as usize;
         if seq < flags.len() {
             flags[seq] = true;
@@ -56,12 +94,19 @@ pub(crate) fn flag(flags: &mut Vec<bool>, names: &Names, cpu: Cpu, at: At, entry
 }
 
 /// Whether the command has an entry that a line of it has to name, and that none names.
-pub fn is_elsewhere(pages: &[List<Entry>], names: &Names, flags: &[bool], who: Who) -> bool
-    requires flags { flags.now ≡ flagged_pages (is_named names.now) who.cpu (replicate (length flags.now) false) 0 pages.now }
+pub fn is_elsewhere(
+    pages: &[List<Entry>],
+    names: &Names,
+    copies: &[List<Option<VSlot>>],
+    flags: &[bool],
+    who: Who,
+) -> bool
+    requires flags { flags.now ≡ flagged_pages (is_named names.now) (copies_in copies.now) who.cpu (replicate (length flags.now) false) 0 pages.now }
     requires inside { who.seq < length flags.now }
-    ensures { IsTrue result ↔ HasOther pages.now who (is_named names.now who.seq) }
+    ensures { IsTrue result ↔ HasOther pages.now (copies_in copies.now) who (is_named names.now who.seq) }
 {
     let _pages = pages;
     let _names = names;
+    let _copies = copies;
     flags[who.seq as usize]
 }

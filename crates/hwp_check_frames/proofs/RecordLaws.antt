@@ -6,7 +6,7 @@ use Rattle.std.proofs.lemmas.List.Sums.{sum_by-take-le}
 use Rattle.std.proofs.lemmas.Option.{none-some, same_Some, slice_get-get_or, slice_get_read, slice_get_within}
 use Rattle.hwp_check_rules.specs.hwp_geom.declared.Frame.{Frame}
 use Rattle.hwp_check_rules.specs.hwp_geom.declared.Who.{Who}
-use Rattle.hwp_check_rules.specs.hwp_script_read.Valid.{IsValid}
+use Rattle.hwp_check_rules.specs.hwp_check_acting.Scripts.{IsDeclared}
 use Rattle.hwp_check_rules.specs.hwp_script_read.declared.Script.{Script}
 use Rattle.hwp_check_rules.specs.hwp_report_text.declared.Acted.{Acted}
 use Rattle.hwp_check_rules.specs.hwp_report_text.declared.CpuLine.{CpuLine}
@@ -20,14 +20,14 @@ use Rattle.hwp_check_rules.specs.hwp_law.Lines.{is_same_command, marks_of, rows_
 use Rattle.hwp_check_rules.specs.hwp_law.Records.{IsAnswered, IsFound, IsFrameRecord, IsMarkAt, hardware_act, hardware_marks, how_in, is_by_hardware, line_results, result_lines, who_in}
 use Rattle.hwp_check_rules.specs.hwp_law_commands.Outcomes.{outcome_act}
 use Rattle.hwp_check_rules.specs.MarkFaults.{HasNoEvent, IsEventBeyond, IsMisfound, IsUnsaid}
-use Rattle.hwp_check_frames.specs.MarkScans.{AreRightMarks, FindsRight, FrameFits, HasEvent, IsClear, IsFirstFault, IsFrameFaultAt, IsRecordFault, IsRecordWrong, IsRightMark, IsWrongMark, NoneBeyond, RecordFits, RecordsFit, results_in}
+use Rattle.hwp_check_frames.specs.MarkScans.{AreRightMarks, FindsRight, FrameFits, HasEvent, IsFrameFaultAt, IsRecordFault, IsRecordWrong, IsRightMark, IsWrongMark, NoneBeyond, RecordFits, RecordsFit, results_in}
 use Rattle.hwp_check_rules.specs.Rules.{ShapeFits}
 use Rattle.hwp_check_rules.specs.Standing.{frame_height, frame_line, last_line}
 use Rattle.hwp_check_rules.specs.declared.Rule.TheVariants.{Shape}
-use Rattle.hwp_check_rules.specs.Verdicts.{HoldBelow}
 use Rattle.hwp_check_frames.proofs.Results.{act-at, acts-many, agree, none-beyond, own, results-are, results-many, some-beyond}
 use Rattle.hwp_check_frames.proofs.SoftLaws.{all-said, not-said, said-all, said-not}
 use Rattle.hwp_check_frames.proofs.FramePlaces.{and-both, and-left, and-right, frame-next, frame-rises, marks-are, same-self, same-who, shown-in}
+use Rattle.hwp_check_rules.specs.Firsts.{IsFirstFault, IsClear}
 
 finds-from : (kernel : Bool) (mark : MarkLine) → FindsRight kernel mark → (how : How) → how_in mark ≡ Some how → IsFound kernel how
 finds-from kernel (marks.Poisoned cycle who h) found how is = subst (λ (x : How). IsFound kernel x) (same_Some _ _ is) found
@@ -355,8 +355,8 @@ kernel-at xs kernels i n d same is within =
     subst (λ k. slice_get kernels k ≡ Some (get_or xs i d)) is (subst (λ (ys : List Bool). slice_get ys i ≡ Some (get_or xs i d)) same (slice_get-get_or xs i d (omega (arith, long, is, within))))
 
 -- the script has as many kernel flags as the report frames, when the shape fits
-pub as-many : (script : Script) (report : Report) → IsValid script → HoldBelow 5 script report → (length report.frames ≡ script.layout.frames) × (length script.layout.kernel ≡ script.layout.frames) × (length report.cpus ≡ script.layout.cpus)
-as-many script report valid below = let shape : ShapeFits script report = below Shape (omega arith) in (shape.frames, valid.sound.kernel, shape.cpus)
+pub as-many : (script : Script) (report : Report) → IsDeclared script → ShapeFits script report → (length report.frames ≡ script.layout.frames) × (length script.layout.kernel ≡ script.layout.frames) × (length report.cpus ≡ script.layout.cpus)
+as-many script report valid shape = (shape.frames, valid.sound.kernel, shape.cpus)
 
 -- the next heading is within the report
 pub frame-room : (script : Script) (report : Report) (n heading : ℕ) (shown : FrameLine) → KeptBelow script report n heading → slice_get report.frames n ≡ Some shown

@@ -52,17 +52,6 @@ pub record IsRecordWrong (script : Script) (report : Report) (line : ℕ) : Type
 abbrev pub IsRecordFault : Script → Report → ℕ → Type 0
 IsRecordFault script report line = IsRecordWrong script report line ⊎ IsEventBeyond report line
 
--- nothing breaks a rule, and it holds
-pub record IsClear (Fits : Type 0) (IsFault : ℕ → Type 0) : Type 0 where
-  pub fits : Fits
-  pub none : (line : ℕ) → IsFault line → ⊥
-
--- a rule is broken, first by this line
-pub record IsFirstFault (Fits : Type 0) (IsFault : ℕ → Type 0) (line : ℕ) : Type 0 where
-  pub broken : Fits → ⊥
-  pub at : IsFault line
-  pub first : (other : ℕ) → IsFault other → line ≤ other
-
 -- the mark finds what can be in such a frame
 abbrev pub FindsRight : Bool → MarkLine → Type 0
 FindsRight kernel (marks.Poisoned cycle who how) = IsFound kernel how

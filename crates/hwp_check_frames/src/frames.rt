@@ -1,10 +1,11 @@
 ghost use Rattle.std.specs.Prelude.{◌<◌, ◌+◌, ◌^◌, length, IfOk, MatchBool, MatchOption};
-ghost use Rattle.hwp_check_rules.specs.hwp_script_read.Valid.{IsValid};
+ghost use Rattle.hwp_check_rules.specs.hwp_check_acting.Scripts.{IsDeclared};
 ghost use Rattle.hwp_check_rules.specs.hwp_law.Lines.{marks_of};
 ghost use Rattle.hwp_check_frames.specs.Index.{IsIndex};
-ghost use Rattle.hwp_check_frames.specs.MarkScans.{AreRightMarks, FrameFits, IsClear, IsFirstFault, IsFirstWrongMark, IsFrameFaultAt, IsRecordFault, NoneBeyond, RecordsFit, SomeBeyond};
+ghost use Rattle.hwp_check_frames.specs.MarkScans.{AreRightMarks, FrameFits, IsFirstWrongMark, IsFrameFaultAt, IsRecordFault, NoneBeyond, RecordsFit, SomeBeyond};
 ghost use Rattle.hwp_check_rules.specs.Standing.{last_line};
-ghost use Rattle.hwp_check_rules.specs.Verdicts.{HoldBelow};
+ghost use Rattle.hwp_check_rules.specs.Firsts.{IsFirstFault, IsClear};
+ghost use Rattle.hwp_check_rules.specs.Rules.{ShapeFits};
 
 use crate::index::Index;
 use crate::own::add_own;
@@ -86,9 +87,9 @@ pub fn kept(
     report: &Report,
     index: &Index,
 ) -> Result<Option<u64>, OutOfMemory>
-    requires valid { IsValid script.now }
+    requires valid { IsDeclared script.now }
     requires room { last_line report.now < 2 ^ 64 }
-    requires below { HoldBelow 5 script.now report.now }
+    requires shape { ShapeFits script.now report.now }
     requires index { IsIndex report.now index.now }
     ensures { IfOk result (λ found. MatchOption found (IsClear (RecordsFit script.now report.now) (IsRecordFault script.now report.now)) (λ line. IsFirstFault (RecordsFit script.now report.now) (IsRecordFault script.now report.now) line)) }
 {

@@ -14,11 +14,11 @@ use Rattle.hwp_check_rules.specs.Standing.{frame_height, frame_line, last_line}
 use Rattle.hwp_check_frames.specs.Counts.{at_key}
 use Rattle.hwp_check_marks.specs.Tallies.{CountEntries, CountMarks, frames_raise, is_over, is_reached, key_of, mark_raise, marks_raise, may_have}
 use Rattle.hwp_check_marks.specs.Unpaired.{AllFew, IsExtra, IsFirstExtra, NoneExtra, allowed, before_in, exceeds, in_frames, is_extra}
-use Rattle.hwp_check_frames.specs.MarkScans.{IsFirstFault}
 use Rattle.hwp_check_marks.specs.declared.kinds.Kind.{Kind}
 use Rattle.hwp_check_marks.specs.declared.kinds.Kind.TheVariants as kinds
 use Rattle.hwp_check_marks.proofs.TallyLaws.{frames-kind, frames-low, front-low, marks-kind, pages-kind}
 use Rattle.hwp_check_marks.proofs.UnpairedLaws.{FewBelow, extra-next, few-first, few-next}
+use Rattle.hwp_check_rules.specs.Firsts.{IsFirstFault}
 
 module _ {S : Type 0} (report : Report) (above : List FrameLine) (before : List MarkLine) (entries had : HashMap ((ℕ × ℕ) × ℕ) ℕ S) (of_entries : CountEntries report.pages entries) (of_marks : CountMarks above before had) where
   may-have : (who : Who) (kind : Kind) → may_have kind (at_key entries (key_of who kind)) ≡ allowed report who kind

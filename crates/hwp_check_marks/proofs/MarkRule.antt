@@ -21,13 +21,12 @@ use Rattle.hwp_check_rules.specs.hwp_law.Lines.{is_same_command, marks_of}
 use Rattle.hwp_check_rules.specs.hwp_law.Pairings.{AreRecorded, entries_of, finds, has_page, is_failure, is_failure_mark, is_move_mark, is_required, is_soft, is_soft_mark, is_urgent, marks_in, soft_lines, urgent_from}
 use Rattle.hwp_check_rules.specs.hwp_law.Places.{entry_at}
 use Rattle.hwp_check_rules.specs.hwp_law.Records.{IsAnswered, IsMarkAt, hardware_marks, how_in, is_by_hardware, result_lines, who_in}
-use Rattle.hwp_check_rules.specs.Firsts.{sooner, soonest}
+use Rattle.hwp_check_rules.specs.Firsts.{sooner, soonest, IsFirstFault, IsClear}
 use Rattle.hwp_check_rules.specs.MarkFaults.{HasNoEvent, IsMarkFault, IsMarkLacking, IsMisfound, IsMisrequired, IsSoftBeyond, IsUnsaid, LacksMarks, home_of}
 use Rattle.hwp_check_rules.specs.Rules.{MarksFit}
 use Rattle.hwp_check_rules.specs.Standing.{entry_line, frame_line}
 use Rattle.hwp_check_rules.specs.declared.Rule.TheVariants.{Marks}
-use Rattle.hwp_check_rules.specs.Verdicts.{IsBroken}
-use Rattle.hwp_check_frames.specs.MarkScans.{IsClear, IsFirstFault, IsRecordFault, RecordsFit}
+use Rattle.hwp_check_frames.specs.MarkScans.{IsRecordFault, RecordsFit}
 use Rattle.hwp_check_marks.specs.Unpaired.{AllFew, IsExtra, IsTooMany}
 use Rattle.hwp_check_marks.specs.Walks.{IsLowest}
 use Rattle.hwp_check_marks.proofs.LackLaws.{SomeEntryIn, some-entry}
@@ -314,9 +313,9 @@ module _ (script : Script) (report : Report) where
         ∙ ap (λ (o : Option ℕ). soonest (soonest kept short) o) (fits-clear (AllFew report) (IsExtra report) extra of_extra (few-of fits))
         ∙ ap (λ (o : Option ℕ). soonest kept o) (none-least (IsSoftBeyond script report) short of_short (none-short fits)) ∙ fits-clear (RecordsFit script report) (IsRecordFault script report) kept of_kept (records-of fits)
 
-    pub marks-decided : MatchOption (soonest (soonest (soonest kept short) extra) (soonest lacks wrong)) (MarksFit script report) (IsBroken Marks script report)
+    pub marks-decided : MatchOption (soonest (soonest (soonest kept short) extra) (soonest lacks wrong)) (MarksFit script report) (IsFirstFault (MarksFit script report) (IsMarkFault script report))
     marks-decided = by (soonest (soonest (soonest kept short) extra) (soonest lacks wrong)) refl lowest
       where
-        by : (o : Option ℕ) → soonest (soonest (soonest kept short) extra) (soonest lacks wrong) ≡ o → IsLowest (IsMarkFault script report) o → MatchOption o (MarksFit script report) (IsBroken Marks script report)
+        by : (o : Option ℕ) → soonest (soonest (soonest kept short) extra) (soonest lacks wrong) ≡ o → IsLowest (IsMarkFault script report) o → MatchOption o (MarksFit script report) (IsFirstFault (MarksFit script report) (IsMarkFault script report))
         by None is low = holds is
         by (Some n) is low = record { broken = λ fits. none-some n (sym (clear fits) ∙ is); at = low.at; first = low.first }

@@ -6,7 +6,7 @@ use Rattle.std.proofs.lemmas.Option.{none-some, same_Some, slice_get-get_or}
 use Rattle.hwp_check_rules.specs.hwp_geom.declared.Frame.{Frame}
 use Rattle.hwp_check_rules.specs.hwp_geom.declared.Who.{Who}
 use Rattle.hwp_check_rules.specs.hwp_page.declared.At.{At}
-use Rattle.hwp_check_rules.specs.hwp_script_read.Valid.{IsValid}
+use Rattle.hwp_check_rules.specs.hwp_check_acting.Scripts.{IsDeclared}
 use Rattle.hwp_check_rules.specs.hwp_script_read.declared.Command.{Command}
 use Rattle.hwp_check_rules.specs.hwp_script_read.declared.Command.TheVariants as commands
 use Rattle.hwp_check_rules.specs.hwp_script_read.declared.Script.{Script}
@@ -25,7 +25,7 @@ use Rattle.hwp_check_rules.specs.hwp_law.Records.{how_in, is_moved, is_taken}
 use Rattle.hwp_check_rules.proofs.of_hwp_law.Extents.{answer_there}
 use Rattle.hwp_check_rules.specs.MarkFaults.{IsSoftBeyond, lines_beside}
 use Rattle.hwp_check_rules.specs.Standing.{frame_line}
-use Rattle.hwp_check_rules.specs.Rules.{AnswersFit, ShapeFits}
+use Rattle.hwp_check_rules.specs.Rules.{ShapeFits, AreAllAnswered}
 use Rattle.hwp_check_rules.proofs.Lawful.{both_there}
 use Rattle.hwp_check_frames.proofs.FramePlaces.{and-both, and-left, and-right, same-self}
 
@@ -64,7 +64,7 @@ taken-is None is = absurd (true≢false (sym is))
 taken-is (Some answers.TakenFree) is = refl
 taken-is (Some _) is = absurd (true≢false (sym is))
 
-module _ (script : Script) (report : Report) (valid : IsValid script) (shape : ShapeFits script report) (fits : AnswersFit script report) where
+module _ (script : Script) (report : Report) (valid : IsDeclared script) (shape : ShapeFits script report) (answered : AreAllAnswered script report) where
   -- the answer of a command has its cause
   caused : (who : Who) (command : Command) (answer : Answer) → command_at script who ≡ Some command → answer_of report who ≡ Some answer → IsCaused script report who command answer
   caused who command answer made told = by (slice_get report.cpus who.cpu.0) refl
@@ -75,7 +75,7 @@ module _ (script : Script) (report : Report) (valid : IsValid script) (shape : S
           let list = both_there report.cpus script.lists who.cpu.0 rows (shape.cpus ∙ sym valid.one_each) is in
           let row = answer_there rows who.seq answer (sym (ap (λ (o : Option (List CpuLine)). answer_among (unwrap_or o []) who.seq) is) ∙ told) in
           let own : slice_get list.0 who.seq ≡ Some command = sym (ap (λ (o : Option (List Command)). option_and_then (λ (l : List Command). slice_get l who.seq) o) list.1) ∙ made in
-          ((fits.answered who.cpu list.0 rows list.1 is).right row.0 who.seq answer command row.1 own).shown
+          ((answered who.cpu list.0 rows list.1 is).right row.0 who.seq answer command row.1 own).shown
 
   -- the mark counts
   has-one : (who : Who) (frame : Frame) (moved : Bool) (how : How) → cond moved hows.Moved hows.TakenFree ≡ how → HasMark report who frame (λ (m : MarkLine). how_in m ≡ Some how) → 1 ≤ count_by (is_soft_mark who moved) (marks_of report frame.0)

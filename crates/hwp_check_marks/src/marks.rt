@@ -1,8 +1,9 @@
 ghost use Rattle.std.specs.Prelude.{◌<◌, ◌^◌, IfOk, MatchOption};
-ghost use Rattle.hwp_check_rules.specs.hwp_script_read.Valid.{IsValid};
+ghost use Rattle.hwp_check_rules.specs.hwp_check_acting.Scripts.{IsDeclared};
 ghost use Rattle.hwp_check_rules.specs.Standing.{last_line};
-ghost use Rattle.hwp_check_rules.specs.declared.Rule.TheVariants.{Marks};
-ghost use Rattle.hwp_check_rules.specs.Verdicts.{HoldBelow, Holds, IsBroken};
+ghost use Rattle.hwp_check_rules.specs.Firsts.{IsFirstFault};
+ghost use Rattle.hwp_check_rules.specs.Rules.{MarksFit, ShapeFits, AreAllAnswered};
+ghost use Rattle.hwp_check_rules.specs.MarkFaults.{IsMarkFault};
 
 use crate::lacking::lacking;
 use crate::misrequired::misrequired;
@@ -18,10 +19,11 @@ pub fn marks_fault(
     script: &Script,
     report: &Report,
 ) -> Result<Option<u64>, OutOfMemory>
-    requires valid { IsValid script.now }
+    requires valid { IsDeclared script.now }
     requires room { last_line report.now < 2 ^ 64 }
-    requires below { HoldBelow 5 script.now report.now }
-    ensures { IfOk result (λ found. MatchOption found (Holds Marks script.now report.now) (IsBroken Marks script.now report.now)) }
+    requires shape { ShapeFits script.now report.now }
+    requires answered { AreAllAnswered script.now report.now }
+    ensures { IfOk result (λ found. MatchOption found (MarksFit script.now report.now) (IsFirstFault (MarksFit script.now report.now) (IsMarkFault script.now report.now))) }
 {
     let extra = unpaired(alloc, report)?;
     let lacks = lacking(alloc, script, report)?;

@@ -1,9 +1,9 @@
 ghost use Rattle.std.specs.Prelude.{◌≡◌, ◌+◌, ◌<◌, ◌^◌, [], length, IfOk, MatchOption, None};
 ghost use Rattle.std.specs.List.{sum_by};
-ghost use Rattle.hwp_check_frames.specs.MarkScans.{IsClear, IsFirstFault};
 ghost use Rattle.hwp_check_marks.specs.Tallies.{CountEntries, CountMarks, is_over, is_reached, may_have};
 ghost use Rattle.hwp_check_marks.specs.Unpaired.{AllFew, IsExtra, IsFirstExtra, NoneExtra};
 ghost use Rattle.hwp_check_rules.specs.Standing.{frame_height, last_line};
+ghost use Rattle.hwp_check_rules.specs.Firsts.{IsFirstFault, IsClear};
 
 use crate::keys::{has_page, key_of};
 use crate::kinds::Kind;

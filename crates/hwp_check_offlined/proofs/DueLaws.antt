@@ -12,7 +12,8 @@ use Rattle.hwp_check_rules.specs.hwp_geom.declared.Layout.{Layout}
 use Rattle.hwp_check_rules.specs.hwp_script_read.declared.Command.{Command}
 use Rattle.hwp_check_rules.specs.hwp_script_read.declared.Command.TheVariants as commands
 use Rattle.hwp_check_rules.specs.hwp_script_read.declared.Script.{Script}
-use Rattle.hwp_check_rules.specs.hwp_script_read.Valid.{IsCommandOf, IsValid}
+use Rattle.hwp_check_rules.specs.hwp_check_acting.Scripts.{IsDeclared}
+use Rattle.hwp_check_rules.specs.hwp_script_read.Valid.{IsCommandOf}
 use Rattle.hwp_check_rules.specs.hwp_report_text.declared.Answer.{Answer}
 use Rattle.hwp_check_rules.specs.hwp_report_text.declared.Answer.TheVariants as answers
 use Rattle.hwp_check_rules.specs.hwp_report_text.declared.CpuLine.{CpuLine}
@@ -182,7 +183,7 @@ module _ (layout : Layout) where
   notes-within lines = all-within (checks lines)
 
 -- the numbers of a valid script's `watch` are within their limits
-pub limited : (script : Script) (cpu n : ℕ) (list : List Command) (command : Command) → IsValid script → slice_get script.lists cpu ≡ Some list → slice_get list n ≡ Some command → IsLimited command
+pub limited : (script : Script) (cpu n : ℕ) (list : List Command) (command : Command) → IsDeclared script → slice_get script.lists cpu ≡ Some list → slice_get list n ≡ Some command → IsLimited command
 limited script cpu n list command valid of there = by command (command-of script cpu n list command valid of there)
   where
     by : (command : Command) → IsCommandOf script.layout (0 + cpu) command → IsLimited command

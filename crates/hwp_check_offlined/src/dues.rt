@@ -1,5 +1,5 @@
 ghost use Rattle.std.specs.Prelude.{◌≡◌, ◌≤◌, IfOk, Some, filter_map, length, slice_get};
-ghost use Rattle.hwp_check_rules.specs.hwp_script_read.Valid.{IsValid};
+ghost use Rattle.hwp_check_rules.specs.hwp_check_acting.Scripts.{IsDeclared};
 ghost use Rattle.hwp_check_rules.specs.hwp_check_events.Indexed.{AreShown};
 ghost use Rattle.hwp_check_offlined.specs.Dues.{AreDues, given_in};
 
@@ -18,7 +18,7 @@ pub(crate) fn dues_of(
     events: &[List<Shown>],
     answers: &[Answer],
 ) -> Result<Vec<List<Frame>>, OutOfMemory>
-    requires valid { IsValid script.now }
+    requires valid { IsDeclared script.now }
     requires of_script { slice_get script.now.lists cpu.0 ≡ Some commands.now }
     requires events { AreShown rows.now (length commands.now) events.now }
     requires answers { answers.now ≡ filter_map given_in rows.now }

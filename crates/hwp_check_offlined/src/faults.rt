@@ -1,6 +1,6 @@
 ghost use Rattle.std.specs.Prelude.{◌≡◌, ◌≤◌, true, [], IfOk, MatchOption, Some, filter_map, length, slice_get};
 ghost use Rattle.std.specs.List.{list_any};
-ghost use Rattle.hwp_check_rules.specs.hwp_script_read.Valid.{IsValid};
+ghost use Rattle.hwp_check_rules.specs.hwp_check_acting.Scripts.{IsDeclared};
 ghost use Rattle.hwp_check_rules.specs.hwp_law_commands.Commands.{is_watch};
 ghost use Rattle.hwp_check_offlined.specs.Dues.{given_in};
 ghost use Rattle.hwp_check_offlined.specs.Judged.{AreSuch, IsFirstOther, IsJudged, IsTold};
@@ -47,7 +47,7 @@ pub fn offlined_faults(
     commands: &[Command],
     rows: &[CpuLine],
 ) -> Result<Misfits, OutOfMemory>
-    requires valid { IsValid script.now }
+    requires valid { IsDeclared script.now }
     requires of_script { slice_get script.now.lists cpu.0 ≡ Some commands.now }
     requires of_report { slice_get report.now.cpus cpu.0 ≡ Some rows.now }
     requires answered { list_any is_watch commands.now ≡ true → length commands.now ≤ length (filter_map given_in rows.now) }

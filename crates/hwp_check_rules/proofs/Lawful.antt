@@ -1,5 +1,5 @@
 -- The nine rules together are the law of reports.
-use Rattle.std.proofs.Common.{◌≡◌, ℕ, zero, suc, ◌<◌, Bool, true, cond, List, [], ◌∷◌, Some, IsSome, get_or, length, slice_get, refl, sym, ap, ◌∙◌, subst, arith}
+use Rattle.std.proofs.Common.{◌≡◌, ℕ, zero, suc, ◌<◌, Bool, true, cond, List, [], ◌∷◌, Some, IsSome, get_or, length, slice_get, refl, sym, ap, ◌∙◌, subst, arith, Option}
 use Rattle.std.proofs.lemmas.Option.{same_Some, none-some, slice_get-get_or, slice_get_within}
 use Rattle.hwp_law.specs.hwp_geom.Layout.{is_locked}
 use Rattle.hwp_law.specs.hwp_geom.declared.Cpu.{Cpu}
@@ -21,15 +21,19 @@ use Rattle.hwp_law.specs.hwp_report_text.declared.CpuLine.TheVariants as lines
 use Rattle.hwp_law.specs.hwp_report_text.declared.FrameLine.{FrameLine}
 use Rattle.hwp_law.specs.hwp_report_text.declared.Report.{Report}
 use Rattle.hwp_law.specs.Frames.{IsFrameLine}
-use Rattle.hwp_law.specs.Law.{IsLawful}
+use Rattle.hwp_law.specs.Acting.{acting_script, copied_at}
+use Rattle.hwp_law.specs.Law.{AnswersFit as LawAnswers, FramesFit as LawFrames, HasShape, HistoriesFit as LawHistories, IsLawful}
+use Rattle.hwp_check_rules.proofs.ActedLosses.{acted-losses, acted-many, losses-acted}
 use Rattle.hwp_law.specs.Lines.{answered}
-use Rattle.hwp_law.specs.Losses.{IsNumber, tells_number}
+use Rattle.hwp_law.specs.Losses.{IsNumber, LossesAgree, tells_number}
 use Rattle.hwp_law.specs.PageHistory.{IsHistory}
 use Rattle.hwp_check_rules.specs.Rules.{AnswersFit, FramesFit, HistoriesFit, LossesFit, MarksFit, SeenFit, ShapeFits, StopFits}
 use Rattle.hwp_check_rules.specs.declared.verdicts.Rule.{Rule}
 use Rattle.hwp_check_rules.specs.declared.verdicts.Rule.TheVariants.{Shape, Histories, Answers, Seen, Marks, Count, Losses, Stop, Frames}
-use Rattle.hwp_check_rules.specs.Verdicts.{Holds}
+use Rattle.hwp_check_rules.specs.Verdicts.{Fits, Holds}
 use Rattle.hwp_check_rules.proofs.AnswersByRow.{by-rows, rows-by, told-of}
+use Rattle.hwp_law.specs.hwp_geom.declared.VSlot.{VSlot}
+use Rattle.hwp_law.specs.hwp_geom.declared.Who.{Who}
 
 leads-same : (layout : Layout) (page : Page) (s : PageState) (entries : List Entry) (t u : PageState) → Leads layout page s entries t → Leads layout page s entries u → t ≡ u
 leads-same layout page s [] t u one other = sym one ∙ other
@@ -48,23 +52,32 @@ both_there (a ∷ xs) [] i x same is = let e : suc (length xs) ≡ 0 = same in a
 both_there (a ∷ xs) (b ∷ ys) zero x same is = (b, refl)
 both_there (a ∷ xs) (b ∷ ys) (suc i) x same is = let e : suc (length xs) ≡ suc (length ys) = same in both_there xs ys i x (omega (arith, e)) is
 
-module _ (script : Script) (report : Report) where
-  -- there are as many lists as processors
-  module _ (one_each : length script.lists ≡ script.layout.cpus) (law : IsLawful script report) where
+-- the law of a report by a script, where stores copy so
+record IsLawfulBy (script : Script) (copies : Who → Option VSlot) (report : Report) : Type 0 where
+  shape : HasShape script report
+  histories : LawHistories script copies report
+  answers : LawAnswers script copies report
+  frames : LawFrames script report
+  losses : LossesAgree script report
+
+module _ (script : Script) (copies : Who → Option VSlot) (report : Report) where
+  -- what the law says of a script that has as many lists as processors, where stores copy so
+  module _ (one_each : length script.lists ≡ script.layout.cpus) (law : IsLawfulBy script copies report) where
     shape : ShapeFits script report
     shape = record { version = law.shape.version; files = law.losses.files_fit; frames = law.shape.frames; pages = law.shape.pages; cpus = law.shape.cpus }
 
-    histories : HistoriesFit script report
+    histories : HistoriesFit script copies report
     histories = record {
       legal = λ page entries is. let h = law.histories.legal page entries is in (h.state, h.replay);
       made = law.histories.made;
       ordered = law.histories.ordered;
     }
 
-    answers_fit : AnswersFit script report
+    answers_fit : AnswersFit script copies report
     answers_fit = record {
       answered = λ cpu list rows there of_report. by-rows script report cpu list rows (law.answers.caused cpu list rows there of_report);
       named = law.answers.named;
+      last = law.answers.last;
       windows = law.answers.windows;
       endings = law.answers.endings;
       events = law.answers.events;
@@ -91,32 +104,43 @@ module _ (script : Script) (report : Report) where
           h.held ∙ ap (λ (s : PageState). cond s.cached 1 0) (replay-same script.layout page entries h.state state h.replay replay);
     }
 
-    -- a lawful report keeps each rule
-    pub lawful-holds : (rule : Rule) → Holds rule script report
-    lawful-holds Shape = shape
-    lawful-holds Histories = histories
-    lawful-holds Answers = answers_fit
-    lawful-holds Seen = record { right = law.histories.seen; falls_never = law.histories.falls_never }
-    lawful-holds Marks = record { kept = λ frame kernel line declared there. (law.frames.lines frame kernel line declared there).kept; recorded = law.frames.recorded }
-    lawful-holds Count = law.frames.count
-    lawful-holds Losses = λ file lost there. record {
+    -- the records of frames, and the losses
+    marks : MarksFit script report
+    marks = record { kept = λ frame kernel line declared there. (law.frames.lines frame kernel line declared there).kept; recorded = law.frames.recorded }
+
+    losses : LossesFit script report
+    losses = λ file lost there. record {
       lost_is = law.losses.lost file lost there;
       numbers = λ cpu list rows of_script of_report.
           let within : file.0 < length report.files = slice_get_within report.files file.0 lost there in
           law.losses.numbers file cpu list rows (omega (arith, within, law.losses.files_fit)) of_script of_report;
     }
-    lawful-holds Stop = stop_fits
-    lawful-holds Frames = frames_fit
 
-  module _ (holds : (rule : Rule) → Holds rule script report) where
-    -- a report that keeps each rule is lawful
-    pub holds-lawful : IsLawful script report
-    holds-lawful = record {
+    seen : SeenFit script report
+    seen = record { right = law.histories.seen; falls_never = law.histories.falls_never }
+
+    -- a report that the law allows keeps each rule
+    pub fits : (rule : Rule) → Fits rule script copies report
+    fits Shape = shape
+    fits Histories = histories
+    fits Answers = answers_fit
+    fits Seen = seen
+    fits Marks = marks
+    fits Count = law.frames.count
+    fits Losses = losses
+    fits Stop = stop_fits
+    fits Frames = frames_fit
+
+  module _ (holds : (rule : Rule) → Fits rule script copies report) where
+    -- a report that keeps each rule is one that the law allows
+    pub by-fits : IsLawfulBy script copies report
+    by-fits = record {
       shape = record { version = shape_fits.version; frames = shape_fits.frames; pages = shape_fits.pages; cpus = shape_fits.cpus };
       histories = record { legal = legal; made = of_histories.made; ordered = of_histories.ordered; seen = of_seen.right; falls_never = of_seen.falls_never };
       answers = record {
         caused = λ cpu list rows of_script of_report. rows-by script report cpu list rows (of_answers.answered cpu list rows of_script of_report);
         named = of_answers.named;
+        last = of_answers.last;
         windows = of_answers.windows;
         endings = of_answers.endings;
         events = of_answers.events;
@@ -130,10 +154,10 @@ module _ (script : Script) (report : Report) where
         shape_fits : ShapeFits script report
         shape_fits = holds Shape
 
-        of_histories : HistoriesFit script report
+        of_histories : HistoriesFit script copies report
         of_histories = holds Histories
 
-        of_answers : AnswersFit script report
+        of_answers : AnswersFit script copies report
         of_answers = holds Answers
 
         of_seen : SeenFit script report
@@ -164,3 +188,46 @@ module _ (script : Script) (report : Report) where
         frame_lines frame kernel line declared there =
             let s = of_frames.shown frame kernel line declared there in
             record { place = s.place; bad = s.bad; weak = s.weak; kept = of_marks.kept frame kernel line declared there }
+
+-- ---- by the script that the processors acted on
+
+module _ (script : Script) (report : Report) where
+  abbrev acted : Script
+  acted = acting_script script report
+
+  abbrev copied : Who → Option VSlot
+  copied = copied_at script report
+
+  pub lawful-holds : length script.lists ≡ script.layout.cpus → IsLawful script report → (rule : Rule) → Holds rule script report
+  lawful-holds one_each law = by
+    where
+      all : (rule : Rule) → Fits rule acted copied report
+      all = fits acted copied report (acted-many script report ∙ one_each) (record { shape = law.shape; histories = law.histories; answers = law.answers; frames = law.frames; losses = losses-acted script report law.losses })
+
+      by : (rule : Rule) → Holds rule script report
+      by Shape = all Shape
+      by Histories = all Histories
+      by Answers = (all Answers, law.private)
+      by Seen = all Seen
+      by Marks = all Marks
+      by Count = all Count
+      by Losses = all Losses
+      by Stop = all Stop
+      by Frames = all Frames
+
+  pub holds-lawful : ((rule : Rule) → Holds rule script report) → IsLawful script report
+  holds-lawful holds = record { shape = law.shape; histories = law.histories; answers = law.answers; frames = law.frames; losses = acted-losses script report law.losses; private = (holds Answers).1 }
+    where
+      each : (rule : Rule) → Fits rule acted copied report
+      each Shape = holds Shape
+      each Histories = holds Histories
+      each Answers = (holds Answers).0
+      each Seen = holds Seen
+      each Marks = holds Marks
+      each Count = holds Count
+      each Losses = holds Losses
+      each Stop = holds Stop
+      each Frames = holds Frames
+
+      law : IsLawfulBy acted copied report
+      law = by-fits acted copied report each

@@ -1,8 +1,10 @@
 pub mod AnswersByRow
+pub mod ActedLosses
 pub mod Lawful
 pub mod OfflinedFaults
 pub mod InText
 pub mod PastLaws
+pub mod SettingLaws
 pub use Rattle.hwp_check_events.proofs as of_hwp_check_events
 pub use Rattle.hwp_law.proofs as of_hwp_law
 pub use Rattle.hwp_law.proofs.of_hwp_page as of_hwp_page

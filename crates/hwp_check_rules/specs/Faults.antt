@@ -1,6 +1,6 @@
 -- Which lines of a report break its rules: the shape, the histories, the policies seen, the count, the losses, the stop and the
 -- frames.
-use Rattle.std.specs.Prelude.{◌≡◌, ◌≢◌, ◌⊎◌, ℕ, ◌+◌, ◌<◌, ◌≤◌, min, Bool, true, false, cond, List, [], ◌∷◌, Some, Contains, count_by, length, slice_get, take}
+use Rattle.std.specs.Prelude.{◌≡◌, ◌≢◌, ◌⊎◌, ℕ, ◌+◌, ◌<◌, ◌≤◌, min, Bool, true, false, cond, List, [], ◌∷◌, Some, Contains, count_by, length, slice_get, take, Option}
 use Rattle.hwp_law.specs.hwp_geom.Layout.{is_locked}
 use Rattle.hwp_law.specs.hwp_geom.declared.FileNo.{FileNo}
 use Rattle.hwp_law.specs.hwp_geom.declared.Frame.{Frame}
@@ -24,6 +24,7 @@ use Rattle.hwp_law.specs.PageHistory.{is_of}
 use Rattle.hwp_law.specs.SeenPolicies.{IsOwnCount, IsPolicySeen, seen_in}
 use Rattle.hwp_check_rules.specs.Rules.{CountFits, IsFrameShown, IsTold, StopFits}
 use Rattle.hwp_check_rules.specs.Standing.{count_line, cpu_line, entry_line, file_line, frame_line, header_line, page_line, seen_line, stop_line}
+use Rattle.hwp_law.specs.hwp_geom.declared.VSlot.{VSlot}
 
 -- a section has not as many items as it should: named is the line in the place of the first that lacks, or the heading of the
 -- first that is too many
@@ -61,12 +62,12 @@ pub record IsBehind (report : Report) (at : At) (entry : Entry) : Type 0 where
   pub falls : entry.who.seq < other.who.seq
 
 -- an entry that is not allowed, that its command does not make, or whose command's number falls
-pub record IsHistoryFault (script : Script) (report : Report) (line : ℕ) : Type 0 where
+pub record IsHistoryFault (script : Script) (copies : Who → Option VSlot) (report : Report) (line : ℕ) : Type 0 where
   pub at : At
   pub entry : Entry
   pub there : entry_at report.pages at ≡ Some entry
   pub line_is : line ≡ entry_line report at
-  pub wrong : IsBarred script report at entry ⊎ (IsMadeBy script at.page entry → ⊥) ⊎ IsBehind report at entry
+  pub wrong : IsBarred script report at entry ⊎ (IsMadeBy script copies at.page entry → ⊥) ⊎ IsBehind report at entry
 
 -- an earlier command of the processor saw a later policy of the thread
 pub record HasFallen (report : Report) (who : Who) (seen : Seen) : Type 0 where

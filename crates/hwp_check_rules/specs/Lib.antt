@@ -8,6 +8,7 @@ pub mod AnswerFaults
 pub mod Verdicts
 pub mod Pasts
 pub use Rattle.hwp_law.specs.hwp_banks as hwp_banks
+pub use Rattle.hwp_check_events.specs.hwp_check_acting as hwp_check_acting
 pub use Rattle.hwp_check_events.specs.hwp_check_event_line as hwp_check_event_line
 pub use Rattle.hwp_check_events.specs as hwp_check_events
 pub use Rattle.hwp_law.specs.hwp_geom as hwp_geom

@@ -1,5 +1,5 @@
 -- The nine rules of a report, in their order, each by itself.
-use Rattle.std.specs.Prelude.{◌≡◌, ◌↔◌, ℕ, Bool, true, cond, List, Some, IsBitSet, IsSome, count_by, length, slice_get}
+use Rattle.std.specs.Prelude.{◌≡◌, ◌↔◌, ℕ, Bool, true, cond, List, Some, IsBitSet, IsSome, count_by, length, slice_get, Option}
 use Rattle.hwp_law.specs.hwp_geom.declared.Cpu.{Cpu}
 use Rattle.hwp_law.specs.hwp_geom.declared.FileNo.{FileNo}
 use Rattle.hwp_law.specs.hwp_geom.declared.Frame.{Frame}
@@ -19,7 +19,7 @@ use Rattle.hwp_law.specs.hwp_report_text.declared.FrameLine.{FrameLine}
 use Rattle.hwp_law.specs.hwp_report_text.declared.Report.{Report}
 use Rattle.hwp_law.specs.hwp_report_text.declared.Stop.{Stop}
 use Rattle.hwp_law.specs.hwp_law_commands.Commands.{command_at}
-use Rattle.hwp_law.specs.Answers.{AreInWindows, AreNamed}
+use Rattle.hwp_law.specs.Answers.{AreInWindows}
 use Rattle.hwp_law.specs.Endings.{EndingsStay}
 use Rattle.hwp_law.specs.Entries.{AreMadeBy}
 use Rattle.hwp_law.specs.Events.{AreEvents}
@@ -35,6 +35,8 @@ use Rattle.hwp_law.specs.PageHistory.{is_of}
 use Rattle.hwp_law.specs.SeenPolicies.{AreSeen, SeenNeverFalls}
 use Rattle.hwp_law.specs.Stops.{StaysStopped}
 use Rattle.hwp_check_rules.specs.Answered.{AreAnswered}
+use Rattle.hwp_law.specs.Copies.{AreLastStores, AreNamed}
+use Rattle.hwp_law.specs.hwp_geom.declared.VSlot.{VSlot}
 
 -- 1: the report has the script's version, and as many files, frames, pages and processors
 pub record ShapeFits (script : Script) (report : Report) : Type 0 where
@@ -45,18 +47,25 @@ pub record ShapeFits (script : Script) (report : Report) : Type 0 where
   pub cpus : length report.cpus ≡ script.layout.cpus
 
 -- 2: each history is legal from its opening, rises along each processor, and has entries that their commands make
-pub record HistoriesFit (script : Script) (report : Report) : Type 0 where
-  pub legal : (page : Page) (entries : List Entry) → slice_get report.pages page.0 ≡ Some entries → (state : PageState) × IsReplay script.layout page entries state
-  pub made : AreMadeBy script report.pages
+abbrev pub AreLegal : Script → Report → Type 0
+AreLegal script report = (page : Page) (entries : List Entry) → slice_get report.pages page.0 ≡ Some entries → (state : PageState) × IsReplay script.layout page entries state
+
+pub record HistoriesFit (script : Script) (copies : Who → Option VSlot) (report : Report) : Type 0 where
+  pub legal : AreLegal script report
+  pub made : AreMadeBy script copies report.pages
   pub ordered : AreOrdered report.pages
 
 -- 3: each command has one answer, in order, and answers, events and frames taken out of use are such as the histories and records show
-pub record AnswersFit (script : Script) (report : Report) : Type 0 where
-  pub answered : (cpu : Cpu) (commands : List Command) (rows : List CpuLine) → slice_get script.lists cpu.0 ≡ Some commands → slice_get report.cpus cpu.0 ≡ Some rows → AreAnswered script report cpu commands rows
-  pub named : AreNamed report.pages report.cpus
+abbrev pub AreAllAnswered : Script → Report → Type 0
+AreAllAnswered script report = (cpu : Cpu) (commands : List Command) (rows : List CpuLine) → slice_get script.lists cpu.0 ≡ Some commands → slice_get report.cpus cpu.0 ≡ Some rows → AreAnswered script report cpu commands rows
+
+pub record AnswersFit (script : Script) (copies : Who → Option VSlot) (report : Report) : Type 0 where
+  pub answered : AreAllAnswered script report
+  pub named : AreNamed copies report.pages report.cpus
+  pub last : AreLastStores copies report
   pub windows : AreInWindows report.pages report.cpus
   pub endings : EndingsStay script report
-  pub events : AreEvents script report
+  pub events : AreEvents script copies report
   pub offlined : (who : Who) (command : Command) → command_at script who ≡ Some command → AreOfflined script report who
 
 -- 4: each policy seen is one that the thread had, and along a processor's commands none is older than the one before

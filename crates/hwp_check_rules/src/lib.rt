@@ -1,6 +1,7 @@
 //! The nine rules by which a report is judged, which lines break them, and what several rules read of a report.
 #![tactic(auto)]
 
+mod copying;
 mod first;
 mod making;
 mod pasts;
@@ -11,7 +12,7 @@ mod verdicts;
 
 pub use first::{sooner, sooner_if, soonest};
 pub use hwp_check_events::{
-    Misfits, Shown, checkers_of, events_by_command, processor_faults, small_masks,
+    ActedScript, Misfits, Shown, acted_on, checkers_of, copy_of, events_by_command, freezes_slot, has_fork, pairs_of, processor_faults, small_masks,
 };
 pub use hwp_law::{
     Acted, Answer, At, Code, Command, Cpu, CpuLine, Entry, EventLine, FileNo, Frame, FrameLine,
@@ -22,7 +23,7 @@ pub use hwp_law::{
 };
 pub use making::{command_of, has_watch, is_made_by, leads_to, watches};
 pub use pasts::{ThreadPolicies, done_of, dones_of, pasts_of};
-pub use policies::set_if;
+pub use policies::policy_before;
 pub use rows::{answer_among, answer_of, commands_of, is_answer, rows_of, rows_on};
 pub use standing::{
     cpu_at, entries_height, entry_height, file_at, first_page_line, frame_at, page_at,

@@ -2,10 +2,14 @@ ghost use Rattle.std.specs.Prelude.{◌≡◌, ◌⊎◌, ◌↔◌, IsTrue, IsS
 ghost use Rattle.hwp_law.specs.hwp_page.Step.{IsOf};
 ghost use Rattle.hwp_law.specs.hwp_law_commands.Commands.{access_of, can_fail, can_offline, command_at, current_thread, has_watch, is_watch};
 ghost use Rattle.std.specs.List.{list_any};
+ghost use Rattle.hwp_check_events.specs.hwp_check_acting.ActedOn.{copies_in};
 ghost use Rattle.hwp_law.specs.Entries.{CanStandIn, IsAccessAt, IsMadeBy, IsRequiredBy, Makes};
 ghost use Rattle.hwp_law.specs.History.{Fits, FitsAccess, FitsLoad, FitsStore, IsMetBy, IsStoredBy, Names};
 
-use hwp_law::{Command, Entry, Layout, Line, Met, Page, Script, Thread, VSlot, What, Who};
+use crate::copying::is_copied;
+use hwp_law::{
+    Command, Entry, Layout, Line, List, Met, Page, Script, Thread, VSlot, What, Who,
+};
 
 /// The command of a processor with a number.
 pub fn command_of(script: &Script, who: Who) -> Option<Command>
@@ -16,7 +20,7 @@ pub fn command_of(script: &Script, who: Who) -> Option<Command>
 }
 
 /// Whether a SIGBUS, if one was met, went to the thread.
-fn is_met_by(thread: Thread, met: Met) -> bool
+pub(crate) fn is_met_by(thread: Thread, met: Met) -> bool
     ensures { IsTrue result ↔ IsMetBy thread met }
 {
     match met {
@@ -268,15 +272,29 @@ pub fn has_watch(script: &Script) -> bool
         .any(|list| watches(list.as_slice()))
 }
 
-/// Whether the entry is one that its command makes, in a page where it can stand. The caller knows whether the script has a `watch`.
-pub fn is_made_by(script: &Script, watches: bool, page: Page, entry: &Entry) -> bool
+/// Whether the entry is one that its command makes by itself, in a page where it can stand.
+fn is_own(layout: &Layout, watches: bool, command: &Command, page: Page, what: &What) -> bool
+    ensures { IsTrue result ↔ (Makes watches command.now what.now × CanStandIn layout.now command.now page what.now) }
+{
+    makes(watches, command, what) && can_stand_in(layout, command, page, what)
+}
+
+/// Whether the entry is one that its command makes, in a page where it can stand, or one of a copy that it makes first. The caller
+/// knows whether the script has a `watch`.
+pub fn is_made_by(
+    script: &Script,
+    copies: &[List<Option<VSlot>>],
+    watches: bool,
+    page: Page,
+    entry: &Entry,
+) -> bool
     requires { watches ≡ has_watch script.now }
-    ensures { IsTrue result ↔ IsMadeBy script.now page entry.now }
+    ensures { IsTrue result ↔ IsMadeBy script.now (copies_in copies.now) page entry.now }
 {
     match command_of(script, entry.who) {
         Some(command) => {
-            makes(watches, &command, &entry.what)
-                && can_stand_in(&script.layout, &command, page, &entry.what)
+            is_own(&script.layout, watches, &command, page, &entry.what)
+                || is_copied(&script.layout, copies, &command, page, entry)
         }
         None => false,
     }

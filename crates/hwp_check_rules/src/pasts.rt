@@ -1,12 +1,14 @@
-ghost use Rattle.std.specs.Prelude.{◌≡◌, ◌≤◌, ◌++◌, Some, false, filter_map, is_some, length, slice_index_or, IfOk, OnOk};
+ghost use Rattle.std.specs.Prelude.{◌≡◌, ◌<◌, ◌≤◌, ◌+◌, ◌++◌, Some, false, filter_map, is_some, length, slice_index_or, IfOk, OnOk};
 ghost use Rattle.std.specs.Int.{from_bool};
 ghost use Rattle.std.specs.Option.{option_to_list};
 ghost use Rattle.hwp_law.specs.SeenPolicies.{cpu_of_thread};
-ghost use Rattle.hwp_check_rules.specs.Pasts.{AreDone, AreDoneInOrder, ArePasts, IsPast, counts, done_in, noted, set_if, settings_by};
+ghost use Rattle.hwp_check_rules.specs.Pasts.{AreCounts, AreDone, AreDoneInOrder, ArePasts, IsPast, done_in, noted, set_if, settings_by};
 
 use crate::policies::set_if;
 use crate::rows::{commands_of, rows_on};
-use hwp_law::{Answer, Command, Cpu, CpuLine, List, OutOfMemory, Policy, Report, Script, Thread};
+use hwp_law::{
+    Answer, Command, Cpu, CpuLine, Layout, List, OutOfMemory, Policy, Report, Script, Thread,
+};
 use std::alloc::Global;
 
 /// What is known of a thread: its processor, the policies that the processor's commands set, and how many there are before each
@@ -101,42 +103,52 @@ fn add_policy(list: &mut List<Policy>, policy: Option<Policy>) -> Result<(), Out
 /// The policies that the commands set for the thread, in order, of which these were done.
 fn policies_of(
     alloc: Global,
+    layout: &Layout,
     thread: Thread,
     commands: &[Command],
     done: &[bool],
 ) -> Result<List<Policy>, OutOfMemory>
     requires each { length done.now ≡ length commands.now }
-    ensures { IfOk result (λ list. list ≡ settings_by thread commands.now done.now) }
+    ensures { IfOk result (λ list. list ≡ settings_by layout.now thread commands.now done.now) }
 {
     let mut list = List::new(alloc);
     for number in 0..commands.len() {
-        add_policy(&mut list, set_if(thread, &commands[number], done[number]))?;
+        add_policy(&mut list, set_if(layout, commands, done, number, thread))?;
     }
     Ok(list)
 }
 
-/// Whether the command was done and set the thread's policy, as 1 or 0.
-fn sets(thread: Thread, command: &Command, done: bool) -> u64
-    ensures { result ≡ from_bool (is_some (set_if thread command.now done)) }
+/// Whether the command with the number was done and set the thread's policy, as 1 or 0.
+fn sets(
+    layout: &Layout,
+    commands: &[Command],
+    done: &[bool],
+    number: usize,
+    thread: Thread,
+) -> u64
+    requires each { length done.now ≡ length commands.now }
+    requires within { number < length commands.now }
+    ensures { result ≡ from_bool (is_some (set_if layout.now thread commands.now done.now number)) }
 {
-    u64::from(set_if(thread, command, done).is_some())
+    u64::from(set_if(layout, commands, done, number, thread).is_some())
 }
 
 /// How many policies there are before each of the commands and behind the last.
 fn counts_of(
     alloc: Global,
+    layout: &Layout,
     thread: Thread,
     commands: &[Command],
     done: &[bool],
 ) -> Result<List<u64>, OutOfMemory>
     requires each { length done.now ≡ length commands.now }
-    ensures { IfOk result (λ list. list ≡ counts thread 0 commands.now done.now) }
+    ensures { IfOk result (AreCounts layout.now thread commands.now done.now (length commands.now + 1)) }
 {
     let mut list = List::new(alloc);
     let mut count = 0;
     for number in 0..commands.len() {
         list.push(count)?;
-        count += sets(thread, &commands[number], done[number]);
+        count += sets(layout, commands, done, number, thread);
     }
     list.push(count)?;
     Ok(list)
@@ -155,8 +167,9 @@ fn past_of(
 {
     let commands = commands_of(script, cpu);
     let flags = dones_of(alloc, commands.len(), rows_on(report, cpu))?;
-    let policies = policies_of(alloc, thread, commands, flags.as_slice())?;
-    let done = counts_of(alloc, thread, commands, flags.as_slice())?;
+    let layout = &script.layout;
+    let policies = policies_of(alloc, layout, thread, commands, flags.as_slice())?;
+    let done = counts_of(alloc, layout, thread, commands, flags.as_slice())?;
     Ok(ThreadPolicies {
         cpu,
         policies,

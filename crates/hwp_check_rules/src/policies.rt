@@ -1,10 +1,10 @@
-ghost use Rattle.std.specs.Prelude.{◌≡◌};
+ghost use Rattle.std.specs.Prelude.{◌≡◌, ◌<◌, ◌≤◌, length};
 ghost use Rattle.hwp_law.specs.hwp_kill.Prctl.{policy_set};
-ghost use Rattle.hwp_law.specs.hwp_law_commands.Settings.{arguments, setting_of};
-ghost use Rattle.hwp_law.specs.hwp_report_text.declared.Answer.TheVariants.{Done};
-ghost use Rattle.hwp_check_rules.specs.Pasts.{set_if};
+ghost use Rattle.hwp_law.specs.hwp_law_commands.Settings.{arguments};
+ghost use Rattle.hwp_law.specs.hwp_script_read.Forks.{is_thread_of};
+ghost use Rattle.hwp_check_rules.specs.Pasts.{policy_by, set_if, step_of};
 
-use hwp_law::{Command, Policy, PrctlArgs, Thread};
+use hwp_law::{Command, Layout, Policy, PrctlArgs, Proc, Thread};
 
 /// The policy that the arguments of prctl(2) set, if they set one.
 fn policy_set(args: &PrctlArgs) -> Option<Policy>
@@ -22,32 +22,86 @@ fn policy_set(args: &PrctlArgs) -> Option<Policy>
     }
 }
 
-/// The policy that a command that was done set for the thread, if it set one.
-fn setting_of(thread: Thread, command: &Command) -> Option<Policy>
-    ensures { result ≡ setting_of thread command.now Done }
+/// Whether the thread is one of the process.
+fn is_thread_of(layout: &Layout, process: Proc, thread: Thread) -> bool
+    ensures { result ≡ is_thread_of layout.now process.0 thread.0 }
 {
-    match command {
-        Command::Prctl {
-            thread: other,
-            args,
-        } => {
-            if other.0 == thread.0 {
-                policy_set(args)
-            } else {
-                None
-            }
-        }
-        _ => None,
+    match layout.threads.as_slice().get(usize::from(thread.0)) {
+        Some(declared) => declared.process.0 == process.0,
+        None => false,
     }
 }
 
-/// The policy that a command set for the thread, if it was done and set one.
-pub fn set_if(thread: Thread, command: &Command, done: bool) -> Option<Policy>
-    ensures { result ≡ set_if thread command.now done }
+/// What a command that was done does to the policy of a thread.
+#[derive(Clone, Copy)]
+pub enum PolicyStep {
+    /// The policy stays.
+    Stays,
+    /// The thread sets this one.
+    Set(Policy),
+    /// A fork makes the thread's process: it gets the policy that this thread has then.
+    From(Thread),
+}
+
+/// What the command does to the policy of the thread, if it is done.
+fn step_of(layout: &Layout, thread: Thread, command: &Command, done: bool) -> PolicyStep
+    ensures { result ≡ step_of layout.now thread command.now done }
 {
-    if done {
-        setting_of(thread, command)
-    } else {
-        None
+    match *command {
+        Command::Prctl {
+            thread: other,
+            ref args,
+        } if done && other.0 == thread.0 => match policy_set(args) {
+            Some(policy) => PolicyStep::Set(policy),
+            None => PolicyStep::Stays,
+        },
+        Command::Fork {
+            thread: parent,
+            process,
+        } if done && is_thread_of(layout, process, thread) => PolicyStep::From(parent),
+        _ => PolicyStep::Stays,
+    }
+}
+
+/// The policy of a thread before the command with the number, where the earlier ones were done so. They are read from the last one on.
+pub fn policy_before(
+    layout: &Layout,
+    commands: &[Command],
+    done: &[bool],
+    number: usize,
+    thread: Thread,
+) -> Policy
+    requires each { length done.now ≡ length commands.now }
+    requires within { number ≤ length commands.now }
+    ensures { result ≡ policy_by layout.now thread commands.now done.now number }
+{
+    let mut of = thread;
+    for back in 0..number {
+        let at = number - 1 - back;
+        match step_of(layout, of, &commands[at], done[at]) {
+            PolicyStep::Stays => {}
+            PolicyStep::Set(policy) => return policy,
+            PolicyStep::From(parent) => of = parent,
+        }
+    }
+    Policy::Default
+}
+
+/// The policy that the command with the number set for the thread, if it was done and set one.
+pub(crate) fn set_if(
+    layout: &Layout,
+    commands: &[Command],
+    done: &[bool],
+    number: usize,
+    thread: Thread,
+) -> Option<Policy>
+    requires each { length done.now ≡ length commands.now }
+    requires within { number < length commands.now }
+    ensures { result ≡ set_if layout.now thread commands.now done.now number }
+{
+    match step_of(layout, thread, &commands[number], done[number]) {
+        PolicyStep::Stays => None,
+        PolicyStep::Set(policy) => Some(policy),
+        PolicyStep::From(parent) => Some(policy_before(layout, commands, done, number, parent)),
     }
 }

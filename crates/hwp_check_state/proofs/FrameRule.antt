@@ -19,12 +19,11 @@ use Rattle.hwp_check_rules.specs.hwp_law.Frames.{WasDone}
 use Rattle.hwp_check_rules.specs.hwp_law.Records.{ends_poisoned}
 use Rattle.hwp_check_rules.specs.hwp_law.PageHistory.{is_of}
 use Rattle.hwp_check_rules.specs.Faults.{EndsIn, IsFrameFault, IsFrameWrong, IsSaidTwice, IsUnsaid, first_free, holders, sayers}
-use Rattle.hwp_check_rules.specs.Firsts.{soonest}
+use Rattle.hwp_check_rules.specs.Firsts.{soonest, IsFirstFault}
 use Rattle.hwp_check_state.specs.Frames.{AreDoneOf, AreRight, bad_bit, cached_after, ends_of, is_beyond, is_placed, is_right_frame, is_right_line, is_unsaid_from, weak_bit, with_bits}
 use Rattle.hwp_check_rules.specs.Rules.{FramesFit, IsFrameShown}
 use Rattle.hwp_check_rules.specs.Standing.{frame_height, frame_line}
 use Rattle.hwp_check_rules.specs.declared.Rule.TheVariants.{Frames}
-use Rattle.hwp_check_rules.specs.Verdicts.{IsBroken}
 use Rattle.hwp_check_state.proofs.FrameLaws.{bad-is, beyond-is, end-cached, end-within, frame_of, not-beyond, not-placed, placed-is, same-bits, weak-is}
 
 -- four tests at once
@@ -327,7 +326,7 @@ module _ (script : Script) (report : Report) (done : List Command) (are : AreDon
         line_is = refl;
       }
 
-  broken-by : (line : ℕ) → IsFrameFault script report line → ((other : ℕ) → IsFrameFault script report other → line ≤ other) → IsBroken Frames script report line
+  broken-by : (line : ℕ) → IsFrameFault script report line → ((other : ℕ) → IsFrameFault script report other → line ≤ other) → IsFirstFault (FramesFit script report) (IsFrameFault script report) line
   broken-by line fault first = record { broken = breaks line fault; at = fault; first = first }
 
   -- the first frame that is wrong
@@ -343,7 +342,7 @@ module _ (script : Script) (report : Report) (done : List Command) (are : AreDon
       which None none = absurd (true≢false (sym (ap (λ (p : Option FrameLine). unwrap_or (option_map (is_right_line script report done cached at) p) true) none) ∙ first.wrong))
       which (Some line) there = let k = kernel-of at first.within in frame-wrong at line k.0 there k.1 first.wrong
 
-  both : (at : ℕ) (b : Bool) → is_unsaid_from 0 cached report.frames ≡ b → IsFirstFrame at → MatchOption (soonest (Some (frame_line report at)) (cond b (Some free_line) None)) (FramesFit script report) (IsBroken Frames script report)
+  both : (at : ℕ) (b : Bool) → is_unsaid_from 0 cached report.frames ≡ b → IsFirstFrame at → MatchOption (soonest (Some (frame_line report at)) (cond b (Some free_line) None)) (FramesFit script report) (IsFirstFault (FramesFit script report) (IsFrameFault script report))
   both at false none first = broken-by (frame_line report at) (fault-at at first) (λ other fault. elim fault [
     | inl w ↦ wrong-later at first.before other w
     | inr (inl t) ↦ twice-later at first.before other t
@@ -359,7 +358,7 @@ module _ (script : Script) (report : Report) (done : List Command) (are : AreDon
       which (inl less) = let is : frame_line report at ≡ min (frame_line report at) free_line = omega (arith, less) in subst (IsFrameFault script report) is (fault-at at first)
       which (inr less) = let is : free_line ≡ min (frame_line report at) free_line = omega (arith, less) in subst (IsFrameFault script report) is (inr (inr (unsaid-fault some)))
 
-  none-wrong : (b : Bool) → is_unsaid_from 0 cached report.frames ≡ b → AreRight script report done cached (length report.frames) → MatchOption (soonest None (cond b (Some free_line) None)) (FramesFit script report) (IsBroken Frames script report)
+  none-wrong : (b : Bool) → is_unsaid_from 0 cached report.frames ≡ b → AreRight script report done cached (length report.frames) → MatchOption (soonest None (cond b (Some free_line) None)) (FramesFit script report) (IsFirstFault (FramesFit script report) (IsFrameFault script report))
   none-wrong false none all = fits all none
   none-wrong true some all = broken-by free_line (inr (inr (unsaid-fault some))) (λ other fault. elim fault [
     | inl w ↦ absurd (no-wrong all other w)
@@ -369,6 +368,6 @@ module _ (script : Script) (report : Report) (done : List Command) (are : AreDon
 
   pub frames-is : (wrong : Option ℕ)
       → MatchOption wrong (AreRight script report done cached (length report.frames)) (λ at. AreRight script report done cached at × (at < length report.frames) × (is_right_frame script report done cached at ≡ false))
-      → MatchOption (soonest (option_map (frame_line report) wrong) (cond (is_unsaid_from 0 cached report.frames) (Some free_line) None)) (FramesFit script report) (IsBroken Frames script report)
+      → MatchOption (soonest (option_map (frame_line report) wrong) (cond (is_unsaid_from 0 cached report.frames) (Some free_line) None)) (FramesFit script report) (IsFirstFault (FramesFit script report) (IsFrameFault script report))
   frames-is None all = none-wrong (is_unsaid_from 0 cached report.frames) refl all
   frames-is (Some at) first = both at (is_unsaid_from 0 cached report.frames) refl (record { before = first.0; within = first.1; wrong = first.2 })

@@ -23,7 +23,9 @@ use Rattle.hwp_check_state.specs.Histories.{FirstFit, IsFirstWrong, IsWrongAt, P
 use Rattle.hwp_check_rules.specs.Rules.{HistoriesFit}
 use Rattle.hwp_check_rules.specs.Standing.{entry_height, entry_line, page_height, page_line}
 use Rattle.hwp_check_rules.specs.declared.Rule.TheVariants.{Histories}
-use Rattle.hwp_check_rules.specs.Verdicts.{IsBroken}
+use Rattle.hwp_check_rules.specs.Firsts.{IsFirstFault}
+use Rattle.hwp_check_rules.specs.hwp_geom.declared.VSlot.{VSlot}
+use Rattle.hwp_check_rules.specs.hwp_geom.declared.Who.{Who}
 
 -- an entry of a history, by its place
 pub record StandsAs (pages : List (List Entry)) (at : At) (e : Entry) : Type 0 where
@@ -68,13 +70,13 @@ allowed-in layout page entries n state replay i e low there kind declared =
     (subst (λ (es : List Entry). Allowed layout page (state_after (opening_of replay.kind (is_locked layout page)) es) e.what) short got)
 
 -- what is wrong with an entry
-abbrev IsFaultAt : Script → Report → At → Entry → Type 0
-IsFaultAt script report at e = IsBarred script report at e ⊎ (IsMadeBy script at.page e → ⊥) ⊎ IsBehind report at e
+abbrev IsFaultAt : Script → (Who → Option VSlot) → Report → At → Entry → Type 0
+IsFaultAt script copies report at e = IsBarred script report at e ⊎ (IsMadeBy script copies at.page e → ⊥) ⊎ IsBehind report at e
 
 -- nothing is among entries that fit
-no-fault : (script : Script) (report : Report) (at : At) (e : Entry) (entries : List Entry) (n : ℕ) (state : PageState)
-    → slice_get report.pages at.page.0 ≡ Some entries → FirstFit script at.page entries n state → at.entry < n → slice_get entries at.entry ≡ Some e
-    → IsFaultAt script report at e → ⊥
+no-fault : {copies : Who → Option VSlot} (script : Script) (report : Report) (at : At) (e : Entry) (entries : List Entry) (n : ℕ) (state : PageState)
+    → slice_get report.pages at.page.0 ≡ Some entries → FirstFit script copies at.page entries n state → at.entry < n → slice_get entries at.entry ≡ Some e
+    → IsFaultAt script copies report at e → ⊥
 no-fault script report at e entries n state page fits low there fault = elim fault [
   | inl barred ↦
       let same : entries ≡ barred.entries = same_Some _ _ (sym page ∙ barred.there) in
@@ -94,8 +96,8 @@ no-fault script report at e entries n state page fits low there fault = elim fau
 ]
 
 -- the pages below this number fit
-abbrev pub FitBelow : Script → Report → ℕ → Type 0
-FitBelow script report n = (page : ℕ) (entries : List Entry) → page < n → slice_get report.pages page ≡ Some entries → PageFits script (record { 0 = page }) entries
+abbrev pub FitBelow : Script → (Who → Option VSlot) → Report → ℕ → Type 0
+FitBelow script copies report n = (page : ℕ) (entries : List Entry) → page < n → slice_get report.pages page ≡ Some entries → PageFits script copies (record { 0 = page }) entries
 
 whole-replay : (layout : Layout) (page : Page) (entries : List Entry) (state : PageState) → IsReplay layout page (take (length entries) entries) state → IsReplay layout page entries state
 whole-replay layout page entries state replay = subst (λ (es : List Entry). IsReplay layout page es state) (take_all (length entries) entries (omega arith)) replay
@@ -105,7 +107,7 @@ same-page : (pages : List (List Entry)) (one other : Page) (entries others : Lis
 same-page pages one other entries others same is are = same_Some _ _ (sym are ∙ ap (λ (p : Page). slice_get pages p.0) (sym same) ∙ is)
 
 -- where all pages fit, the rule holds
-pub all-fit : (script : Script) (report : Report) (n : ℕ) → FitBelow script report n → length report.pages ≤ n → HistoriesFit script report
+pub all-fit : {copies : Who → Option VSlot} (script : Script) (report : Report) (n : ℕ) → FitBelow script copies report n → length report.pages ≤ n → HistoriesFit script copies report
 all-fit script report n below all = record {
   legal = λ page entries there.
       let within : page.0 < length report.pages = slice_get_within report.pages page.0 entries there in
@@ -127,8 +129,8 @@ all-fit script report n below all = record {
 }
 
 -- an entry that is wrong refutes the rule
-refutes : (script : Script) (report : Report) (p : ℕ) (entries : List Entry) (n : ℕ) → slice_get report.pages p ≡ Some entries
-    → IsFirstWrong script (record { 0 = p }) entries n → HistoriesFit script report → ⊥
+refutes : {copies : Who → Option VSlot} (script : Script) (report : Report) (p : ℕ) (entries : List Entry) (n : ℕ) → slice_get report.pages p ≡ Some entries
+    → IsFirstWrong script copies (record { 0 = p }) entries n → HistoriesFit script copies report → ⊥
 refutes script report p entries n page wrong fit = elim wrong.wrong [
   | inl barred ↦
       let legal = fit.legal (record { 0 = p }) entries page in
@@ -149,8 +151,8 @@ refutes script report p entries n page wrong fit = elim wrong.wrong [
   ]
 ]
 
-as-fault : (script : Script) (report : Report) (p : ℕ) (entries : List Entry) (n : ℕ) → slice_get report.pages p ≡ Some entries
-    → (wrong : IsFirstWrong script (record { 0 = p }) entries n) → IsFaultAt script report (record { page = record { 0 = p }; entry = n }) wrong.entry
+as-fault : {copies : Who → Option VSlot} (script : Script) (report : Report) (p : ℕ) (entries : List Entry) (n : ℕ) → slice_get report.pages p ≡ Some entries
+    → (wrong : IsFirstWrong script copies (record { 0 = p }) entries n) → IsFaultAt script copies report (record { page = record { 0 = p }; entry = n }) wrong.entry
 as-fault script report p entries n page wrong = elim wrong.wrong [
   | inl barred ↦
       let state_is = Leads-state script.layout (record { 0 = p }) (opening_of wrong.before.replay.kind (is_locked script.layout (record { 0 = p }))) wrong.state (take n entries) wrong.before.replay.leads in
@@ -195,9 +197,9 @@ entry-line : (report : Report) (at : At) (entries : List Entry) → slice_get re
 entry-line report at entries page = ap (λ (o : Option (List Entry)). page_line report at.page.0 + 1 + sum_by entry_height (take at.entry (unwrap_or o []))) page
 
 -- no fault stands above the first entry that is wrong
-first-fault : (script : Script) (report : Report) (p : ℕ) (entries : List Entry) (line : ℕ) → slice_get report.pages p ≡ Some entries → FitBelow script report p
-    → IsWrongAt script (record { 0 = p }) entries (page_line report p) line → (other : ℕ) → IsHistoryFault script report other → line ≤ other
-first-fault script report p entries line page below wrong other fault =
+first-fault : {copies : Who → Option VSlot} (script : Script) (report : Report) (p : ℕ) (entries : List Entry) (line : ℕ) → slice_get report.pages p ≡ Some entries → FitBelow script copies report p
+    → IsWrongAt script copies (record { 0 = p }) entries (page_line report p) line → (other : ℕ) → IsHistoryFault script copies report other → line ≤ other
+first-fault {copies = copies} script report p entries line page below wrong other fault =
     let s = stands-as report.pages fault.at fault.entry fault.there in
     let inside : fault.at.entry < length s.entries = slice_get_within s.entries fault.at.entry fault.entry s.there in
     let line_is : line ≡ page_line report p + 1 + sum_by entry_height (take wrong.0 entries) = wrong.2 in
@@ -218,7 +220,7 @@ first-fault script report p entries line page below wrong other fault =
             let are : s.entries ≡ entries = same_Some _ _ (sym s.page ∙ ap (λ (q : ℕ). slice_get report.pages q) (sym same) ∙ page) in
             elim (cases_lt fault.at.entry wrong.0) [
               | inl before ↦
-                  let fits : FirstFit script fault.at.page entries wrong.0 wrong.1.state = subst (λ (q : ℕ). FirstFit script (record { 0 = q }) entries wrong.0 wrong.1.state) same wrong.1.before in
+                  let fits : FirstFit script copies fault.at.page entries wrong.0 wrong.1.state = subst (λ (q : ℕ). FirstFit script copies (record { 0 = q }) entries wrong.0 wrong.1.state) same wrong.1.before in
                   absurd (no-fault script report fault.at fault.entry entries wrong.0 wrong.1.state (s.page ∙ ap Some are) fits before
                   (subst (λ (es : List Entry). slice_get es fault.at.entry ≡ Some fault.entry) are s.there) fault.wrong)
               | inr after ↦
@@ -238,8 +240,8 @@ first-fault script report p entries line page below wrong other fault =
     beside line other p q a b c l o s e t = omega arith
 
 -- the rule is broken where the first page that doesn't fit says it
-broken-at : (script : Script) (report : Report) (p : ℕ) (entries : List Entry) (line : ℕ) → slice_get report.pages p ≡ Some entries → FitBelow script report p
-    → IsWrongAt script (record { 0 = p }) entries (page_line report p) line → IsBroken Histories script report line
+broken-at : {copies : Who → Option VSlot} (script : Script) (report : Report) (p : ℕ) (entries : List Entry) (line : ℕ) → slice_get report.pages p ≡ Some entries → FitBelow script copies report p
+    → IsWrongAt script copies (record { 0 = p }) entries (page_line report p) line → IsFirstFault (HistoriesFit script copies report) (IsHistoryFault script copies report) line
 broken-at script report p entries line page below wrong = record {
   broken = refutes script report p entries wrong.0 page wrong.1;
   at = record {
@@ -253,29 +255,29 @@ broken-at script report p entries line page below wrong = record {
 }
 
 -- the pages below the next number fit
-fit-next : (script : Script) (report : Report) (p : ℕ) (entries : List Entry) → slice_get report.pages p ≡ Some entries → FitBelow script report p
-    → PageFits script (record { 0 = p }) entries → FitBelow script report (p + 1)
-fit-next script report p entries page below fits q others low there = elim (cases_lt q p) [
+fit-next : {copies : Who → Option VSlot} (script : Script) (report : Report) (p : ℕ) (entries : List Entry) → slice_get report.pages p ≡ Some entries → FitBelow script copies report p
+    → PageFits script copies (record { 0 = p }) entries → FitBelow script copies report (p + 1)
+fit-next {copies = copies} script report p entries page below fits q others low there = elim (cases_lt q p) [
   | inl under ↦ below q others under there
   | inr not_under ↦
       let same : p ≡ q = omega (arith, low, not_under) in
       let are : entries ≡ others = same_Some _ _ (sym page ∙ ap (λ (k : ℕ). slice_get report.pages k) same ∙ there) in
-      subst (λ (k : ℕ). PageFits script (record { 0 = k }) others) same (subst (λ (es : List Entry). PageFits script (record { 0 = p }) es) are fits)
+      subst (λ (k : ℕ). PageFits script copies (record { 0 = k }) others) same (subst (λ (es : List Entry). PageFits script copies (record { 0 = p }) es) are fits)
 ]
 
 -- where the walk over the pages has come to
-pub record Come (script : Script) (report : Report) (n line : ℕ) : Type 0 where
-  pub below : FitBelow script report n
+pub record Come (script : Script) (copies : Who → Option VSlot) (report : Report) (n line : ℕ) : Type 0 where
+  pub below : FitBelow script copies report n
   pub line_is : line ≡ page_line report n
 
-pub come-next : {script : Script} {report : Report} {n line : ℕ} (entries : List Entry) (next : ℕ) → Come script report n line → slice_get report.pages n ≡ Some entries
-    → PageFits script (record { 0 = n }) entries → next ≡ line + 1 + sum_by entry_height entries → Come script report (n + 1) next
+pub come-next : {copies : Who → Option VSlot} {script : Script} {report : Report} {n line : ℕ} (entries : List Entry) (next : ℕ) → Come script copies report n line → slice_get report.pages n ≡ Some entries
+    → PageFits script copies (record { 0 = n }) entries → next ≡ line + 1 + sum_by entry_height entries → Come script copies report (n + 1) next
 come-next {script = script} {report = report} {n = n} {line = line} entries next come page fits is = record {
   below = fit-next script report n entries page come.below fits;
   line_is = is ∙ ap (λ (k : ℕ). k + 1 + sum_by entry_height entries) come.line_is ∙ sym (page-next report n entries page);
 }
 
-pub come-wrong : {script : Script} {report : Report} {n line : ℕ} (entries : List Entry) (at : ℕ) → Come script report n line → slice_get report.pages n ≡ Some entries
-    → IsWrongAt script (record { 0 = n }) entries line at → IsBroken Histories script report at
-come-wrong {script = script} {report = report} {n = n} {line = line} entries at come page wrong =
-    broken-at script report n entries at page come.below (subst (λ (k : ℕ). IsWrongAt script (record { 0 = n }) entries k at) come.line_is wrong)
+pub come-wrong : {copies : Who → Option VSlot} {script : Script} {report : Report} {n line : ℕ} (entries : List Entry) (at : ℕ) → Come script copies report n line → slice_get report.pages n ≡ Some entries
+    → IsWrongAt script copies (record { 0 = n }) entries line at → IsFirstFault (HistoriesFit script copies report) (IsHistoryFault script copies report) at
+come-wrong {copies = copies} {script = script} {report = report} {n = n} {line = line} entries at come page wrong =
+    broken-at script report n entries at page come.below (subst (λ (k : ℕ). IsWrongAt script copies (record { 0 = n }) entries k at) come.line_is wrong)

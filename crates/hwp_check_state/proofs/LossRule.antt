@@ -5,7 +5,7 @@ use Rattle.std.proofs.lemmas.List.{length-take}
 use Rattle.std.proofs.lemmas.Option.{same_Some, slice_get-get_or, slice_get_within, unwrap_or-slice_get}
 use Rattle.hwp_check_rules.specs.hwp_geom.declared.Cpu.{Cpu}
 use Rattle.hwp_check_rules.specs.hwp_geom.declared.FileNo.{FileNo}
-use Rattle.hwp_check_rules.specs.hwp_script_read.Valid.{IsValid}
+use Rattle.hwp_check_rules.specs.hwp_check_acting.Scripts.{IsDeclared}
 use Rattle.hwp_check_rules.specs.hwp_script_read.declared.Command.{Command}
 use Rattle.hwp_check_rules.specs.hwp_script_read.declared.Script.{Script}
 use Rattle.hwp_check_rules.specs.hwp_report_text.declared.Answer.{Answer}
@@ -15,11 +15,10 @@ use Rattle.hwp_check_rules.specs.hwp_law.Causes.{AreCaused}
 use Rattle.hwp_check_rules.specs.hwp_law.Lines.{answered}
 use Rattle.hwp_check_rules.specs.hwp_law.Losses.{IsNumber, is_lost, is_lost_before, losses_such, numbers_after, tells_number}
 use Rattle.hwp_check_rules.specs.Faults.{IsLossFault}
-use Rattle.hwp_check_rules.specs.Firsts.{sooner_if, soonest}
-use Rattle.hwp_check_rules.specs.Rules.{AnswersFit, IsTold, LossesFit, ShapeFits}
+use Rattle.hwp_check_rules.specs.Firsts.{sooner_if, soonest, IsFirstFault}
+use Rattle.hwp_check_rules.specs.Rules.{IsTold, LossesFit, ShapeFits, AreAllAnswered}
 use Rattle.hwp_check_rules.specs.Standing.{file_line}
 use Rattle.hwp_check_rules.specs.declared.Rule.TheVariants.{Losses}
-use Rattle.hwp_check_rules.specs.Verdicts.{IsBroken}
 use Rattle.hwp_check_rules.proofs.AnswersByRow.{rows-by}
 use Rattle.hwp_check_state.specs.Handles.{IsFirst, IsFirstLost, IsFirstTold, IsLostWrong, IsToldWrong, IsToldWrongBy}
 use Rattle.hwp_check_state.specs.Told.{is_good, walk}
@@ -135,7 +134,7 @@ module _ (script : Script) (report : Report) (shape : ShapeFits script report) w
       both : (a b : Bool) → a ≡ true → b ≡ true → (a && b) ≡ true
       both a b one other = ap (λ (x : Bool). x && b) one ∙ other
 
-  first-is : (found : Option ℕ) → IsFirst Wrong found → MatchOption found (LossesFit script report) (IsBroken Losses script report)
+  first-is : (found : Option ℕ) → IsFirst Wrong found → MatchOption found (LossesFit script report) (IsFirstFault (LossesFit script report) (IsLossFault script report))
   first-is None none = λ file lost there. told-right file lost there (none (4 + file.0))
   first-is (Some line) least = record {
     broken = λ holds. let f = fault-of line least.at in f.wrong (holds f.file f.lost f.there);
@@ -150,7 +149,7 @@ module _ (script : Script) (report : Report) (shape : ShapeFits script report) w
     ];
   }
 
-  pub rule-is : (lost told : Option ℕ) → IsFirstLost script report lost → IsFirstTold script report told → MatchOption (soonest lost told) (LossesFit script report) (IsBroken Losses script report)
+  pub rule-is : (lost told : Option ℕ) → IsFirstLost script report lost → IsFirstTold script report told → MatchOption (soonest lost told) (LossesFit script report) (IsFirstFault (LossesFit script report) (IsLossFault script report))
   rule-is lost told one other =
       first-is (soonest lost told) (first-both (IsLostWrong script report script.layout.files) (IsToldWrongBy script report script.layout.cpus) Wrong (λ line w. inl w) (λ line w. inr w) (λ line w. w) lost told one other)
 
@@ -228,7 +227,7 @@ module _ (script : Script) (report : Report) (shape : ShapeFits script report) w
           let less : w.cpu.0 < script.layout.cpus = w.before in
           record { cpu = w.cpu; list = w.list; rows = w.rows; before = omega (arith, less, all); of_script = w.of_script; of_report = w.of_report; wrong = w.wrong }
 
-  module _ (valid : IsValid script) (answers_fit : AnswersFit script report) (room : (file : FileNo) → losses_such is_lost script report file < 2 ^ 64 - 1) where
+  module _ (valid : IsDeclared script) (answers_fit : AreAllAnswered script report) (room : (file : FileNo) → losses_such is_lost script report file < 2 ^ 64 - 1) where
     pub told-next : (cpu : ℕ) (found told : Option ℕ) → cpu < script.layout.cpus → IsFirst (IsToldWrongBy script report cpu) found
         → told ≡ walk script report (record { 0 = cpu }) (unwrap_or (slice_get script.lists cpu) []) (replicate script.layout.files 0) None (unwrap_or (slice_get report.cpus cpu) [])
         → IsFirst (IsToldWrongBy script report (cpu + 1)) (soonest found told)
@@ -254,7 +253,7 @@ module _ (script : Script) (report : Report) (shape : ShapeFits script report) w
             ∙ ap (λ (r : List CpuLine). walk script report (record { 0 = cpu }) list (replicate script.layout.files 0) None r) (unwrap_or-slice_get report.cpus cpu [])
 
         caused : AreCaused script report (record { 0 = cpu }) 0 list rows
-        caused = rows-by script report (record { 0 = cpu }) list rows (answers_fit.answered (record { 0 = cpu }) list rows of_script of_report)
+        caused = rows-by script report (record { 0 = cpu }) list rows (answers_fit (record { 0 = cpu }) list rows of_script of_report)
 
         Now : ℕ → Type 0
         Now line = IsToldWrong script report (record { 0 = cpu }) (answered list rows) (length (answered list rows)) line

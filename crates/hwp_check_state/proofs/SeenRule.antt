@@ -15,12 +15,11 @@ use Rattle.hwp_check_rules.specs.hwp_law.Places.{entry_at}
 use Rattle.hwp_check_rules.specs.hwp_law.SeenPolicies.{IsOwnCount, seen_in}
 use Rattle.hwp_check_state.specs.declared.sights.Sight.{Sight}
 use Rattle.hwp_check_rules.specs.Faults.{HasFallen, IsSeenFault}
-use Rattle.hwp_check_rules.specs.Firsts.{soonest}
+use Rattle.hwp_check_rules.specs.Firsts.{soonest, IsFirstFault}
 use Rattle.hwp_check_rules.specs.Rules.{SeenFit}
 use Rattle.hwp_check_state.specs.Sights.{IsBelow, IsFirstOf, IsLineOf, IsNotBelow, IsRight, IsWrong, sights}
 use Rattle.hwp_check_rules.specs.Standing.{seen_line}
 use Rattle.hwp_check_rules.specs.declared.Rule.TheVariants.{Seen as SeenRule}
-use Rattle.hwp_check_rules.specs.Verdicts.{IsBroken}
 use Rattle.hwp_check_state.proofs.FirstLaws.{not-both}
 use Rattle.hwp_check_state.proofs.SightLaws.{IsSight, from-place, has-sight, sight-has, to-place}
 
@@ -141,11 +140,11 @@ module _ (script : Script) (report : Report) (sorted : List Sight) (moved : IsPe
   no-below : (line : ℕ) → All (IsNotBelow sorted) sorted → IsLineOf (IsBelow sorted) sorted line → ⊥
   no-below line above of = All-contains (IsNotBelow sorted) sorted of.sight above of.listed of.such
 
-  broken-by : (line : ℕ) → IsSeenFault script report line → ((other : ℕ) → IsSeenFault script report other → line ≤ other) → IsBroken SeenRule script report line
+  broken-by : (line : ℕ) → IsSeenFault script report line → ((other : ℕ) → IsSeenFault script report other → line ≤ other) → IsFirstFault (SeenFit script report) (IsSeenFault script report) line
   broken-by line fault first = record { broken = breaks line fault; at = fault; first = first }
 
   pub seen-is : (wrong below : Option ℕ) → IsFirstOf (IsRight script report) (IsWrong script report) list wrong → IsFirstOf (IsNotBelow sorted) (IsBelow sorted) sorted below
-      → MatchOption (soonest wrong below) (SeenFit script report) (IsBroken SeenRule script report)
+      → MatchOption (soonest wrong below) (SeenFit script report) (IsFirstFault (SeenFit script report) (IsSeenFault script report))
   seen-is None None right above = fits right above
   seen-is (Some line) None least above = broken-by line (wrong-fault line least.at) (λ other fault. elim (fault-line other fault) [
     | inl of ↦ least.first other of

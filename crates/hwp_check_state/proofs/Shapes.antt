@@ -7,7 +7,8 @@ use Rattle.hwp_check_rules.specs.hwp_report_text.declared.Report.{Report}
 use Rattle.hwp_check_rules.specs.Rules.{ShapeFits}
 use Rattle.hwp_check_rules.specs.Standing.{cpu_line, file_line, frame_height, frame_line, header_line, page_height, page_line}
 use Rattle.hwp_check_rules.specs.declared.Rule.TheVariants.{Shape}
-use Rattle.hwp_check_rules.specs.Verdicts.{IsBroken}
+use Rattle.hwp_check_rules.specs.Firsts.{IsFirstFault}
+use Rattle.hwp_check_rules.specs.Faults.{IsShapeFault}
 
 module _ (script : Script) (report : Report) where
   file-frame : (i j : ℕ) → i ≤ length report.files → file_line report i ≤ frame_line report j
@@ -22,7 +23,7 @@ module _ (script : Script) (report : Report) where
   pub shape_fits : report.version ≡ script.layout.version → length report.files ≡ script.layout.files → length report.frames ≡ script.layout.frames → length report.pages ≡ length script.layout.pages → length report.cpus ≡ script.layout.cpus → ShapeFits script report
   shape_fits version files frames pages cpus = record { version = version; files = files; frames = frames; pages = pages; cpus = cpus }
 
-  pub version_first : (line : ℕ) → report.version ≢ script.layout.version → line ≡ header_line → IsBroken Shape script report line
+  pub version_first : (line : ℕ) → report.version ≢ script.layout.version → line ≡ header_line → IsFirstFault (ShapeFits script report) (IsShapeFault script report) line
   version_first line differs is = record {
     broken = λ fits. differs fits.version;
     at = inl (differs, is);
@@ -35,7 +36,7 @@ module _ (script : Script) (report : Report) where
     ];
   }
 
-  pub files_first : (line : ℕ) → report.version ≡ script.layout.version → length report.files ≢ script.layout.files → line ≡ file_line report (min (length report.files) script.layout.files) → IsBroken Shape script report line
+  pub files_first : (line : ℕ) → report.version ≡ script.layout.version → length report.files ≢ script.layout.files → line ≡ file_line report (min (length report.files) script.layout.files) → IsFirstFault (ShapeFits script report) (IsShapeFault script report) line
   files_first line version_fits differs is = record {
     broken = λ fits. differs fits.files;
     at = inr (inl (differs, is));
@@ -50,7 +51,7 @@ module _ (script : Script) (report : Report) where
     ];
   }
 
-  pub frames_first : (line : ℕ) → report.version ≡ script.layout.version → length report.files ≡ script.layout.files → length report.frames ≢ script.layout.frames → line ≡ frame_line report (min (length report.frames) script.layout.frames) → IsBroken Shape script report line
+  pub frames_first : (line : ℕ) → report.version ≡ script.layout.version → length report.files ≡ script.layout.files → length report.frames ≢ script.layout.frames → line ≡ frame_line report (min (length report.frames) script.layout.frames) → IsFirstFault (ShapeFits script report) (IsShapeFault script report) line
   frames_first line version_fits files_fit differs is = record {
     broken = λ fits. differs fits.frames;
     at = inr (inr (inl (differs, is)));
@@ -64,7 +65,7 @@ module _ (script : Script) (report : Report) where
     ];
   }
 
-  pub pages_first : (line : ℕ) → report.version ≡ script.layout.version → length report.files ≡ script.layout.files → length report.frames ≡ script.layout.frames → length report.pages ≢ length script.layout.pages → line ≡ page_line report (min (length report.pages) (length script.layout.pages)) → IsBroken Shape script report line
+  pub pages_first : (line : ℕ) → report.version ≡ script.layout.version → length report.files ≡ script.layout.files → length report.frames ≡ script.layout.frames → length report.pages ≢ length script.layout.pages → line ≡ page_line report (min (length report.pages) (length script.layout.pages)) → IsFirstFault (ShapeFits script report) (IsShapeFault script report) line
   pages_first line version_fits files_fit frames_fit differs is = record {
     broken = λ fits. differs fits.pages;
     at = inr (inr (inr (inl (differs, is))));
@@ -77,7 +78,7 @@ module _ (script : Script) (report : Report) where
     ];
   }
 
-  pub cpus_first : (line : ℕ) → report.version ≡ script.layout.version → length report.files ≡ script.layout.files → length report.frames ≡ script.layout.frames → length report.pages ≡ length script.layout.pages → length report.cpus ≢ script.layout.cpus → line ≡ cpu_line report (min (length report.cpus) script.layout.cpus) → IsBroken Shape script report line
+  pub cpus_first : (line : ℕ) → report.version ≡ script.layout.version → length report.files ≡ script.layout.files → length report.frames ≡ script.layout.frames → length report.pages ≡ length script.layout.pages → length report.cpus ≢ script.layout.cpus → line ≡ cpu_line report (min (length report.cpus) script.layout.cpus) → IsFirstFault (ShapeFits script report) (IsShapeFault script report) line
   cpus_first line version_fits files_fit frames_fit pages_fit differs is = record {
     broken = λ fits. differs fits.cpus;
     at = inr (inr (inr (inr (differs, is))));

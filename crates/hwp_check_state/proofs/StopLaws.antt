@@ -12,8 +12,9 @@ use Rattle.hwp_check_rules.specs.hwp_law.Stops.{StaysStopped}
 use Rattle.hwp_check_rules.specs.Rules.{StopFits}
 use Rattle.hwp_check_state.specs.Stopping.{IsCausedStop, all_stay, has_stopped, some_stopped, stays}
 use Rattle.hwp_check_rules.specs.declared.Rule.TheVariants.{Stop}
-use Rattle.hwp_check_rules.specs.Verdicts.{IsBroken}
 use Rattle.hwp_check_state.proofs.StopScans.{has-is, is-has, stays-is}
+use Rattle.hwp_check_rules.specs.Firsts.{IsFirstFault}
+use Rattle.hwp_check_rules.specs.Faults.{IsStopFault}
 
 both : (a b : Bool) → (a && b) ≡ true → (a ≡ true) × (b ≡ true)
 both true b e = (refl, e)
@@ -68,5 +69,5 @@ module _ (script : Script) (report : Report) where
   pub fits_stay : StopFits script report → all_stay report.cpus ≡ true
   fits_stay fits = at-stay report.cpus (λ i rows is. fits.stays (record { 0 = i }) rows is)
 
-  pub stop_broken : (StopFits script report → ⊥) → IsBroken Stop script report 2
+  pub stop_broken : (StopFits script report → ⊥) → IsFirstFault (StopFits script report) (IsStopFault script report) 2
   stop_broken wrong = record { broken = wrong; at = (wrong, refl); first = λ other fault. let is : other ≡ 2 = fault.1 in omega (arith, is) }

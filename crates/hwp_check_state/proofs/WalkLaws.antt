@@ -21,6 +21,8 @@ use Rattle.hwp_check_rules.proofs.of_hwp_page.Histories.{IsReplay-more}
 use Rattle.hwp_check_rules.specs.hwp_script_read.declared.Script.{Script}
 use Rattle.hwp_check_state.specs.Histories.{FirstFit, IsBehindIn, IsRightEntry, IsWrongAt, IsWrongEntry, PageFits}
 use Rattle.hwp_check_rules.specs.Standing.{entry_height}
+use Rattle.hwp_check_rules.specs.hwp_geom.declared.VSlot.{VSlot}
+use Rattle.hwp_check_rules.specs.hwp_geom.declared.Who.{Who}
 
 -- an entry of the processor, of this command, among so many first ones
 pub record HasEntry (entries : List Entry) (n cpu seq : ℕ) : Type 0 where
@@ -37,8 +39,8 @@ pub record AreLasts (entries : List Entry) (n : ℕ) (lasts : List ℕ) : Type 0
   pub stand : (cpu : ℕ) → (get_or lasts cpu 0 ≡ 0) ⊎ HasEntry entries n cpu (get_or lasts cpu 0)
 
 -- where the walk has come to
-pub record Walked (script : Script) (page : Page) (entries : List Entry) (heading n : ℕ) (state : PageState) (lasts : List ℕ) (line : ℕ) : Type 0 where
-  pub fits : FirstFit script page entries n state
+pub record Walked (script : Script) (copies : Who → Option VSlot) (page : Page) (entries : List Entry) (heading n : ℕ) (state : PageState) (lasts : List ℕ) (line : ℕ) : Type 0 where
+  pub fits : FirstFit script copies page entries n state
   pub size : length lasts ≡ 256
   pub lasts_are : AreLasts entries n lasts
   pub line_is : line ≡ heading + 1 + sum_by entry_height (take n entries)
@@ -62,9 +64,9 @@ below-next n i within = elim (cases_lt i n) [
 last-one : (entries : List Entry) (n i : ℕ) (e f : Entry) → i ≡ n → slice_get entries n ≡ Some e → slice_get entries i ≡ Some f → f ≡ e
 last-one entries n i e f same there other = same_Some _ _ (sym other ∙ ap (slice_get entries) same ∙ there)
 
-fits-next : (script : Script) (page : Page) (entries : List Entry) (n : ℕ) (state : PageState) (e : Entry) (lasts : List ℕ) (last : ℕ)
-    → FirstFit script page entries n state → AreLasts entries n lasts → slice_get entries n ≡ Some e → last ≡ get_or lasts e.who.cpu.0 0 → IsRightEntry script page state last e
-    → FirstFit script page entries (n + 1) (after state e.what)
+fits-next : {copies : Who → Option VSlot} (script : Script) (page : Page) (entries : List Entry) (n : ℕ) (state : PageState) (e : Entry) (lasts : List ℕ) (last : ℕ)
+    → FirstFit script copies page entries n state → AreLasts entries n lasts → slice_get entries n ≡ Some e → last ≡ get_or lasts e.who.cpu.0 0 → IsRightEntry script copies page state last e
+    → FirstFit script copies page entries (n + 1) (after state e.what)
 fits-next script page entries n state e lasts last fits are there is right = record {
   replay = rw (take-next entries n e there) (IsReplay-more e fits.replay right.allowed);
   made = λ i f within other. elim (below-next n i within) [
@@ -124,10 +126,10 @@ lasts-next entries n e lasts are there rises inside =
     }
 
 -- the walk goes on behind an entry that is right
-pub walked-next : {script : Script} {page : Page} {entries : List Entry} {heading n : ℕ} {state : PageState} {lasts : List ℕ} {line : ℕ}
-    → (e : Entry) (last : ℕ) → Walked script page entries heading n state lasts line → slice_get entries n ≡ Some e → last ≡ get_or lasts e.who.cpu.0 0
-    → e.who.cpu.0 < 256 → IsRightEntry script page state last e
-    → Walked script page entries heading (n + 1) (after state e.what) (set lasts e.who.cpu.0 e.who.seq) (line + entry_height e)
+pub walked-next : {copies : Who → Option VSlot} {script : Script} {page : Page} {entries : List Entry} {heading n : ℕ} {state : PageState} {lasts : List ℕ} {line : ℕ}
+    → (e : Entry) (last : ℕ) → Walked script copies page entries heading n state lasts line → slice_get entries n ≡ Some e → last ≡ get_or lasts e.who.cpu.0 0
+    → e.who.cpu.0 < 256 → IsRightEntry script copies page state last e
+    → Walked script copies page entries heading (n + 1) (after state e.what) (set lasts e.who.cpu.0 e.who.seq) (line + entry_height e)
 walked-next {script = script} {page = page} {entries = entries} {heading = heading} {n = n} {state = state} {lasts = lasts} {line = line} e last walked there is inside right =
     let rises : get_or lasts e.who.cpu.0 0 ≤ e.who.seq = subst (λ k. k ≤ e.who.seq) is right.rises in
     let within : e.who.cpu.0 < length lasts = let s : length lasts ≡ 256 = walked.size in omega arith in
@@ -158,9 +160,9 @@ behind entries n e lasts are falls = elim (are.stand e.who.cpu.0) [
 ]
 
 -- it stops at an entry that is wrong
-pub walked-wrong : {script : Script} {page : Page} {entries : List Entry} {heading n : ℕ} {state : PageState} {lasts : List ℕ} {line : ℕ}
-    → (e : Entry) (last : ℕ) → Walked script page entries heading n state lasts line → slice_get entries n ≡ Some e → last ≡ get_or lasts e.who.cpu.0 0
-    → IsWrongEntry script page state last e → IsWrongAt script page entries heading line
+pub walked-wrong : {copies : Who → Option VSlot} {script : Script} {page : Page} {entries : List Entry} {heading n : ℕ} {state : PageState} {lasts : List ℕ} {line : ℕ}
+    → (e : Entry) (last : ℕ) → Walked script copies page entries heading n state lasts line → slice_get entries n ≡ Some e → last ≡ get_or lasts e.who.cpu.0 0
+    → IsWrongEntry script copies page state last e → IsWrongAt script copies page entries heading line
 walked-wrong {script = script} {page = page} {entries = entries} {heading = heading} {n = n} {state = state} {lasts = lasts} {line = line} e last walked there is wrong = (
   n,
   record {
@@ -192,8 +194,8 @@ none-below : {A : Type 0} (i : ℕ) → i < 0 → A
 none-below i low = absurd (omega (arith, low))
 
 -- it begins at the page's opening
-pub walked-start : (script : Script) (page : Page) (entries : List Entry) (heading : ℕ) (kind : PageKind) (state : PageState)
-    → slice_get script.layout.pages page.0 ≡ Some kind → state ≡ opening_of kind (is_locked script.layout page) → Walked script page entries heading 0 state (replicate 256 0) (heading + 1)
+pub walked-start : {copies : Who → Option VSlot} (script : Script) (page : Page) (entries : List Entry) (heading : ℕ) (kind : PageKind) (state : PageState)
+    → slice_get script.layout.pages page.0 ≡ Some kind → state ≡ opening_of kind (is_locked script.layout page) → Walked script copies page entries heading 0 state (replicate 256 0) (heading + 1)
 walked-start script page entries heading kind state declared opening = record {
   fits = record {
     replay = record { kind = kind; declared = declared; leads = sym opening };
@@ -209,11 +211,11 @@ walked-start script page entries heading kind state declared opening = record {
 }
 
 -- at the end the whole page fits
-pub walked-end : {script : Script} {page : Page} {entries : List Entry} {heading n : ℕ} {state : PageState} {lasts : List ℕ} {line : ℕ}
-    → Walked script page entries heading n state lasts line → n ≡ length entries
-    → PageFits script page entries × (line ≡ heading + 1 + sum_by entry_height entries)
-walked-end {script = script} {page = page} {entries = entries} {heading = heading} {n = n} {state = state} {lasts = lasts} {line = line} walked end =
-    let fits : FirstFit script page entries (length entries) state = subst (λ k. FirstFit script page entries k state) end walked.fits in
+pub walked-end : {copies : Who → Option VSlot} {script : Script} {page : Page} {entries : List Entry} {heading n : ℕ} {state : PageState} {lasts : List ℕ} {line : ℕ}
+    → Walked script copies page entries heading n state lasts line → n ≡ length entries
+    → PageFits script copies page entries × (line ≡ heading + 1 + sum_by entry_height entries)
+walked-end {copies = copies} {script = script} {page = page} {entries = entries} {heading = heading} {n = n} {state = state} {lasts = lasts} {line = line} walked end =
+    let fits : FirstFit script copies page entries (length entries) state = subst (λ k. FirstFit script copies page entries k state) end walked.fits in
     let whole : take n entries ≡ entries = ap (λ k. take k entries) end ∙ take_all (length entries) entries (omega arith) in
     ((state, fits), walked.line_is ∙ ap (λ es. heading + 1 + sum_by entry_height es) whole)
 
@@ -240,8 +242,8 @@ maps-within layout page state (entries.Fail situation required seen signals) sou
 maps-within layout page state entries.Soft sound allowed = record {}
 
 -- the line behind an entry is within the page's
-pub walked-room : {script : Script} {page : Page} {entries : List Entry} {heading n : ℕ} {state : PageState} {lasts : List ℕ} {line : ℕ}
-    → (e : Entry) → Walked script page entries heading n state lasts line → slice_get entries n ≡ Some e
+pub walked-room : {copies : Who → Option VSlot} {script : Script} {page : Page} {entries : List Entry} {heading n : ℕ} {state : PageState} {lasts : List ℕ} {line : ℕ}
+    → (e : Entry) → Walked script copies page entries heading n state lasts line → slice_get entries n ≡ Some e
     → line + entry_height e ≤ heading + 1 + sum_by entry_height entries
 walked-room {entries = entries} {heading = heading} {n = n} {line = line} e walked there =
     let l : line ≡ heading + 1 + sum_by entry_height (take n entries) = walked.line_is in

@@ -1,8 +1,9 @@
 ghost use Rattle.std.specs.Prelude.{◌≡◌, MatchOption, IsTrue};
 ghost use Rattle.hwp_check_rules.specs.hwp_law.Frames.{poisoned_count};
 ghost use Rattle.hwp_check_rules.specs.hwp_law.Records.{ends_poisoned, is_poisoning};
-ghost use Rattle.hwp_check_rules.specs.declared.Rule.TheVariants.{Count};
-ghost use Rattle.hwp_check_rules.specs.Verdicts.{Holds, IsBroken};
+ghost use Rattle.hwp_check_rules.specs.Firsts.{IsFirstFault};
+ghost use Rattle.hwp_check_rules.specs.Rules.{CountFits};
+ghost use Rattle.hwp_check_rules.specs.Faults.{IsCountFault};
 
 use hwp_check_rules::{FrameLine, MarkLine, Report, Script};
 
@@ -37,7 +38,7 @@ fn poisoned_count(frames: &[FrameLine]) -> u64
 
 /// Whether the count is the number of poisoned frames; else its line.
 pub fn count_fault(script: &Script, report: &Report) -> Option<u64>
-    ensures { MatchOption result (Holds Count script.now report.now) (IsBroken Count script.now report.now) }
+    ensures { MatchOption result (CountFits report.now) (IsFirstFault (CountFits report.now) (IsCountFault report.now)) }
 {
     if poisoned_count(report.frames.as_slice()) == report.count {
         None

@@ -1,12 +1,12 @@
 ghost use Rattle.std.specs.Prelude.{◌≡◌, ◌==◌, ◌&&◌, ◌≤◌, ◌<◌, ◌^◌, ℕ, nat_lt, not, false, Some, None, cond, length, map, option_map, slice_get, slice_index_or, take, unwrap_or, IfOk, IfSome, MatchOption};
 ghost use Rattle.hwp_check_rules.specs.hwp_geom.Limits.{frame_limit};
-ghost use Rattle.hwp_check_rules.specs.hwp_script_read.Valid.{IsValid};
+ghost use Rattle.hwp_check_rules.specs.hwp_check_acting.Scripts.{IsDeclared};
 ghost use Rattle.hwp_check_rules.specs.hwp_law.Records.{ends_poisoned};
-ghost use Rattle.hwp_check_rules.specs.Faults.{first_free, is_free, sayers};
+ghost use Rattle.hwp_check_rules.specs.Faults.{first_free, is_free, sayers, IsFrameFault};
 ghost use Rattle.hwp_check_state.specs.Frames.{AreMarked, AreRight, bad_bit, cached_after, cached_by, is_beyond, is_placed, is_right_frame, is_right_line, is_unsaid_from, keeps, marked_at, said_by, said_with, weak_bit, with_bad, with_bits, with_weak};
 ghost use Rattle.hwp_check_rules.specs.Standing.{frame_line, last_line};
-ghost use Rattle.hwp_check_rules.specs.declared.Rule.TheVariants.{Frames as FrameRule};
-ghost use Rattle.hwp_check_rules.specs.Verdicts.{HoldBelow, Holds, IsBroken};
+ghost use Rattle.hwp_check_rules.specs.Firsts.{IsFirstFault};
+ghost use Rattle.hwp_check_rules.specs.Rules.{FramesFit, ShapeFits, AreLegal};
 
 use crate::count::ends_poisoned;
 use crate::dones::done_commands;
@@ -384,10 +384,11 @@ pub fn frames_fault(
     script: &Script,
     report: &Report,
 ) -> Result<Option<u64>, OutOfMemory>
-    requires valid { IsValid script.now }
+    requires valid { IsDeclared script.now }
     requires room { last_line report.now < 2 ^ 64 }
-    requires below { HoldBelow 9 script.now report.now }
-    ensures { IfOk result (λ found. MatchOption found (Holds FrameRule script.now report.now) (IsBroken FrameRule script.now report.now)) }
+    requires shape { ShapeFits script.now report.now }
+    requires legal { AreLegal script.now report.now }
+    ensures { IfOk result (λ found. MatchOption found (FramesFit script.now report.now) (IsFirstFault (FramesFit script.now report.now) (IsFrameFault script.now report.now))) }
 {
     let done = done_commands(alloc, script, report)?;
     let marked = marked_by(alloc, report.frames.len(), done.as_slice())?;

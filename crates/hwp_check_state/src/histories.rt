@@ -1,15 +1,17 @@
 ghost use Rattle.std.specs.Prelude.{◌≡◌, ℕ, ◌+◌, ◌<◌, ◌^◌, length, sum_by, Some, slice_get, MatchBool, MatchOption, MatchResult};
 ghost use Rattle.hwp_check_rules.specs.hwp_geom.Layout.{IsSound};
-ghost use Rattle.hwp_check_rules.specs.hwp_script_read.Valid.{IsValid};
+ghost use Rattle.hwp_check_rules.specs.hwp_check_acting.Scripts.{IsDeclared};
 ghost use Rattle.hwp_check_rules.specs.hwp_law_commands.Commands.{has_watch};
 ghost use Rattle.hwp_check_state.specs.Histories.{IsRightEntry, IsWrongAt, IsWrongEntry, PageFits};
 ghost use Rattle.hwp_check_rules.specs.Standing.{entry_height as height_of, last_line};
-ghost use Rattle.hwp_check_rules.specs.declared.Rule.TheVariants.{Histories};
-ghost use Rattle.hwp_check_rules.specs.Verdicts.{HoldBelow, Holds, IsBroken};
+ghost use Rattle.hwp_check_rules.specs.Firsts.{IsFirstFault};
+ghost use Rattle.hwp_check_rules.specs.Rules.{HistoriesFit, ShapeFits};
+ghost use Rattle.hwp_check_rules.specs.Faults.{IsHistoryFault};
+ghost use Rattle.hwp_check_rules.specs.hwp_check_acting.ActedOn.{copies_in};
 
 use hwp_check_rules::{
-    Entry, Page, PageKind, PageState, Report, Script, entry_height, first_page_line, has_watch,
-    is_made_by,
+    Entry, List, Page, PageKind, PageState, Report, Script, VSlot, entry_height, first_page_line,
+    has_watch, is_made_by,
 };
 
 /// The numbers that a processor can have in an entry.
@@ -18,6 +20,7 @@ const CPU_NUMBERS: usize = 256;
 /// Whether the state allows the entry, its command makes it, and it is of no earlier command than number `last`.
 fn is_right(
     script: &Script,
+    copies: &[List<Option<VSlot>>],
     watches: bool,
     page: Page,
     state: &PageState,
@@ -26,12 +29,12 @@ fn is_right(
 ) -> bool
     requires sound { IsSound script.now.layout }
     requires watches { watches ≡ has_watch script.now }
-    ensures { MatchBool result (IsRightEntry script.now page state.now last entry.now) (IsWrongEntry script.now page state.now last entry.now) }
+    ensures { MatchBool result (IsRightEntry script.now (copies_in copies.now) page state.now last entry.now) (IsWrongEntry script.now (copies_in copies.now) page state.now last entry.now) }
 {
     if !state.allows(&script.layout, page, &entry.what) {
         return false;
     }
-    if !is_made_by(script, watches, page, entry) {
+    if !is_made_by(script, copies, watches, page, entry) {
         return false;
     }
     last <= entry.who.seq
@@ -40,6 +43,7 @@ fn is_right(
 /// The line behind a page whose heading stands at `heading`, or the line of its first wrong entry.
 fn walk(
     script: &Script,
+    copies: &[List<Option<VSlot>>],
     watches: bool,
     page: Page,
     kind: PageKind,
@@ -50,15 +54,15 @@ fn walk(
     requires watches { watches ≡ has_watch script.now }
     requires declared { slice_get script.now.layout.pages page.0 ≡ Some kind }
     requires room { heading + 1 + sum_by height_of entries.now < 2 ^ 64 }
-    ensures { MatchResult result (λ next. PageFits script.now page entries.now × (next ≡ heading + 1 + sum_by height_of entries.now))
-        (λ line. IsWrongAt script.now page entries.now heading line) }
+    ensures { MatchResult result (λ next. PageFits script.now (copies_in copies.now) page entries.now × (next ≡ heading + 1 + sum_by height_of entries.now))
+        (λ line. IsWrongAt script.now (copies_in copies.now) page entries.now heading line) }
 {
     let mut state = PageState::opening(kind, script.layout.is_locked(page));
     let mut lasts = [0; CPU_NUMBERS];
     let mut line = heading + 1;
     for entry in entries {
         let cpu = usize::from(entry.who.cpu.0);
-        if !is_right(script, watches, page, &state, lasts[cpu], entry) {
+        if !is_right(script, copies, watches, page, &state, lasts[cpu], entry) {
             return Err(line);
         }
         state.step(&entry.what);
@@ -69,11 +73,15 @@ fn walk(
 }
 
 /// The line of the first entry that is not allowed, that its command does not make, or whose command's number falls.
-pub fn histories_fault(script: &Script, report: &Report) -> Option<u64>
-    requires valid { IsValid script.now }
+pub fn histories_fault(
+    script: &Script,
+    copies: &[List<Option<VSlot>>],
+    report: &Report,
+) -> Option<u64>
+    requires valid { IsDeclared script.now }
     requires room { last_line report.now < 2 ^ 64 }
-    requires below { HoldBelow 2 script.now report.now }
-    ensures { MatchOption result (Holds Histories script.now report.now) (IsBroken Histories script.now report.now) }
+    requires shape { ShapeFits script.now report.now }
+    ensures { MatchOption result (HistoriesFit script.now (copies_in copies.now) report.now) (IsFirstFault (HistoriesFit script.now (copies_in copies.now) report.now) (IsHistoryFault script.now (copies_in copies.now) report.now)) }
 {
     let kinds = script.layout.pages.as_slice();
     let watches = has_watch(script);
@@ -82,6 +90,7 @@ pub fn histories_fault(script: &Script, report: &Report) -> Option<u64>
         let page = Page(number as u16);
         match walk(
             script,
+            copies,
             watches,
             page,
             kinds[number],

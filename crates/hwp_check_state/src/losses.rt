@@ -1,10 +1,10 @@
 ghost use Rattle.std.specs.Prelude.{IfOk, MatchOption};
-ghost use Rattle.hwp_check_rules.specs.hwp_script_read.Valid.{IsValid};
-ghost use Rattle.hwp_check_rules.specs.Rules.{AnswersFit, ShapeFits};
-ghost use Rattle.hwp_check_rules.specs.declared.Rule.TheVariants.{Losses};
-ghost use Rattle.hwp_check_rules.specs.Verdicts.{Holds, IsBroken};
+ghost use Rattle.hwp_check_rules.specs.hwp_check_acting.Scripts.{IsDeclared};
+ghost use Rattle.hwp_check_rules.specs.Rules.{ShapeFits, LossesFit, AreAllAnswered};
 ghost use Rattle.hwp_check_state.specs.Lost.{AreLosses};
 ghost use Rattle.hwp_check_state.specs.Handles.{IsFirstLost, IsFirstTold};
+ghost use Rattle.hwp_check_rules.specs.Firsts.{IsFirstFault};
+ghost use Rattle.hwp_check_rules.specs.Faults.{IsLossFault};
 
 use crate::lost::{Loss, lost, sorted_losses};
 use crate::told::told_fault;
@@ -35,10 +35,10 @@ fn all_told_fault(
     report: &Report,
     list: &[Loss],
 ) -> Result<Option<u64>, OutOfMemory>
-    requires valid { IsValid script.now }
+    requires valid { IsDeclared script.now }
     requires losses { AreLosses script.now report.now list.now }
     requires shape { ShapeFits script.now report.now }
-    requires answers { AnswersFit script.now report.now }
+    requires answers { AreAllAnswered script.now report.now }
     ensures { IfOk result (λ found. IsFirstTold script.now report.now found) }
 {
     let mut found = None;
@@ -65,10 +65,10 @@ pub fn losses_fault(
     script: &Script,
     report: &Report,
 ) -> Result<Option<u64>, OutOfMemory>
-    requires valid { IsValid script.now }
+    requires valid { IsDeclared script.now }
     requires shape { ShapeFits script.now report.now }
-    requires answers { AnswersFit script.now report.now }
-    ensures { IfOk result (λ found. MatchOption found (Holds Losses script.now report.now) (IsBroken Losses script.now report.now)) }
+    requires answers { AreAllAnswered script.now report.now }
+    ensures { IfOk result (λ found. MatchOption found (LossesFit script.now report.now) (IsFirstFault (LossesFit script.now report.now) (IsLossFault script.now report.now))) }
 {
     let list = sorted_losses(alloc, script, report)?;
     let lost = lost_fault(script, report, list.as_slice());

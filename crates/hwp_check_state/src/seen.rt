@@ -4,12 +4,13 @@ ghost use Rattle.std.specs.List.Sorted.{IsNonDecreasingBy};
 ghost use Rattle.hwp_check_rules.specs.hwp_law_commands.Settings.{last_policy};
 ghost use Rattle.hwp_check_rules.specs.hwp_law.SeenPolicies.{IsOwnCount, IsPolicySeen};
 ghost use Rattle.hwp_check_rules.specs.hwp_kill.declared.Policy.TheVariants.{Default};
-ghost use Rattle.hwp_check_rules.specs.hwp_script_read.Valid.{IsValid};
+ghost use Rattle.hwp_check_rules.specs.hwp_check_acting.Scripts.{IsDeclared};
 ghost use Rattle.hwp_check_rules.specs.Pasts.{ArePasts, IsPast};
 ghost use Rattle.hwp_check_state.specs.Sights.{IsBelow, IsFirstOf, IsNotBelow, IsRight, IsSmall, IsWrong, group_of, key_of, top_of};
 ghost use Rattle.hwp_check_rules.specs.Standing.{last_line};
-ghost use Rattle.hwp_check_rules.specs.declared.Rule.TheVariants.{Seen as SeenRule};
-ghost use Rattle.hwp_check_rules.specs.Verdicts.{Holds, IsBroken};
+ghost use Rattle.hwp_check_rules.specs.Firsts.{IsFirstFault};
+ghost use Rattle.hwp_check_rules.specs.Rules.{SeenFit};
+ghost use Rattle.hwp_check_rules.specs.Faults.{IsSeenFault};
 
 use crate::sights::{Sight, add_pages};
 use hwp_check_rules::{
@@ -176,9 +177,9 @@ pub fn seen_fault(
     script: &Script,
     report: &Report,
 ) -> Result<Option<u64>, OutOfMemory>
-    requires valid { IsValid script.now }
+    requires valid { IsDeclared script.now }
     requires room { last_line report.now < 2 ^ 64 }
-    ensures { IfOk result (λ found. MatchOption found (Holds SeenRule script.now report.now) (IsBroken SeenRule script.now report.now)) }
+    ensures { IfOk result (λ found. MatchOption found (SeenFit script.now report.now) (IsFirstFault (SeenFit script.now report.now) (IsSeenFault script.now report.now))) }
 {
     let pasts = pasts_of(alloc, script, report)?;
     let mut list = Vec::new(alloc);

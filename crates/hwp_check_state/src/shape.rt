@@ -1,7 +1,8 @@
 ghost use Rattle.std.specs.Prelude.{◌<◌, ◌^◌, MatchOption};
 ghost use Rattle.hwp_check_rules.specs.Standing.{last_line};
-ghost use Rattle.hwp_check_rules.specs.declared.Rule.TheVariants.{Shape};
-ghost use Rattle.hwp_check_rules.specs.Verdicts.{Holds, IsBroken};
+ghost use Rattle.hwp_check_rules.specs.Firsts.{IsFirstFault};
+ghost use Rattle.hwp_check_rules.specs.Rules.{ShapeFits};
+ghost use Rattle.hwp_check_rules.specs.Faults.{IsShapeFault};
 
 use hwp_check_rules::{Report, Script, cpu_at, file_at, frame_at, page_at};
 
@@ -13,7 +14,7 @@ const HEADER_LINE: u64 = 1;
 #[tactic(auto, using(crate::proofs::Shapes::shape_fits, crate::proofs::Shapes::version_first, crate::proofs::Shapes::files_first, crate::proofs::Shapes::frames_first, crate::proofs::Shapes::pages_first, crate::proofs::Shapes::cpus_first))]
 pub fn shape_fault(script: &Script, report: &Report) -> Option<u64>
     requires room { last_line report.now < 2 ^ 64 }
-    ensures { MatchOption result (Holds Shape script.now report.now) (IsBroken Shape script.now report.now) }
+    ensures { MatchOption result (ShapeFits script.now report.now) (IsFirstFault (ShapeFits script.now report.now) (IsShapeFault script.now report.now)) }
 {
     if report.version != script.layout.version {
         return Some(HEADER_LINE);

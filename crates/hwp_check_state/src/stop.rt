@@ -1,8 +1,8 @@
 ghost use Rattle.std.specs.Prelude.{◌≡◌, ◌↔◌, true, IsSome, IsTrue, MatchOption};
 ghost use Rattle.hwp_check_rules.specs.Rules.{StopFits};
 ghost use Rattle.hwp_check_state.specs.Stopping.{some_stopped};
-ghost use Rattle.hwp_check_rules.specs.declared.Rule.TheVariants.{Stop};
-ghost use Rattle.hwp_check_rules.specs.Verdicts.{Holds, IsBroken};
+ghost use Rattle.hwp_check_rules.specs.Firsts.{IsFirstFault};
+ghost use Rattle.hwp_check_rules.specs.Faults.{IsStopFault};
 
 use crate::stopping::{all_stay, is_caused, some_stopped};
 use hwp_check_rules::{Report, Script};
@@ -25,7 +25,7 @@ fn fits(script: &Script, report: &Report) -> bool
 /// Whether the stop fits; else its line.
 #[tactic(auto, using(crate::proofs::StopLaws::stop_broken))]
 pub fn stop_fault(script: &Script, report: &Report) -> Option<u64>
-    ensures { MatchOption result (Holds Stop script.now report.now) (IsBroken Stop script.now report.now) }
+    ensures { MatchOption result (StopFits script.now report.now) (IsFirstFault (StopFits script.now report.now) (IsStopFault script.now report.now)) }
 {
     if fits(script, report) { None } else { Some(2) }
 }

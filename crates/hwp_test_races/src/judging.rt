@@ -37,7 +37,7 @@ pub fn are_legal(rt: &impl Abort, alloc: Global, script: &str, report: &[u8]) {
 }
 
 /// The report that a script gives begins so, and is legal.
-fn gives_legal(rt: &impl Abort, alloc: Global, script: &str, head: &str) {
+pub fn gives_legal(rt: &impl Abort, alloc: Global, script: &str, head: &str) {
     let out = report_of(rt, alloc, script);
     let report = out.bytes();
     assert!(rt; report.starts_with(head.as_bytes()));

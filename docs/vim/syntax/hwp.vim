@@ -12,12 +12,12 @@ syntax match hwpError /\t/
 
 syntax match hwpComment /^#.*/
 
-syntax match hwpDeclaration /^ *\zs\%(hwp\|cpus\|frames\|kernel\|recovery\|early\|file\|proc\|thread\|page\|trans\)\ze\%( \|$\)/
+syntax match hwpDeclaration /^ *\zs\%(hwp\|cpus\|frames\|kernel\|recovery\|early\|file\|proc\|thread\|page\|trans\|cow\)\ze\%( \|$\)/
 syntax match hwpList /^ *\zs\%(cpu\|end\)\ze\%( \|$\)/
 
 " accesses; commands on pages, files and policies; commands by which memory fails, is tested and is taken back
 syntax match hwpCommand /^ *\zs\%(load\|store\|fetch\|kload\)\ze\%( \|$\)/
-syntax match hwpCommand /^ *\zs\%(free\|drop\|sync\|out\|fsync\|open\|prctl\)\ze\%( \|$\)/
+syntax match hwpCommand /^ *\zs\%(free\|drop\|sync\|out\|fsync\|open\|prctl\|fork\)\ze\%( \|$\)/
 syntax match hwpFailure /^ *\zs\%(bad\|weak\|scrub\|log\|raise\|inject\|soft\|unpoison\|watch\)\ze\%( \|$\)/
 
 syntax match hwpWord / \zs\%(handler\|nohandler\|anon\|file\|fill\|locked\|user\|kernel\|nested\)\ze\%( \|$\)/

@@ -1,6 +1,9 @@
 use Rattle.std.proofs.Common.{arith}
-use Rattle.hwp_check_rules.specs.declared.Rule.TheVariants.{Answers}
+use Rattle.hwp_check.proofs.ActedVerdicts.{answered_held, shape_held}
 use Rattle.hwp_check.proofs.late.counted_verdict.Goals as goal
 
 pub losses_fault-requires-clause-answers : goal.losses_fault-requires-clause-answers
-losses_fault-requires-clause-answers c = c.requires.below Answers (omega arith)
+losses_fault-requires-clause-answers c = answered_held c.args.script.now c.args.report.now c.args.acted.now c.args.copies.now c.requires.acts (omega arith) c.requires.below
+
+pub losses_fault-requires-clause-shape : goal.losses_fault-requires-clause-shape
+losses_fault-requires-clause-shape c = shape_held c.args.script.now c.args.report.now c.args.acted.now c.args.copies.now c.requires.acts (omega arith) c.requires.below

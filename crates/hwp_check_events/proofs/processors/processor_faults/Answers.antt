@@ -4,12 +4,13 @@ use Rattle.hwp_law.specs.hwp_report_text.declared.Report.{Report}
 use Rattle.hwp_check_events.specs.Walked.{IsWalked}
 use Rattle.hwp_check_events.proofs.Verdicts.{empty-table, processor-judged}
 use Rattle.hwp_check_events.proofs.processors.processor_faults.Goals as goal
+use Rattle.hwp_check_acting.specs.ActedOn.{copies_in}
 
 pub walk-requires-clause-empty : goal.walk-requires-clause-empty
 walk-requires-clause-empty c = empty-table c.resize.new.self.items (search rules)
 
 pub returns : goal.returns
 returns c =
-    processor-judged c.args.script.now c.args.report.now c.args.cpu c.args.commands.now c.requires.valid c.small_masks.ensures c.requires.of_script c.walk.result
-    (subst (λ (rows : List CpuLine). IsWalked c.args.script.now c.args.report.now c.args.cpu c.args.commands.now rows (length c.args.commands.now) c.walk.result) c.rows_on-rows.ensures
-    (subst (λ (told : Report). IsWalked c.args.script.now told c.args.cpu c.args.commands.now c.rows_on-rows.result.now (length c.args.commands.now) c.walk.result) c.new-traced.ensures c.walk.ensures))
+    processor-judged c.args.script.now (copies_in c.args.copies.now) c.args.report.now c.args.cpu c.args.commands.now c.requires.valid c.small_masks.ensures c.requires.of_script c.walk.result
+    (subst (λ (rows : List CpuLine). IsWalked c.args.script.now (copies_in c.args.copies.now) c.args.report.now c.args.cpu c.args.commands.now rows (length c.args.commands.now) c.walk.result) c.rows_on-rows.ensures
+    (subst (λ (told : Report). IsWalked c.args.script.now (copies_in c.args.copies.now) told c.args.cpu c.args.commands.now c.rows_on-rows.result.now (length c.args.commands.now) c.walk.result) c.new-traced.ensures c.walk.ensures))

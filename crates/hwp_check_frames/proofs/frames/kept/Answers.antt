@@ -9,7 +9,7 @@ use Rattle.hwp_check_frames.proofs.frames.kept.Goals as goal
 
 pub bounds-frames-from : goal.bounds-frames-from
 bounds-frames-from c =
-    let many = as-many c.args.script.now c.args.report.now c.requires.valid c.requires.below in
+    let many = as-many c.args.script.now c.args.report.now c.requires.valid c.requires.shape in
     let low : c.loop-frame.frame < c.args.script.now.layout.frames = c.loop-frame-test.true in
     let is : c.from.result ≡ c.loop-frame.frame = c.from.ensures in
     let long : length c.as_slice-frames.result.now ≡ length c.args.report.now.frames = ap (λ (l : List FrameLine). length l) c.as_slice-frames.ensures in
@@ -17,7 +17,7 @@ bounds-frames-from c =
 
 pub overflow_add-heading-in-None : goal.overflow_add-heading-in-None
 overflow_add-heading-in-None c =
-    let many = as-many c.args.script.now c.args.report.now c.requires.valid c.requires.below in
+    let many = as-many c.args.script.now c.args.report.now c.requires.valid c.requires.shape in
     let low : c.loop-frame.frame < c.args.script.now.layout.frames = c.loop-frame-test.true in
     let here : c.loop-frame.frame < length c.args.report.now.frames = let a = many.0 in omega (arith, a, low) in
     let there = shown-at c.as_slice-frames.result.now c.args.report.now.frames c.from.result c.loop-frame.frame c.index-frames-from.result c.as_slice-frames.ensures c.from.ensures here c.index-frames-from.is in
@@ -26,13 +26,13 @@ overflow_add-heading-in-None c =
 
 pub frame_fault-requires-clause-within : goal.frame_fault-requires-clause-within
 frame_fault-requires-clause-within c =
-    let many = as-many c.args.script.now c.args.report.now c.requires.valid c.requires.below in
+    let many = as-many c.args.script.now c.args.report.now c.requires.valid c.requires.shape in
     let low : c.loop-frame.frame < c.args.script.now.layout.frames = c.loop-frame-test.true in
     let a = many.0 in omega (arith, a, low)
 
 pub frame_fault-requires-clause-room : goal.frame_fault-requires-clause-room
 frame_fault-requires-clause-room c =
-    let many = as-many c.args.script.now c.args.report.now c.requires.valid c.requires.below in
+    let many = as-many c.args.script.now c.args.report.now c.requires.valid c.requires.shape in
     let low : c.loop-frame.frame < c.args.script.now.layout.frames = c.loop-frame-test.true in
     let here : c.loop-frame.frame < length c.args.report.now.frames = let a = many.0 in omega (arith, a, low) in
     let there = shown-at c.as_slice-frames.result.now c.args.report.now.frames c.from.result c.loop-frame.frame c.index-frames-from.result c.as_slice-frames.ensures c.from.ensures here c.index-frames-from.is in
@@ -42,7 +42,7 @@ frame_fault-requires-clause-room c =
 
 pub returns-in-Some : goal.returns-in-Some
 returns-in-Some c =
-    let many = as-many c.args.script.now c.args.report.now c.requires.valid c.requires.below in
+    let many = as-many c.args.script.now c.args.report.now c.requires.valid c.requires.shape in
     let low : c.loop-frame.frame < c.args.script.now.layout.frames = c.loop-frame-test.true in
     let here : c.loop-frame.frame < length c.args.report.now.frames = let a = many.0 in omega (arith, a, low) in
     let flagged : c.loop-frame.frame < length c.args.script.now.layout.kernel = let b = many.1 in omega (arith, b, low) in
@@ -53,7 +53,7 @@ returns-in-Some c =
 
 pub overflow_add-heading-in-None-2 : goal.overflow_add-heading-in-None-2
 overflow_add-heading-in-None-2 c =
-    let many = as-many c.args.script.now c.args.report.now c.requires.valid c.requires.below in
+    let many = as-many c.args.script.now c.args.report.now c.requires.valid c.requires.shape in
     let low : c.loop-frame.frame < c.args.script.now.layout.frames = c.loop-frame-test.true in
     let here : c.loop-frame.frame < length c.args.report.now.frames = let a = many.0 in omega (arith, a, low) in
     let there = shown-at c.as_slice-frames.result.now c.args.report.now.frames c.from.result c.loop-frame.frame c.index-frames-from.result c.as_slice-frames.ensures c.from.ensures here c.index-frames-from.is in
@@ -62,7 +62,7 @@ overflow_add-heading-in-None-2 c =
 
 pub loop-frame-preserved : goal.loop-frame-preserved
 loop-frame-preserved c =
-    let many = as-many c.args.script.now c.args.report.now c.requires.valid c.requires.below in
+    let many = as-many c.args.script.now c.args.report.now c.requires.valid c.requires.shape in
     let low : c.loop-frame.frame < c.args.script.now.layout.frames = c.loop-frame-test.true in
     let here : c.loop-frame.frame < length c.args.report.now.frames = let a = many.0 in omega (arith, a, low) in
     let flagged : c.loop-frame.frame < length c.args.script.now.layout.kernel = let b = many.1 in omega (arith, b, low) in
@@ -73,6 +73,6 @@ loop-frame-preserved c =
 
 pub returns : goal.returns
 returns c =
-    let many = as-many c.args.script.now c.args.report.now c.requires.valid c.requires.below in
+    let many = as-many c.args.script.now c.args.report.now c.requires.valid c.requires.shape in
     let end : c.args.script.now.layout.frames ≤ c.loop-frame.frame = let t = c.loop-frame-test.false in omega (arith, t) in
     kept-clear c.args.script.now c.args.report.now c.loop-frame.frame c.loop-frame.heading c.loop-frame.invariant (let a = many.0 in omega (arith, a, end)) (let a = many.0 in let b = many.1 in omega (arith, a, b))

@@ -1,8 +1,9 @@
-use Rattle.std.proofs.Common.{◌≡◌, ◌≤◌, ◌++◌, drop}
-use Rattle.hwp_check_rules.specs.Pasts.{counts}
+use Rattle.std.proofs.Common.{◌≡◌, ◌≤◌, length, take}
+use Rattle.hwp_law.specs.hwp_law_commands.Settings.{settings}
+use Rattle.hwp_check_rules.specs.Pasts.{AreCounts, by_flags}
 use Rattle.hwp_check_rules.proofs.pasts.counts_of.Given as goal
 
 abbrev pub invariant-loop-number : goal.invariant-loop-number
 invariant-loop-number l =
-    (l.count ≤ l.number)
-    × (l.list ++ counts l.fn.thread l.count (drop l.number l.fn.commands) (drop l.number l.fn.done) ≡ counts l.fn.thread 0 l.fn.commands l.fn.done)
+    (l.count ≤ l.number) × AreCounts l.fn.layout l.fn.thread l.fn.commands l.fn.done l.number l.list
+    × (l.count ≡ length (settings l.fn.layout l.fn.thread (take l.number (by_flags l.fn.commands l.fn.done))))

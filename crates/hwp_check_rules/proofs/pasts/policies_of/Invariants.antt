@@ -1,6 +1,7 @@
-use Rattle.std.proofs.Common.{◌≡◌, ◌++◌, drop}
-use Rattle.hwp_check_rules.specs.Pasts.{settings_by}
+use Rattle.std.proofs.Common.{◌≡◌, take}
+use Rattle.hwp_law.specs.hwp_law_commands.Settings.{settings}
+use Rattle.hwp_check_rules.specs.Pasts.{by_flags}
 use Rattle.hwp_check_rules.proofs.pasts.policies_of.Given as goal
 
 abbrev pub invariant-loop-number : goal.invariant-loop-number
-invariant-loop-number l = l.list ++ settings_by l.fn.thread (drop l.number l.fn.commands) (drop l.number l.fn.done) ≡ settings_by l.fn.thread l.fn.commands l.fn.done
+invariant-loop-number l = l.list ≡ settings l.fn.layout l.fn.thread (take l.number (by_flags l.fn.commands l.fn.done))

@@ -6,9 +6,10 @@ use Rattle.hwp_check_state.specs.declared.sights.Sight.{Sight}
 use Rattle.hwp_check_rules.specs.Rules.{SeenFit}
 use Rattle.hwp_check_state.specs.Sights.{IsBelow, IsFirstOf, IsNotBelow, IsRight, IsSmall, IsWrong, key_of, pages_sights, sights}
 use Rattle.hwp_check_rules.specs.declared.Rule.TheVariants.{Seen}
-use Rattle.hwp_check_rules.specs.Verdicts.{IsBroken}
 use Rattle.hwp_check_state.proofs.SeenRule.{seen-is}
 use Rattle.hwp_check_state.proofs.seen.seen_fault.Goals as goal
+use Rattle.hwp_check_rules.specs.Firsts.{IsFirstFault}
+use Rattle.hwp_check_rules.specs.Faults.{IsSeenFault}
 
 pub first_below-below-requires-clause-sorted : goal.first_below-below-requires-clause-sorted
 first_below-below-requires-clause-sorted c =
@@ -23,7 +24,7 @@ pub returns : goal.returns
 returns c =
     let listed : c.add_pages.new.out.items ≡ sights c.args.report.now =
     c.in_ok-add_pages.ensures ∙ (λ i. c.new-list.ensures.items i ++ pages_sights (c.page_at.ensures i) (c.as_slice.ensures i)) in
-    subst (λ (o : Option ℕ). MatchOption o (SeenFit c.args.script.now c.args.report.now) (IsBroken Seen c.args.script.now c.args.report.now)) (sym c.soonest.ensures)
+    subst (λ (o : Option ℕ). MatchOption o (SeenFit c.args.script.now c.args.report.now) (IsFirstFault (SeenFit c.args.script.now c.args.report.now) (IsSeenFault c.args.script.now c.args.report.now))) (sym c.soonest.ensures)
     (seen-is c.args.script.now c.args.report.now c.sort_by_key.new.self.items
     (subst (λ (l : List Sight). IsPermutation l c.sort_by_key.new.self.items) listed c.in_ok-sort_by_key.ensures.permutation) c.first_wrong-wrong.result c.first_below-below.result
     (subst (λ (l : List Sight). IsFirstOf (IsRight c.args.script.now c.args.report.now) (IsWrong c.args.script.now c.args.report.now) l c.first_wrong-wrong.result) (c.as_slice-3.ensures.value ∙ listed) c.first_wrong-wrong.ensures.first)

@@ -1,0 +1,5 @@
+mod CowSteps
+mod PairLaws
+mod AnswerLaws
+mod ActedLists
+pub mod DeclaredLaws

@@ -1,0 +1,2 @@
+pub mod ActedOn
+pub mod Scripts

@@ -1,0 +1,12 @@
+//! The script that the processors of a report acted on: each command through the translations that stood for those it names; and which
+//! stores copied a page before they wrote.
+#![tactic(auto)]
+
+mod acted;
+mod acting;
+mod cows;
+mod pairs;
+
+pub use acted::{ActedScript, acted_on, copy_of, has_fork};
+pub use cows::freezes_slot;
+pub use pairs::pairs_of;

@@ -1,0 +1,17 @@
+use Rattle.std.proofs.Common.{◌≡◌, ◌≤◌, ℕ, Bool, length, map, arith}
+use Rattle.hwp_law.specs.Copies.{checks_by}
+use Rattle.hwp_check_events.specs.Copied.{own_whats, pair_of, test_of}
+use Rattle.hwp_check_events.proofs.CopyLaws.{gathered-all, gathered-next}
+use Rattle.hwp_check_events.proofs.copied.gather.Goals as goal
+
+pub loop-entry-preserved : goal.loop-entry-preserved
+loop-entry-preserved c = (
+  omega arith,
+  gathered-next c.args.who c.args.entries.now (test_of c.args.counted) c.loop-entry.entry-index c.loop-entry.before _ (map pair_of c.loop-entry.checks.items) (map pair_of c.note.new.checks.items) c.in_ok-more.more
+      (checks_by (test_of c.args.counted) 0 (own_whats c.args.who c.args.entries.now)) c.loop-entry-test.true c.loop-entry.invariant.1 c.in_ok-more.ensures.checks c.in_ok-more.ensures.counted,
+)
+
+pub returns : goal.returns
+returns c =
+    gathered-all c.args.who c.args.entries.now (test_of c.args.counted) c.loop-entry.entry-index c.loop-entry.before (map pair_of c.loop-entry.checks.items) (checks_by (test_of c.args.counted) 0 (own_whats c.args.who c.args.entries.now))
+    (let past = c.loop-entry-test.false in omega arith) c.loop-entry.invariant.1

@@ -1,0 +1,3 @@
+mod WordLaws
+mod JudgeLaws
+mod RuleLaws

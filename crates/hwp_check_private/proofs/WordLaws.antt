@@ -1,0 +1,74 @@
+-- The last of some words, one after another; and where a translation was frozen.
+use Rattle.std.proofs.Common.{◌≡◌, ℕ, zero, suc, ◌+◌, ◌-◌, ◌<◌, ◌≤◌, Bool, true, false, List, [], ◌∷◌, Option, Some, None, drop, filter_map, fold, get_or, if◌then◌else◌, length, slice_get, take, unwrap_or, refl, sym, ap, ◌∙◌, arith}
+use Rattle.std.specs.Option.{option_map_or}
+use Rattle.std.proofs.lemmas.List.{drop_more, length-drop, take_all}
+use Rattle.hwp_check_rules.specs.hwp_geom.declared.Cpu.{Cpu}
+use Rattle.hwp_check_rules.specs.hwp_geom.declared.Layout.{Layout}
+use Rattle.hwp_check_rules.specs.hwp_geom.declared.Thread.{Thread}
+use Rattle.hwp_check_rules.specs.hwp_geom.declared.TransDecl.{TransDecl}
+use Rattle.hwp_check_rules.specs.hwp_geom.declared.VSlot.{VSlot}
+use Rattle.hwp_check_rules.specs.hwp_law.Private.{freeze_from, last_word, private_word, word_at_fork, word_before, word_stored}
+use Rattle.hwp_check_rules.specs.hwp_law_commands.Cows.{cow_after, own_page}
+use Rattle.hwp_check_rules.specs.hwp_report_text.declared.Answer.{Answer}
+use Rattle.hwp_check_rules.specs.hwp_report_text.declared.Answer.TheVariants as answers
+use Rattle.hwp_check_rules.specs.hwp_report_text.declared.Report.{Report}
+use Rattle.hwp_check_rules.specs.hwp_script_read.declared.Command.{Command}
+use Rattle.hwp_check_rules.specs.hwp_script_read.declared.Command.TheVariants as commands
+use Rattle.hwp_check_private.specs.Words.{entries_through, last_before, last_stored, word_if}
+use Rattle.std.specs.List.{cons_option}
+
+pub stored_if : (slot other : VSlot) (line at_line word : ℕ) (thread : Thread) (answer : Answer) → word_stored slot line (commands.Store thread other at_line word, answer) ≡ word_if slot line other at_line word answer
+stored_if slot other line at_line word thread (answers.Stored at) = refl
+stored_if slot other line at_line word thread answer = refl
+
+pub at_fork : (layout : Layout) (report : Report) (cpu : Cpu) (fork : ℕ) (slot : VSlot) (line : ℕ) → word_at_fork layout report cpu fork slot line ≡ last_before cpu fork line (entries_through layout report slot)
+at_fork layout report cpu fork slot line = by (slice_get layout.trans slot.0)
+  where
+    by : (o : Option TransDecl) → last_word 0 (option_map_or (λ (v : TransDecl). filter_map (word_before cpu fork line) (unwrap_or (slice_get report.pages v.page.0) [])) o [])
+        ≡ last_word 0 (filter_map (word_before cpu fork line) (option_map_or (λ (v : TransDecl). unwrap_or (slice_get report.pages v.page.0) []) o []))
+    by None = refl
+    by (Some v) = refl
+
+-- one word more
+word-first : {X : Type 0} (f : X → Option ℕ) (x : X) (rest : List X) (last : ℕ) → last_word last (filter_map f (x ∷ rest)) ≡ last_word (unwrap_or (f x) last) (filter_map f rest)
+word-first f x rest last = by (f x)
+  where
+    by : (o : Option ℕ) → last_word last (cons_option o (filter_map f rest)) ≡ last_word (unwrap_or o last) (filter_map f rest)
+    by None = refl
+    by (Some word) = refl
+
+pub word_more : {X : Type 0} (f : X → Option ℕ) (xs : List X) (i : ℕ) (d : X) (first last next : ℕ) → i < length xs → next ≡ unwrap_or (f (get_or xs i d)) last
+    → last_word last (filter_map f (drop i xs)) ≡ last_word first (filter_map f xs) → last_word next (filter_map f (drop (i + 1) xs)) ≡ last_word first (filter_map f xs)
+word_more f xs i d first last next within is so_far =
+    ap (λ (n : ℕ). last_word n (filter_map f (drop (i + 1) xs))) is ∙ sym (word-first f (get_or xs i d) (drop (i + 1) xs) last) ∙ ap (λ (l : List _). last_word last (filter_map f l)) (sym (drop_more xs i d within)) ∙ so_far
+
+-- one command more, of which none before froze the translation
+freeze-next : (layout : Layout) (slot : VSlot) (pairs : List (Command × Answer)) (n : ℕ) (d : Command × Answer) (b : Bool) → n < length pairs → b ≡ (cow_after layout slot (get_or pairs n d).0 (get_or pairs n d).1 own_page).frozen
+    → freeze_from layout slot n (drop n pairs) ≡ (if b then Some n else freeze_from layout slot (n + 1) (drop (n + 1) pairs))
+freeze-next layout slot pairs n d b within is =
+    ap (freeze_from layout slot n) (drop_more pairs n d within) ∙ ap (λ (c : Bool). if c then Some n else freeze_from layout slot (n + 1) (drop (n + 1) pairs)) (sym is)
+
+pub freeze-here : (layout : Layout) (slot : VSlot) (pairs : List (Command × Answer)) (n : ℕ) (d : Command × Answer) → n < length pairs → true ≡ (cow_after layout slot (get_or pairs n d).0 (get_or pairs n d).1 own_page).frozen
+    → freeze_from layout slot n (drop n pairs) ≡ freeze_from layout slot 0 pairs → Some n ≡ freeze_from layout slot 0 pairs
+freeze-here layout slot pairs n d within is so_far = sym (freeze-next layout slot pairs n d true within is) ∙ so_far
+
+pub freeze-later : (layout : Layout) (slot : VSlot) (pairs : List (Command × Answer)) (n : ℕ) (d : Command × Answer) → n < length pairs → false ≡ (cow_after layout slot (get_or pairs n d).0 (get_or pairs n d).1 own_page).frozen
+    → freeze_from layout slot n (drop n pairs) ≡ freeze_from layout slot 0 pairs → freeze_from layout slot (n + 1) (drop (n + 1) pairs) ≡ freeze_from layout slot 0 pairs
+freeze-later layout slot pairs n d within is so_far = sym (freeze-next layout slot pairs n d false within is) ∙ so_far
+
+pub freeze-never : (layout : Layout) (slot : VSlot) (pairs : List (Command × Answer)) (n : ℕ) → length pairs ≤ n → freeze_from layout slot n (drop n pairs) ≡ freeze_from layout slot 0 pairs → None ≡ freeze_from layout slot 0 pairs
+freeze-never layout slot pairs n past so_far = ap (freeze_from layout slot n) (sym (drop-past pairs n past)) ∙ so_far
+  where
+    drop-past : {X : Type 0} (xs : List X) (k : ℕ) → length xs ≤ k → drop k xs ≡ []
+    drop-past [] zero less = refl
+    drop-past [] (suc k) less = refl
+    drop-past (x ∷ xs) zero less = absurd (omega (arith, less))
+    drop-past (x ∷ xs) (suc k) less = drop-past xs k (omega (arith, less))
+
+-- what a full copy would hold, by the words stored since
+pub private-is : (layout : Layout) (report : Report) (cpu : Cpu) (fork : ℕ) (slot : VSlot) (line first : ℕ) (earlier behind : List (Command × Answer)) → first ≡ word_at_fork layout report cpu fork slot line
+    → behind ≡ take (length earlier - (fork + 1)) (drop (fork + 1) earlier) → last_stored slot line first behind ≡ private_word layout report cpu fork slot line earlier
+private-is layout report cpu fork slot line first earlier behind first_is behind_is =
+    ap (λ (n : ℕ). last_stored slot line n behind) first_is
+    ∙ ap (last_stored slot line (word_at_fork layout report cpu fork slot line)) (behind_is ∙ take_all {A = Command × Answer} (length earlier - (fork + 1)) (drop (fork + 1) earlier)
+    (let l : length (drop (fork + 1) earlier) ≡ length earlier - (fork + 1) = length-drop (fork + 1) earlier in omega (arith, l)))
