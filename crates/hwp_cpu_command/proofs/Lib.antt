@@ -3,7 +3,6 @@ pub mod JobEnds
 pub mod JobRefusals
 pub mod JobLaws
 mod AccessBegins
-mod CopyBegins
 pub use Rattle.hwp_soft.proofs.of_hwp_claim as of_hwp_claim
 pub use Rattle.hwp_cpu_control.proofs.of_hwp_core_rule as of_hwp_core_rule
 pub use Rattle.hwp_cpu_control.proofs.of_hwp_core_task as of_hwp_core_task
