@@ -175,9 +175,6 @@ module _ (layout : Layout) (old new : View) (cpu : Cpu) (list : List Command) (r
     })
   ]
     where
-      own-request : (paused : IsPaused layout old at command c.own) → paused.instruction.request.who ≡ at
-      own-request paused = sym (ap jobs.who paused.is) ∙ runs-who layout at command copies c.own way.runs
-
       -- of a copy the entry by which the page left is one of its own
       copy-on : (paused : HasCopyPaused layout old c.own) → HasCopyPaused layout new c.own
       copy-on paused = record { copying = paused.copying; is = paused.is; pause = paused.pause; paused = paused.paused; rests = by adds.adds }

@@ -19,7 +19,6 @@ use Rattle.hwp_cpu_course.specs.hwp_cpu_row.hwp_law_commands.Notes.{is_for_pages
 use Rattle.hwp_cpu_course.specs.Dues.{DueValue, next_due}
 use Rattle.hwp_cpu.proofs.GoingOn.{Turned, ends-now, complete-off, go-on, complete-by, IsComplete}
 use Rattle.hwp_cpu.proofs.ProcessorKeeps.{way-own}
-use Rattle.hwp_cpu_course.specs.hwp_cpu_command.hwp_cpu_access.declared.Instruction.{Instruction}
 use Rattle.hwp_cpu_course.specs.hwp_cpu_row.declared.Row.{Row}
 use Rattle.hwp_cpu_course.specs.hwp_cpu_command.Jobs.{told_of}
 use Rattle.hwp_cpu_course.specs.declared.Course.{Course}
@@ -295,7 +294,7 @@ module _ (layout : Layout) (old new : View) (cpu : Cpu) (list : List Command) (r
               (complete-by layout new at list watched (at_rest d) rest-way.collected (ap (told_notes layout) (sym (take_all n (told_of k) (omega (arith, is_all)))))) comes)
 
           base-none : (o : Option VSlot) → ArePriorWith layout command o on.base → Runs layout at command o k → (y : Copying) → k ≡ kinds.Copying y → on.base ≡ []
-          base-none (Some from) prior runs y task = prior
+          base-none (Some from) prior runs y _ = prior
           base-none None prior runs y task = absurd (plain-copies layout at command k runs y task)
 
           which : HasPause k ⊎ ((is_access k ≡ false) × ((a : Answer) × (jobs.answer k ≡ Some a))) → Turned layout new cpu list rows local after (answer after)

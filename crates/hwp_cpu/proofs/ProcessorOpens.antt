@@ -205,5 +205,5 @@ module _ (layout : Layout) (cpu : Cpu) (list : List Command) (are : AreCommands 
       which : (o : Option Command) → slice_get list 0 ≡ o → (y : Option Course) → BeginsAt layout (at_number cpu 0) o at-first y → FitsAt layout view cpu list [] (left_of y at-first) y
       which (Some command) there (Some c) at = running command c there at
       which None there None at = done there
-      which (Some command) there None at = absurd at
+      which (Some _) there None at = absurd at
       which None there (Some c) at = absurd at
