@@ -81,8 +81,8 @@ copied-more layout copies report cpu list n lists c new many are there is = λ s
 ]
 
 -- where no processor copied, no command did
-pub none-copied : (layout : Layout) (report : Report) (cpu : Cpu) (list : List Command) (n : ℕ) (copies : List (List (Option VSlot))) → copies ≡ [] → AreCopied layout (copies_in copies) report cpu list n []
-none-copied layout report cpu list n copies empty = λ seq d within other.
+pub none_copied : (layout : Layout) (report : Report) (cpu : Cpu) (list : List Command) (n : ℕ) (copies : List (List (Option VSlot))) → copies ≡ [] → AreCopied layout (copies_in copies) report cpu list n []
+none_copied layout report cpu list n copies empty = λ seq d within other.
     sym (ap (λ (l : List (List (Option VSlot))). copied_by layout (copies_in l) report (record { cpu = cpu; seq = seq }) d) empty ∙ none d)
   where
     none : {who : Who} (d : Command) → copied_by layout (copies_in []) report who d ≡ []

@@ -9,7 +9,6 @@ use Rattle.hwp_check_acting.proofs.acted.acting_list.Goals as goal
 
 pub loop-number-preserved : goal.loop-number-preserved
 loop-number-preserved c =
-    subst (AreActed c.args.layout.now c.args.pairs.now c.args.commands.now (c.loop-number.number + 1)) (sym c.branch-add.ensures)
-    (next-acted c.args.layout.now c.args.pairs.now c.args.commands.now c.loop-number.number c.loop-number.list (get_or c.args.commands.now c.loop-number.number _) c.acting.result c.loop-number.invariant
+    next-acted c.args.layout.now c.args.pairs.now c.args.commands.now c.loop-number.number c.loop-number.list (get_or c.args.commands.now c.loop-number.number _) c.acting.result c.loop-number.invariant
     (slice_get-get_or c.args.commands.now c.loop-number.number _ c.loop-number-test.true)
-    (c.acting.ensures ∙ ap (λ (p : List (Command × Answer)). acting c.args.layout.now p (get_or c.args.commands.now c.loop-number.number _)) c.before.ensures))
+    (c.acting.ensures ∙ ap (λ (p : List (Command × Answer)). acting c.args.layout.now p (get_or c.args.commands.now c.loop-number.number _)) c.before-in-loop-number.ensures)
