@@ -1,6 +1,5 @@
 use Rattle.std.proofs.Common.{refl}
 use Rattle.hwp_check_acting.proofs.ActedLists.{copies-are, script-is}
-use Rattle.hwp_check_acting.proofs.DeclaredLaws.{acted-declared}
 use Rattle.hwp_check_acting.proofs.acted.acted_on.Goals as goal
 
 pub returns-clause-script : goal.returns-clause-script
