@@ -80,6 +80,9 @@ copied-more layout copies report cpu list n lists c new many are there is = λ s
       ∙ ap (copied_by layout copies report (record { cpu = cpu; seq = seq })) (same_Some c d (sym there ∙ ap (slice_get list) (sym same) ∙ other))
 ]
 
+pub none_yet : (layout : Layout) (copies : Who → Option VSlot) (report : Report) (cpu : Cpu) (list : List Command) (lists : List (List ℕ)) → lists ≡ [] → (length lists ≡ 0) × AreCopied layout copies report cpu list 0 lists
+none_yet layout copies report cpu list lists none = (ap (λ (l : List (List ℕ)). length l) none, λ seq d within other. absurd (omega (arith, within)))
+
 -- where no processor copied, no command did
 pub none_copied : (layout : Layout) (report : Report) (cpu : Cpu) (list : List Command) (n : ℕ) (copies : List (List (Option VSlot))) → copies ≡ [] → AreCopied layout (copies_in copies) report cpu list n []
 none_copied layout report cpu list n copies empty = λ seq d within other.

@@ -188,6 +188,7 @@ fn copied_by(
 }
 
 /// The same for each command of a processor.
+#[tactic(auto, using(crate::proofs::CopyLaws::none_yet))]
 fn copied_each(
     alloc: Global,
     layout: &Layout,
