@@ -20,6 +20,9 @@ unforked-whole script report valid none = record {
   declared = valid-declared script valid;
 }
 
+pub valid_is_declared : (script : Script) → IsValid script → IsDeclared script
+valid_is_declared script valid = valid-declared script valid
+
 pub acted-whole : (script : Script) (report : Report) → IsValid script → (acted : Script) (copies : List (List (Option VSlot))) → acted ≡ acting_script script report → (told : List (List (Option VSlot))) → copies ≡ told
     → copies_in told ≡ copied_at script report → IsActedOn script report acted copies
 acted-whole script report valid acted copies acted_is told same copies_are = record {

@@ -1,4 +1,4 @@
-ghost use Rattle.std.specs.Prelude.{◌≡◌, ◌<◌, ◌≤◌, ◌^◌, ◌++◌, ◌∷◌, [], false, IfOk, OnOk, get_or, length, map};
+ghost use Rattle.std.specs.Prelude.{◌≡◌, ◌<◌, ◌≤◌, ◌^◌, ◌++◌, ◌∷◌, [], cond, false, IfOk, OnOk, get_or, length, map};
 ghost use Rattle.hwp_law.specs.Copies.{checks_by, copy_checks, lines_at};
 ghost use Rattle.hwp_law.specs.Lines.{is_same_command};
 ghost use Rattle.hwp_check_acting.specs.ActedOn.{copies_in};
@@ -71,8 +71,8 @@ fn note(
     before: u64,
     entry: &Entry,
 ) -> Result<bool, OutOfMemory>
-    ensures checks { OnOk result (map pair_of checks.new.items ≡ map pair_of checks.old.items ++ (if is_same_command who entry.now.who then checks_in before entry.now.what else [])) }
-    ensures counted { IfOk result (λ is. is ≡ (if is_same_command who entry.now.who then is_counted (test_of counted) entry.now.what else false)) }
+    ensures checks { OnOk result (map pair_of checks.new.items ≡ map pair_of checks.old.items ++ cond (is_same_command who entry.now.who) (checks_in before entry.now.what) []) }
+    ensures counted { IfOk result (λ is. is ≡ cond (is_same_command who entry.now.who) (is_counted (test_of counted) entry.now.what) false) }
 {
     if is_same_command(who, entry.who) {
         note_own(checks, counted, before, &entry.what)
