@@ -1,5 +1,5 @@
 -- What a report is judged by: the script itself where it forks no process, or else what its processors acted on.
-use Rattle.std.proofs.Common.{◌≡◌, false, List, [], Option, None, ap, subst, sym, ◌∙◌}
+use Rattle.std.proofs.Common.{◌≡◌, false, List, [], Option, ap, subst, sym, ◌∙◌}
 use Rattle.std.proofs.Math.Path.{fun_ext}
 use Rattle.hwp_check_rules.specs.hwp_geom.declared.VSlot.{VSlot}
 use Rattle.hwp_check_rules.specs.hwp_law.Acting.{acting_script, copied_at}

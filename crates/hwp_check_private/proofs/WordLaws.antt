@@ -1,5 +1,5 @@
 -- The last of some words, one after another; and where a translation was frozen.
-use Rattle.std.proofs.Common.{◌≡◌, ℕ, zero, suc, ◌+◌, ◌-◌, ◌<◌, ◌≤◌, Bool, true, false, List, [], ◌∷◌, Option, Some, None, drop, filter_map, fold, get_or, if◌then◌else◌, length, slice_get, take, unwrap_or, option_and_then, option_map, refl, sym, ap, ◌∙◌, arith}
+use Rattle.std.proofs.Common.{◌≡◌, ℕ, zero, suc, ◌+◌, ◌-◌, ◌<◌, ◌≤◌, Bool, true, false, List, [], ◌∷◌, Option, Some, None, drop, filter_map, get_or, if◌then◌else◌, length, slice_get, take, unwrap_or, option_and_then, option_map, refl, sym, ap, ◌∙◌, arith}
 use Rattle.std.specs.Option.{option_map_or}
 use Rattle.std.proofs.lemmas.List.{drop_all, drop_more, length-drop, take_all}
 use Rattle.hwp_check_rules.specs.hwp_geom.declared.Cpu.{Cpu}

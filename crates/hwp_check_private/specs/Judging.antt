@@ -1,5 +1,5 @@
 -- Which lines of a processor answer a load through a frozen translation by another word than that of a full copy.
-use Rattle.std.specs.Prelude.{◌≡◌, ◌≢◌, ℕ, ◌<◌, List, Option, Some, None, length, option_and_then, option_map, slice_get, take}
+use Rattle.std.specs.Prelude.{◌≡◌, ◌≢◌, ℕ, ◌<◌, List, Option, Some, length, option_and_then, option_map, slice_get, take}
 use Rattle.hwp_check_rules.specs.hwp_geom.declared.Cpu.{Cpu}
 use Rattle.hwp_check_rules.specs.hwp_geom.declared.Layout.{Layout}
 use Rattle.hwp_check_rules.specs.hwp_geom.declared.VSlot.{VSlot}

@@ -1,5 +1,4 @@
-use Rattle.std.proofs.Common.{◌≡◌, ◌≤◌, ◌+◌, ◌++◌, ℕ, List, length, map, ap, sym, ◌∙◌, arith}
-use Rattle.std.specs.List.{flat_map, range_with_len}
+use Rattle.std.proofs.Common.{◌≡◌, ◌≤◌, ◌+◌, ◌++◌, ℕ, List, length, map, ap, ◌∙◌, arith}
 use Rattle.hwp_law.specs.Copies.{checks_by, is_load, is_store, lines_at}
 use Rattle.hwp_check_events.specs.declared.copied.CopyCheck.{CopyCheck}
 use Rattle.hwp_check_events.specs.Copied.{entries_through, own_whats, pair_of}
