@@ -106,7 +106,10 @@ own-through layout report who slot = by (slice_get layout.trans slot.0)
 
 range-more : (a n : ℕ) → range_with_len a (n + 1) ≡ range_with_len a n ++ (a + n) ∷ []
 range-more a zero = let same : a ≡ a + 0 = omega arith in ap (λ (k : ℕ). k ∷ []) same
-range-more a (suc n) = let same : a + 1 + n ≡ a + suc n = omega arith in ap (λ (l : List ℕ). a ∷ l) (range-more (a + 1) n) ∙ ap (λ (k : ℕ). a ∷ range_with_len (a + 1) n ++ k ∷ []) same
+range-more a (suc n) =
+    let next : suc n + 1 ≡ suc (n + 1) = omega arith in
+    let same : a + 1 + n ≡ a + suc n = omega arith in
+    ap (range_with_len a) next ∙ ap (λ (l : List ℕ). a ∷ l) (range-more (a + 1) n) ∙ ap (λ (k : ℕ). a ∷ range_with_len (a + 1) n ++ k ∷ []) same
 
 module _ (f g : ℕ → List ℕ) where
   abbrev both : ℕ → List ℕ

@@ -128,7 +128,8 @@ fn sets(
 ) -> u64
     requires each { length done.now ≡ length commands.now }
     requires within { number < length commands.now }
-    ensures { result ≡ from_bool (is_some (set_if layout.now thread commands.now done.now number)) }
+    ensures sets { result ≡ from_bool (is_some (set_if layout.now thread commands.now done.now number)) }
+    ensures few { result ≤ 1 }
 {
     u64::from(set_if(layout, commands, done, number, thread).is_some())
 }
