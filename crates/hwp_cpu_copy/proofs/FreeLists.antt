@@ -1,5 +1,5 @@
--- The freeing of a translation lists no failure, marks no frame and owes no count.
-use Rattle.std.proofs.Common.{◌≡◌, ℕ, zero, suc, Bool, true, false, cond, List, [], ◌∷◌, Option, Some, None, filter, filter_map, refl, sym, ap, ◌∙◌, subst}
+-- The freeing of a translation lists its own entry alone, so no failure; it marks no frame and owes no count.
+use Rattle.std.proofs.Common.{◌≡◌, ℕ, Bool, true, false, cond, List, [], ◌∷◌, Option, Some, None, filter, filter_map, refl, sym, ap, ◌∙◌, subst}
 use Rattle.std.specs.List.{cons_option}
 use Rattle.std.proofs.lemmas.Bool.{both_ways}
 use Rattle.std.proofs.lemmas.Option.{none-some, same_Some}
@@ -8,7 +8,6 @@ use Rattle.hwp_fault.specs.hwp_geom.declared.Layout.{Layout}
 use Rattle.hwp_fault.specs.hwp_geom.declared.Page.{Page}
 use Rattle.hwp_fault.specs.hwp_geom.declared.Who.{Who}
 use Rattle.hwp_fault.specs.hwp_page.declared.At.{At}
-use Rattle.hwp_fault.specs.hwp_page.declared.Entry.{Entry}
 use Rattle.hwp_fault.specs.hwp_page.declared.What.{What}
 use Rattle.hwp_fault.specs.hwp_page.declared.What.TheVariants as entries
 use Rattle.hwp_fault.specs.hwp_page.History.{BodyValue}
@@ -17,9 +16,6 @@ use Rattle.hwp_fault.specs.hwp_core_rule.declared.SharedWord.TheVariants as plac
 use Rattle.hwp_fault.specs.hwp_core_rule.declared.Step.{Step}
 use Rattle.hwp_fault.specs.hwp_core_rule.declared.Step.TheVariants as steps
 use Rattle.hwp_fault.specs.hwp_core_rule.declared.View.{View}
-use Rattle.hwp_fault.specs.hwp_core_rule.Lists.{EachMember}
-use Rattle.hwp_fault.specs.hwp_core_rule.Logs.{log_of}
-use Rattle.hwp_fault.specs.hwp_core_rule.Views.{more_of}
 use Rattle.hwp_fault.specs.hwp_core_task.Calls.{Steps, logs}
 use Rattle.hwp_fault.specs.hwp_core_task.Known.{deeds, is_failure, such_deeds}
 use Rattle.hwp_fault.specs.hwp_words.declared.Pte.TheVariants as ptes
@@ -39,7 +35,6 @@ use Rattle.hwp_fault.specs.hwp_core.Unholds as unholds
 use Rattle.hwp_fault.specs.hwp_core.Unlocks as unlocks
 use Rattle.hwp_fault.proofs.of_hwp_core.TaskCosts.{hold-lists, release-lists}
 use Rattle.hwp_evict.specs.declared.evict.Evict.{Evict}
-use Rattle.hwp_evict.specs.declared.evict.EvictAnswer.{EvictAnswer}
 use Rattle.hwp_evict.specs.declared.evict.EvictAnswer.TheVariants as answers
 use Rattle.hwp_evict.specs.declared.evict.EvictAt.{EvictAt}
 use Rattle.hwp_evict.specs.declared.evict.EvictAt.TheVariants as at
@@ -49,7 +44,7 @@ use Rattle.hwp_evict.specs.declared.vacate.Vacate.{Vacate}
 use Rattle.hwp_evict.specs.declared.vacate.VacateAt.{VacateAt}
 use Rattle.hwp_evict.specs.declared.vacate.VacateAt.TheVariants as vacate_at
 use Rattle.hwp_evict.specs.Evictions.{entry_of}
-use Rattle.hwp_evict.specs.Evicts.{Comes, FitsAt, FitsFrom, IsAhead, IsVacating, KnowsPut, plan, plan_at, put, put_at}
+use Rattle.hwp_evict.specs.Evicts.{FitsAt, FitsFrom, IsVacating, plan, plan_at, put, put_at}
 use Rattle.hwp_evict.specs.Vacates as vacates
 use Rattle.hwp_evict.proofs.ClearLaws.{clear-lists}
 use Rattle.hwp_cpu_check.specs.hwp_claim_act.declared.Failed.{Failed}
@@ -83,6 +78,75 @@ evict-quiet (at.Over answer) = tt
 pub evict-alike : {layout : Layout} {old new : View} {step : Step} {found : ℕ} {got : Option BodyValue} (e : Evict) → plan e ≡ Some step → Steps layout e.who step (logs (put e)) old new found got → Alike old new
 evict-alike e is made = leaves made (subst PlansQuiet is (evict-quiet e.at))
 
+-- ---- entries that a test finds
+
+-- the freeing lists none that the test finds, where it doesn't find its own
+module _ (test : What → Bool) {layout : Layout} {old new : View} {step : Step} {found : ℕ} {got : Option BodyValue} where
+  unlisted : (who : Who) → ListsNone step → Steps layout who step None old new found got → such_deeds test who new ≡ such_deeds test who old
+  unlisted who none made = ap (filter (λ (m : Made). test m.entry.what)) (deeds-same who none made)
+
+  unhold-lists-none : (u : Unhold) → unholds.plan u ≡ Some step → Steps layout u.who step (logs (unholds.put u)) old new found got → PutsNone test old (unholds.put u) → such_deeds test u.who new ≡ such_deeds test u.who old
+  unhold-lists-none u is made puts = which u.at is made puts
+    where
+      which : (x : UnholdAt) → unholds.plan_at u.page x ≡ Some step → Steps layout u.who step (logs (unholds.put_at x)) old new found got → PutsNone test old (unholds.put_at x) → such_deeds test u.who new ≡ such_deeds test u.who old
+      which (unhold_at.UnlockFrame frame count None) e made puts = unlisted u.who (subst ListsNone (same_Some (steps.UnlockFrame frame) step e) tt) made
+      which (unhold_at.UnlockFrame frame count (Some body)) e made puts = such-kept u.who test (frame-lists puts.there (steps-planned e made)) puts.none
+      which (unhold_at.Release r) e made puts = unlisted u.who (release-lists r step e) made
+      which (unhold_at.UnlockPage None) e made puts = unlisted u.who (subst ListsNone (same_Some (steps.UnlockPage u.page) step e) tt) made
+      which (unhold_at.UnlockPage (Some body)) e made puts = such-kept u.who test (page-lists puts.there (steps-planned e made)) puts.none
+      which unhold_at.Over e made puts = absurd (none-some step e)
+
+  unlock-lists-none : (u : Unlock) → unlocks.plan u ≡ Some step → Steps layout u.who step (logs (unlocks.put u)) old new found got → PutsNone test old (unlocks.put u) → such_deeds test u.who new ≡ such_deeds test u.who old
+  unlock-lists-none u is made puts = which u.at is made puts
+    where
+      which : (x : UnlockAt) → unlocks.plan_at x ≡ Some step → Steps layout u.who step (logs (unlocks.put_at x)) old new found got → PutsNone test old (unlocks.put_at x) → such_deeds test u.who new ≡ such_deeds test u.who old
+      which (unlock_at.UnlockFrame frame None) e made puts = unlisted u.who (subst ListsNone (same_Some (steps.UnlockFrame frame) step e) tt) made
+      which (unlock_at.UnlockFrame frame (Some body)) e made puts = such-kept u.who test (frame-lists puts.there (steps-planned e made)) puts.none
+      which (unlock_at.Release r) e made puts = unlisted u.who (release-lists r step e) made
+      which unlock_at.Over e made puts = absurd (none-some step e)
+
+  give-up-lists-none : (g : GiveUp) → give_ups.FitsAt layout old g.who g.at → give_ups.plan g ≡ Some step → Steps layout g.who step (logs (give_ups.put g)) old new found got → PutsNone test old (give_ups.put g) → such_deeds test g.who new ≡ such_deeds test g.who old
+  give-up-lists-none g fits is made puts = which g.at fits is made puts
+    where
+      which : (x : GiveUpAt) → give_ups.FitsAt layout old g.who x → give_ups.plan_at x ≡ Some step → Steps layout g.who step (logs (give_ups.put_at x)) old new found got → PutsNone test old (give_ups.put_at x) → such_deeds test g.who new ≡ such_deeds test g.who old
+      which (give_up_at.Unhold u) has e made puts = subst (λ (w : Who). such_deeds test w new ≡ such_deeds test w old) has.own (unhold-lists-none u e (subst (λ (w : Who). Steps layout w step (logs (unholds.put u)) old new found got) (sym has.own) made) puts)
+      which (give_up_at.Unlock u) has e made puts = subst (λ (w : Who). such_deeds test w new ≡ such_deeds test w old) has.own (unlock-lists-none u e (subst (λ (w : Who). Steps layout w step (logs (unlocks.put u)) old new found got) (sym has.own) made) puts)
+      which give_up_at.GiveUp has e made puts = unlisted g.who (subst ListsNone (same_Some steps.GiveUp step e) tt) made
+      which give_up_at.Over has e made puts = absurd (none-some step e)
+
+  vacate-lists-none : {base : List Made} {page : Page} {what : Eviction} {done : At} (v : Vacate) → test (entry_of what) ≡ false → IsVacating base layout old v.who page what v done → vacates.plan v ≡ Some step → Steps layout v.who step (logs (vacates.put v)) old new found got → such_deeds test v.who new ≡ such_deeds test v.who old
+  vacate-lists-none {base} {page} {what} {done} v other has is made = which v.at is made
+    where
+      home : HomeWithout test old has.body
+      home = ahead-home test what other (answers.Done done) has.ahead
+
+      which : (x : VacateAt) → vacates.plan_at v.page v.frame x ≡ Some step → Steps layout v.who step (logs (vacates.put_at v.body x)) old new found got → such_deeds test v.who new ≡ such_deeds test v.who old
+      which vacate_at.SetCache e made = unlisted v.who (subst ListsNone (same_Some (steps.SetCache v.page None) step e) tt) made
+      which vacate_at.SetOwner e made = unlisted v.who (subst ListsNone (same_Some (steps.SetOwner v.frame v.page false) step e) tt) made
+      which vacate_at.UnlockFrame e made = unlisted v.who (subst ListsNone (same_Some (steps.UnlockFrame v.frame) step e) tt) made
+      which (vacate_at.Release r) e made = unlisted v.who (release-lists r step e) made
+      which vacate_at.UnlockPage e made = such-kept v.who test
+          (page-lists home.there (steps-planned e (subst (λ (b : Option BodyValue). Steps layout v.who step (logs b) old new found got) has.body_is made))) home.none
+      which vacate_at.Over e made = absurd (none-some step e)
+
+  pub evict-lists-none : {base : List Made} (e : Evict) → test (entry_of e.what) ≡ false → FitsFrom base layout old e → plan e ≡ Some step → Steps layout e.who step (logs (put e)) old new found got → such_deeds test e.who new ≡ such_deeds test e.who old
+  evict-lists-none {base} e other fits is made = which e.at fits.at is made
+    where
+      which : (x : EvictAt) → FitsAt base layout old e.who e.page e.what x → plan_at x ≡ Some step → Steps layout e.who step (logs (put_at x)) old new found got → such_deeds test e.who new ≡ such_deeds test e.who old
+      which at.LoadStop has own made = unlisted e.who (subst ListsNone (same_Some (steps.Load places.Stop) step own) tt) made
+      which (at.Hold h) has own made = unlisted e.who (hold-lists h step own) made
+      which (at.LoadBad frame body) has own made = unlisted e.who (subst ListsNone (same_Some (steps.Load (places.Bad frame)) step own) tt) made
+      which (at.SetPte slot frame body done) has own made = unlisted e.who (subst ListsNone (same_Some (steps.SetPte slot ptes.Empty) step own) tt) made
+      which (at.Clear c body done) has own made = unlisted e.who (clear-lists c step own) made
+      which (at.Vacate v done) has own made = subst (λ (w : Who). such_deeds test w new ≡ such_deeds test w old) has.own
+          (vacate-lists-none v other (subst (λ (w : Who). IsVacating base layout old w e.page e.what v done) (sym has.own) has) own (subst (λ (w : Who). Steps layout w step (logs (vacates.put v)) old new found got) (sym has.own) made))
+      which (at.Unhold u answer) has own made = subst (λ (w : Who). such_deeds test w new ≡ such_deeds test w old) has.own
+          (unhold-lists-none u own (subst (λ (w : Who). Steps layout w step (logs (unholds.put u)) old new found got) (sym has.own) made)
+          (known-home test e.what other base layout old e.who e.page answer (unholds.put u) has.knows))
+      which (at.GiveUp g) has own made = subst (λ (w : Who). such_deeds test w new ≡ such_deeds test w old) has.own
+          (give-up-lists-none g has.give_up.at own (subst (λ (w : Who). Steps layout w step (logs (give_ups.put g)) old new found got) (sym has.own) made) (given-up-home test old (give_ups.put g) has.puts))
+      which (at.Over answer) has own made = absurd (none-some step own)
+
 -- ---- failures among entries
 
 none-failed : (page : Page) (place : ℕ) (what : What) → is_failure what ≡ false → failed_of page place what ≡ None
@@ -109,68 +173,5 @@ no-failure evictions.Out = refl
 listed : (old new : View) (who : Who) → such_deeds is_failure who new ≡ such_deeds is_failure who old → failures_by who new ≡ failures_by who old
 listed old new who same = failures-such (deeds who new) ∙ ap (filter_map failed_in) same ∙ sym (failures-such (deeds who old))
 
-module _ {layout : Layout} {old new : View} {step : Step} {found : ℕ} {got : Option BodyValue} where
-  unlisted : (who : Who) → ListsNone step → Steps layout who step None old new found got → failures_by who new ≡ failures_by who old
-  unlisted who none made = ap (filter_map failed_in) (deeds-same who none made)
-
-  unhold-fails : (u : Unhold) → unholds.plan u ≡ Some step → Steps layout u.who step (logs (unholds.put u)) old new found got → PutsNone is_failure old (unholds.put u) → failures_by u.who new ≡ failures_by u.who old
-  unhold-fails u is made puts = which u.at is made puts
-    where
-      which : (x : UnholdAt) → unholds.plan_at u.page x ≡ Some step → Steps layout u.who step (logs (unholds.put_at x)) old new found got → PutsNone is_failure old (unholds.put_at x) → failures_by u.who new ≡ failures_by u.who old
-      which (unhold_at.UnlockFrame frame count None) e made puts = unlisted u.who (subst ListsNone (same_Some (steps.UnlockFrame frame) step e) tt) made
-      which (unhold_at.UnlockFrame frame count (Some body)) e made puts = listed old new u.who (such-kept u.who is_failure (frame-lists puts.there (steps-planned e made)) puts.none)
-      which (unhold_at.Release r) e made puts = unlisted u.who (release-lists r step e) made
-      which (unhold_at.UnlockPage None) e made puts = unlisted u.who (subst ListsNone (same_Some (steps.UnlockPage u.page) step e) tt) made
-      which (unhold_at.UnlockPage (Some body)) e made puts = listed old new u.who (such-kept u.who is_failure (page-lists puts.there (steps-planned e made)) puts.none)
-      which unhold_at.Over e made puts = absurd (none-some step e)
-
-  unlock-fails : (u : Unlock) → unlocks.plan u ≡ Some step → Steps layout u.who step (logs (unlocks.put u)) old new found got → PutsNone is_failure old (unlocks.put u) → failures_by u.who new ≡ failures_by u.who old
-  unlock-fails u is made puts = which u.at is made puts
-    where
-      which : (x : UnlockAt) → unlocks.plan_at x ≡ Some step → Steps layout u.who step (logs (unlocks.put_at x)) old new found got → PutsNone is_failure old (unlocks.put_at x) → failures_by u.who new ≡ failures_by u.who old
-      which (unlock_at.UnlockFrame frame None) e made puts = unlisted u.who (subst ListsNone (same_Some (steps.UnlockFrame frame) step e) tt) made
-      which (unlock_at.UnlockFrame frame (Some body)) e made puts = listed old new u.who (such-kept u.who is_failure (frame-lists puts.there (steps-planned e made)) puts.none)
-      which (unlock_at.Release r) e made puts = unlisted u.who (release-lists r step e) made
-      which unlock_at.Over e made puts = absurd (none-some step e)
-
-  give-up-fails : (g : GiveUp) → give_ups.FitsAt layout old g.who g.at → give_ups.plan g ≡ Some step → Steps layout g.who step (logs (give_ups.put g)) old new found got → PutsNone is_failure old (give_ups.put g) → failures_by g.who new ≡ failures_by g.who old
-  give-up-fails g fits is made puts = which g.at fits is made puts
-    where
-      which : (x : GiveUpAt) → give_ups.FitsAt layout old g.who x → give_ups.plan_at x ≡ Some step → Steps layout g.who step (logs (give_ups.put_at x)) old new found got → PutsNone is_failure old (give_ups.put_at x) → failures_by g.who new ≡ failures_by g.who old
-      which (give_up_at.Unhold u) has e made puts = subst (λ (w : Who). failures_by w new ≡ failures_by w old) has.own (unhold-fails u e (subst (λ (w : Who). Steps layout w step (logs (unholds.put u)) old new found got) (sym has.own) made) puts)
-      which (give_up_at.Unlock u) has e made puts = subst (λ (w : Who). failures_by w new ≡ failures_by w old) has.own (unlock-fails u e (subst (λ (w : Who). Steps layout w step (logs (unlocks.put u)) old new found got) (sym has.own) made) puts)
-      which give_up_at.GiveUp has e made puts = unlisted g.who (subst ListsNone (same_Some steps.GiveUp step e) tt) made
-      which give_up_at.Over has e made puts = absurd (none-some step e)
-
-  vacate-fails : {base : List Made} {page : Page} {what : Eviction} {done : At} (v : Vacate) → IsVacating base layout old v.who page what v done → vacates.plan v ≡ Some step → Steps layout v.who step (logs (vacates.put v)) old new found got → failures_by v.who new ≡ failures_by v.who old
-  vacate-fails {base} {page} {what} {done} v has is made = which v.at is made
-    where
-      home : HomeWithout is_failure old has.body
-      home = ahead-home is_failure what (no-failure what) (answers.Done done) has.ahead
-
-      which : (x : VacateAt) → vacates.plan_at v.page v.frame x ≡ Some step → Steps layout v.who step (logs (vacates.put_at v.body x)) old new found got → failures_by v.who new ≡ failures_by v.who old
-      which vacate_at.SetCache e made = unlisted v.who (subst ListsNone (same_Some (steps.SetCache v.page None) step e) tt) made
-      which vacate_at.SetOwner e made = unlisted v.who (subst ListsNone (same_Some (steps.SetOwner v.frame v.page false) step e) tt) made
-      which vacate_at.UnlockFrame e made = unlisted v.who (subst ListsNone (same_Some (steps.UnlockFrame v.frame) step e) tt) made
-      which (vacate_at.Release r) e made = unlisted v.who (release-lists r step e) made
-      which vacate_at.UnlockPage e made = listed old new v.who (such-kept v.who is_failure
-          (page-lists home.there (steps-planned e (subst (λ (b : Option BodyValue). Steps layout v.who step (logs b) old new found got) has.body_is made))) home.none)
-      which vacate_at.Over e made = absurd (none-some step e)
-
-  pub evict-fails : {base : List Made} (e : Evict) → FitsFrom base layout old e → plan e ≡ Some step → Steps layout e.who step (logs (put e)) old new found got → failures_by e.who new ≡ failures_by e.who old
-  evict-fails {base} e fits is made = which e.at fits.at is made
-    where
-      which : (x : EvictAt) → FitsAt base layout old e.who e.page e.what x → plan_at x ≡ Some step → Steps layout e.who step (logs (put_at x)) old new found got → failures_by e.who new ≡ failures_by e.who old
-      which at.LoadStop has own made = unlisted e.who (subst ListsNone (same_Some (steps.Load places.Stop) step own) tt) made
-      which (at.Hold h) has own made = unlisted e.who (hold-lists h step own) made
-      which (at.LoadBad frame body) has own made = unlisted e.who (subst ListsNone (same_Some (steps.Load (places.Bad frame)) step own) tt) made
-      which (at.SetPte slot frame body done) has own made = unlisted e.who (subst ListsNone (same_Some (steps.SetPte slot ptes.Empty) step own) tt) made
-      which (at.Clear c body done) has own made = unlisted e.who (clear-lists c step own) made
-      which (at.Vacate v done) has own made = subst (λ (w : Who). failures_by w new ≡ failures_by w old) has.own
-          (vacate-fails v (subst (λ (w : Who). IsVacating base layout old w e.page e.what v done) (sym has.own) has) own (subst (λ (w : Who). Steps layout w step (logs (vacates.put v)) old new found got) (sym has.own) made))
-      which (at.Unhold u answer) has own made = subst (λ (w : Who). failures_by w new ≡ failures_by w old) has.own
-          (unhold-fails u own (subst (λ (w : Who). Steps layout w step (logs (unholds.put u)) old new found got) (sym has.own) made)
-          (known-home is_failure e.what (no-failure e.what) base layout old e.who e.page answer (unholds.put u) has.knows))
-      which (at.GiveUp g) has own made = subst (λ (w : Who). failures_by w new ≡ failures_by w old) has.own
-          (give-up-fails g has.give_up.at own (subst (λ (w : Who). Steps layout w step (logs (give_ups.put g)) old new found got) (sym has.own) made) (given-up-home is_failure old (give_ups.put g) has.puts))
-      which (at.Over answer) has own made = absurd (none-some step own)
+pub evict-fails : {base : List Made} {layout : Layout} {old new : View} {step : Step} {found : ℕ} {got : Option BodyValue} (e : Evict) → FitsFrom base layout old e → plan e ≡ Some step → Steps layout e.who step (logs (put e)) old new found got → failures_by e.who new ≡ failures_by e.who old
+evict-fails {old = old} {new} e fits is made = listed old new e.who (evict-lists-none is_failure e (no-failure e.what) fits is made)

@@ -9,6 +9,7 @@ pub mod CopyLaws
 pub mod CopyRank
 pub mod CopyResting
 pub mod CopyAdds
+pub mod CopyLists
 pub mod CopiedWords
 pub mod CopyEnds
 pub use Rattle.hwp_fork.proofs as of_hwp_fork

@@ -422,7 +422,7 @@ module _ {layout : Layout} {seat : ℕ} {a b : State} {c d : Course} {turn : Tur
       where
         which : (g : Bool) → gives_up c.own ≡ g → jobs.cost k wb + failure_weight * failures_left wb < jobs.cost c.own wa + failure_weight * failures_left wa
             → (failures_left wb ≤ failures_left wa) ⊎ (cost d wb + failure_weight * failures_left wb < cost_of c None wa + failure_weight * failures_left wa)
-        which true gives paid = inl (failures-kept (own-made x) (gives-lasting c.own made.step gives x.planned))
+        which true gives paid = inl (failures-kept (own-made x) (gives-lasting c.own (own-made x).step gives (own-made x).planned))
         which false goes paid = inr (let is = before goes in let same = flat-is in let most = most-of own-ways in omega (arith, is, same, most, paid))
 
   -- ---- of a frame that is taken out of use

@@ -125,7 +125,7 @@ copy-since {base} {layout} {old} {new} c k step found got turn fits planned made
         few : length (drop noted next.instruction.lines.told) ≤ bank_count
         few = access-since c.instruction next.instruction step found got turn has.instruction planned (subst (λ (w : Who). Steps layout w step (logs (instructions.put c.instruction)) old new found got) (sym who-is) made) next.follows
             noted (λ goes. passed (ap (gives_up_copy c.instruction.at) own ∙ goes)) (sym (ap (λ (x : Copying). is_some (copyings.pause x)) same) ∙ pauses)
-    by (copying_at.Free e stored) own has planned made next = unpaused _ next.next_is (of-free _ next.evict stored (evicts.answer next.evict))
+    by (copying_at.Free e stored) own has planned made next = unpaused (copyings.after_free_by (copyings.bare_at c (copying_at.Free e stored)) next.evict stored (evicts.answer next.evict)) next.next_is (of-free (copyings.bare_at c (copying_at.Free e stored)) next.evict stored (evicts.answer next.evict))
     by (copying_at.Over answer) own has planned made next = absurd (none-some step planned)
 
 -- ---- any command

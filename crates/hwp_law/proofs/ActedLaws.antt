@@ -56,7 +56,7 @@ lists-at layout cpus n (list ∷ lists) (suc k) =
     let same : (n + 1) + k ≡ n + suc k = omega arith in
     lists-at layout cpus (n + 1) lists k ∙ ap (λ (i : ℕ). option_map (acted layout cpus i) (slice_get lists k)) same
 
-list-at : (script : Script) (report : Report) (k : ℕ) → slice_get (acting_script script report).lists k ≡ option_map (acted script.layout report.cpus k) (slice_get script.lists k)
+pub list-at : (script : Script) (report : Report) (k : ℕ) → slice_get (acting_script script report).lists k ≡ option_map (acted script.layout report.cpus k) (slice_get script.lists k)
 list-at script report k =
     let same : 0 + k ≡ k = omega arith in
     lists-at script.layout report.cpus 0 script.lists k ∙ ap (λ (i : ℕ). option_map (acted script.layout report.cpus i) (slice_get script.lists k)) same

@@ -1,2 +1,4 @@
 pub mod CopyCaused
 pub mod LossesActed
+pub mod Apart
+pub mod CopyWords

@@ -1,14 +1,13 @@
-mod Words
-mod Contents
-mod AnswerLines
-mod Freezes
-mod Shares
-mod MadeStores
-mod GivenAnswers
-mod PageWords
-mod Forked
-mod OwnPage
-mod TwinPage
-mod Keeps
-mod WordExamples
+pub mod AnswerLines
+pub mod Contents
+pub mod Words
+pub mod Freezes
+pub mod Shares
+pub mod Forked
+pub mod GivenAnswers
+pub mod MadeStores
+pub mod PageWords
+pub mod OwnPage
+pub mod TwinPage
+pub mod Keeps
 pub mod Private

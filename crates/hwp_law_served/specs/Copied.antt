@@ -131,6 +131,15 @@ abbrev pub AreChecksOf : Layout → View → Option Request → Banks → List C
 AreChecksOf layout view None banks checks = checks ≡ []
 AreChecksOf layout view (Some access) banks checks = AreChecks layout view access origins.Access modes.User banks checks
 
+-- these entries stand behind the accesses that went well: the first of them are on the way of the access that comes, if one does, and the
+-- machine checks among all are among those
+pub record IsLeft (comes : Option Request) (rest : List Made) : Type 0 where
+  pub way : List Made
+  pub behind : List Made
+  pub rest_is : rest ≡ way ++ behind
+  pub such : (a : Request) → comes ≡ Some a → EachMember (IsBetween a) way
+  pub unchecked : checks_in behind ≡ 0
+
 -- the machine checks of the accesses that went well, and behind them those of the one that comes
 pub record IsCopyTold (layout : Layout) (view : View) (who : Who) (thread : Thread) (from to : VSlot) (line word : ℕ) (before : Banks) (told : List EventOutcome) (after : Banks) : Type 0 where
   pub page : Page
@@ -138,6 +147,7 @@ pub record IsCopyTold (layout : Layout) (view : View) (who : Who) (thread : Thre
   pub has : HasCopied layout view (store_by who thread to line word page process) from word before
   pub last : List Check
   pub are : AreChecksOf layout view (request_by (store_by who thread to line word page process) has.page (sub_next (store_by who thread to line word page process) from word has.runs)) (left_by before (checks_by has.runs)) last
+  pub left : IsLeft (request_by (store_by who thread to line word page process) has.page (sub_next (store_by who thread to line word page process) from word has.runs)) has.rest
   pub counted : checks_in has.rest ≡ length last
   pub told_is : told ≡ lines_of (checks_by has.runs ++ last)
   pub after_is : after ≡ left_by before (checks_by has.runs ++ last)

@@ -35,7 +35,7 @@ use Rattle.hwp_cpu_row.specs.declared.Row.{Row}
 use Rattle.hwp_cpu_row.specs.hwp_cpu_check.declared.EventOutcome.{EventOutcome}
 use Rattle.hwp_cpu_row.specs.hwp_cpu_check.Told.{frame_of}
 use Rattle.hwp_law_served.specs.Rows.{Note, lines_from, notes_from, record_of}
-use Rattle.hwp_law_served.specs.Served.{IsServed}
+use Rattle.hwp_law_served.specs.Served.{HasServed, IsServed}
 
 -- the processors have served their commands: the rows of each are those of its list, by what its seat knows, and its lines in the
 -- report are those of its rows
@@ -43,6 +43,12 @@ abbrev pub AreServed : Script → (Who → Option VSlot) → (Cpu → ℕ) → S
 AreServed script copies seat last rows cpus =
     (cpu : Cpu) (list : List Command) (own : List Row) → slice_get script.lists cpu.0 ≡ Some list → slice_get rows cpu.0 ≡ Some own
     → IsServed script.layout copies (view_of last (seat cpu)) cpu list own × (slice_get cpus cpu.0 ≡ Some (lines_from 0 own))
+
+-- the same of the lists of a script, of each command as its processor acted on it
+abbrev pub HaveServed : Script → (Cpu → ℕ) → State → List (List Row) → List (List CpuLine) → Type 0
+HaveServed script seat last rows cpus =
+    (cpu : Cpu) (list : List Command) (own : List Row) → slice_get script.lists cpu.0 ≡ Some list → slice_get rows cpu.0 ≡ Some own
+    → HasServed script.layout (view_of last (seat cpu)) cpu list own × (slice_get cpus cpu.0 ≡ Some (lines_from 0 own))
 
 -- what the processors noted, from number n on
 abbrev pub notes_of : ℕ → List (List Row) → List (List Note)

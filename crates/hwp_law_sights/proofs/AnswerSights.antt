@@ -3,6 +3,7 @@ use Rattle.std.proofs.Common.{◌≡◌, ◌⊎◌, ℕ, ◌+◌, ◌<◌, Bool,
 use Rattle.std.proofs.lemmas.Option.{none-some, same_Some}
 use Rattle.hwp_law_served.specs.hwp_geom.declared.VSlot.{VSlot}
 use Rattle.hwp_law_served.specs.hwp_geom.declared.Cpu.{Cpu}
+use Rattle.hwp_law_served.specs.hwp_geom.declared.Frame.{Frame}
 use Rattle.hwp_law_served.specs.hwp_geom.declared.Layout.{Layout}
 use Rattle.hwp_law_served.specs.hwp_geom.declared.Proc.{Proc}
 use Rattle.hwp_law_served.specs.hwp_geom.declared.Thread.{Thread}

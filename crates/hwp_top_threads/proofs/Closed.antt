@@ -18,6 +18,7 @@ use Rattle.hwp_top_turns.specs.hwp_script_read.Valid.{IsValid}
 use Rattle.hwp_top_turns.specs.hwp_report_text.declared.Report.{Report}
 use Rattle.hwp_top_turns.proofs.of_hwp_law_run.Homes.{there-is}
 use Rattle.hwp_top_turns.specs.hwp_cpu_row.declared.Row.{Row}
+use Rattle.hwp_top_turns.specs.hwp_law.Acting.{acting_script, copied_at}
 use Rattle.hwp_top_turns.specs.hwp_law_served.Runs.{IsRunOf}
 use Rattle.hwp_top_turns.proofs.of_hwp_law_sights.AnswerSights.{report-shown, scrubs-shown}
 use Rattle.hwp_top_turns.specs.hwp_cpu.declared.Processor.{Processor}
@@ -129,7 +130,7 @@ module _ (script : Script) (ended : EndValue) (rows : List (List Row)) (valid : 
     closing : IsClosing script.layout last script.lists rows report
     closing = is.closing at
 
-    run : IsRunOf script own_seat turns last report
+    run : IsRunOf (acting_script script report) (copied_at script report) own_seat turns last report
     run = run-of script turns last rows valid ended-run report closing
 
     of-end : IsThreadRun script report ended
@@ -145,8 +146,8 @@ module _ (script : Script) (ended : EndValue) (rows : List (List Row)) (valid : 
       nothing = last-bare script turns last rows valid ended-run;
       settled = ended-run.settled;
       ends = closing.ends;
-      shown = report-shown script own_seat turns last report run;
-      scrubs = scrubs-shown script own_seat turns last report run;
+      shown = report-shown (acting_script script report) (copied_at script report) own_seat turns last report run;
+      scrubs = scrubs-shown (acting_script script report) (copied_at script report) own_seat turns last report run;
     }
 
     pub thread-run : IsThreadRun script report now

@@ -18,10 +18,11 @@ use Rattle.hwp_top_turns.specs.hwp_plain_order.Order.{logged}
 use Rattle.hwp_top_turns.specs.hwp_report_text.declared.Report.{Report}
 use Rattle.hwp_top_turns.specs.hwp_law_run.Ends.{EndsWith}
 use Rattle.hwp_top_turns.specs.hwp_law_run.Scrubs.{ScrubsShown}
+use Rattle.hwp_top_turns.specs.hwp_law.Acting.{acting_script, copied_at}
 use Rattle.hwp_top_turns.specs.hwp_law_run.Shown.{IsShown}
 use Rattle.hwp_top_turns.specs.hwp_law_run.Turns.{Leads}
 use Rattle.hwp_top_turns.specs.hwp_cpu_row.declared.Row.{Row}
-use Rattle.hwp_top_turns.specs.hwp_law_served.Runs.{AreRecords, AreServed, notes_of}
+use Rattle.hwp_top_turns.specs.hwp_law_served.Runs.{AreRecords, HaveServed, notes_of}
 use Rattle.hwp_top_turns.specs.hwp_cpu.declared.Processor.{Processor}
 use Rattle.hwp_top_turns.specs.hwp_cpu.Serving.{Fits}
 use Rattle.hwp_threads_seats.specs.hwp_table_words.Ends.{EndValue, HasAll, board_of}
@@ -89,7 +90,7 @@ last_of ended played = board_of ended.words ended.slots played.views
 -- are their turns, in an order in which they can be made one after the other; the frame rule holds before and after each. On that
 -- board all commands are served by the rows of which the report's lines are, nothing is held, and no failure is open. The report
 -- says what that board has, each frame's record has the lines that the rows note of that frame, and each answer and each event of a
--- scrub rests on what its own command was shown.
+-- scrub rests on what its own command was shown, the one that its processor acted on.
 pub record IsThreadRun (script : Script) (report : Report) (ended : EndValue) : Type 0 where
   pub rows : List (List Row)
   pub played : IsThreadPlayed script ended rows
@@ -97,10 +98,10 @@ pub record IsThreadRun (script : Script) (report : Report) (ended : EndValue) : 
   pub made : moves_in turns ≡ played.done.moves
   pub rule : Holds script.layout (opening script.layout)
   pub leads : Leads script.layout (opening script.layout) turns (last_of ended played)
-  pub served : AreServed script own_seat (last_of ended played) rows report.cpus
+  pub served : HaveServed script own_seat (last_of ended played) rows report.cpus
   pub records : AreRecords (notes_of 0 rows) report
   pub nothing : EachMember HoldsNothing (last_of ended played).views
   pub settled : (frame : Frame) (cycle : ℕ) → Pending (words_at script.layout (last_of ended played)) frame cycle → ⊥
   pub ends : EndsWith script.layout (last_of ended played) report
-  pub shown : IsShown script report turns
-  pub scrubs : ScrubsShown script report turns
+  pub shown : IsShown (acting_script script report) (copied_at script report) report turns
+  pub scrubs : ScrubsShown (acting_script script report) report turns

@@ -8,6 +8,7 @@ use Rattle.std.proofs.lemmas.Option.{get_or_from_slice_get, same_Some, slice_get
 use Rattle.hwp_table_words.specs.hwp_geom.declared.Cpu.{Cpu}
 use Rattle.hwp_table_words.specs.hwp_geom.declared.Layout.{Layout}
 use Rattle.hwp_table_words.specs.hwp_geom.declared.Thread.{Thread}
+use Rattle.hwp_table_words.specs.hwp_geom.declared.VSlot.{VSlot}
 use Rattle.hwp_table_words.specs.hwp_geom.declared.Who.{Who}
 use Rattle.hwp_table_words.specs.hwp_geom.Pairs.{Pairs}
 use Rattle.hwp_table_words.specs.hwp_geom.Limits.{command_limit, cpu_limit, frame_limit}
@@ -32,12 +33,14 @@ use Rattle.hwp_top_report.specs.hwp_cpu_check.Fits.{IsDone, IsTold}
 use Rattle.hwp_top_report.specs.hwp_cpu_check.Told.{at_once, failure_at_once, frame_of, required_by, severity_at_once}
 use Rattle.hwp_top_report.specs.hwp_law_served.Accounts.{IsNote}
 use Rattle.hwp_top_report.specs.hwp_law_served.Rows.{Note, notes_from}
-use Rattle.hwp_top_report.specs.hwp_law_served.Runs.{AreServed, notes_of}
-use Rattle.hwp_top_report.specs.hwp_law_served.Served.{IsOwnStop, IsServed}
+use Rattle.hwp_top_report.specs.hwp_law_served.Runs.{HaveServed, notes_of}
+use Rattle.hwp_top_report.specs.hwp_law_served.Served.{HasServed, IsOwnStop, IsServed}
 use Rattle.hwp_top_report.proofs.of_hwp_law_served.RunEnds.{nothing-held, row-at, seat-view}
 use Rattle.hwp_top_report.proofs.of_hwp_law_served.lines.ScrubBank.{empty-free}
 use Rattle.hwp_top_report.proofs.of_hwp_law_served.lines.FrameRecords.{AreNoted}
-use Rattle.hwp_top_report.proofs.of_hwp_law_served.RowTold.{told-so}
+use Rattle.hwp_top_report.proofs.of_hwp_law_served.copied.Acted.{acted}
+use Rattle.hwp_top_report.proofs.of_hwp_law_served.copied.CopyTells.{told-so}
+use Rattle.hwp_top_report.proofs.of_hwp_law_served.copied.RunActed.{copies_by, served-alone}
 use Rattle.hwp_law_holds.proofs.of_hwp_law_records.marks.RowNotes.{notes-at, notes-fit}
 use Rattle.hwp_top_report.specs.Closing.{IsEnded, IsHalter, IsNamed, IsTellable, lines_of_all}
 use Rattle.hwp_top_report.proofs.Noted.{are-marks}
@@ -90,10 +93,10 @@ record Serves (script : Script) (view : View) (rows : List (List Row)) (cpu : Cp
   list_is : slice_get script.lists cpu.0 ≡ Some list
   own : List Row
   own_is : slice_get rows cpu.0 ≡ Some own
-  served : IsServed script.layout view cpu list own
+  served : HasServed script.layout view cpu list own
 
 module _ (script : Script) (seat : Cpu → ℕ) (last : State) (rows : List (List Row)) (holds : Holds script.layout last) (seated : AreSeated script.layout last seat) (valid : IsValid script)
-    (many : length rows ≡ script.layout.cpus) (served : AreServed script seat last rows (lines_of_all rows)) where
+    (many : length rows ≡ script.layout.cpus) (served : HaveServed script seat last rows (lines_of_all rows)) where
   serves : (cpu : Cpu) → cpu.0 < script.layout.cpus → Serves script (view_of last (seat cpu)) rows cpu
   serves cpu inside =
       let list = there-is script.lists cpu.0 (subst (λ (n : ℕ). cpu.0 < n) (sym valid.one_each) inside) in
@@ -140,14 +143,21 @@ module _ (script : Script) (seat : Cpu → ℕ) (last : State) (rows : List (Lis
       list : (l : List Command) × (slice_get script.lists c ≡ Some l)
       list = there-is script.lists c inside
 
-      by : IsServed script.layout (view_of last (seat cpu)) cpu list.0 own
-      by = (served cpu list.0 own list.1 there).0
+      -- of the commands that the processor acted on
+      does : List Command
+      does = acted script.layout list.0 own
+
+      copies : Who → Option VSlot
+      copies = copies_by script.layout list.0 own
+
+      by : IsServed script.layout copies (view_of last (seat cpu)) cpu does own
+      by = served-alone script.layout (view_of last (seat cpu)) cpu list.0 own (served cpu list.0 own list.1 there).0
 
       few : length own ≤ command_limit
       few =
           let most : length (get_or script.lists c list.0) ≤ command_limit = omega (arith, get_or-le-sum_by length script.lists c list.0 inside, valid.few) in
           let is : length (get_or script.lists c list.0) ≡ length list.0 = ap length (get_or_from_slice_get script.lists c list.0 list.0 list.1) in
-          let count : length own ≡ length list.0 = by.count in
+          let count : length own ≡ length list.0 = (served cpu list.0 own list.1 there).0.count in
           omega (arith, most, is, count)
 
       small : script.layout.frames ≤ 2 ^ 16
@@ -155,11 +165,11 @@ module _ (script : Script) (seat : Cpu → ℕ) (last : State) (rows : List (Lis
 
       named : (k : ℕ) (row : Row) → slice_get own k ≡ Some row → (j : ℕ) (t : EventOutcome) → slice_get row.told j ≡ Some t → IsNamed t
       named k row at j t told =
-          let within : k < length list.0 = let less : k < length own = slice_get_within own k row at in let count : length own ≡ length list.0 = by.count in omega (arith, less, count) in
-          let command = there-is list.0 k within in
-          let has = row-at script.layout [] (view_of last (seat cpu)) cpu 0 empty_banks list.0 own by.banks k k command.0 by.rows_are by.count command.1 (omega arith) empty-free in
+          let within : k < length does = let less : k < length own = slice_get_within own k row at in let count : length own ≡ length does = by.count in omega (arith, less, count) in
+          let command = there-is does k within in
+          let has = row-at script.layout copies [] (view_of last (seat cpu)) cpu 0 empty_banks does own by.banks k k command.0 by.rows_are by.count command.1 (omega arith) empty-free in
           let same : has.row ≡ row = same_Some has.row row (sym has.row_is ∙ at) in
-          let right = told-so script.layout (view_of last (seat cpu)) (record { cpu = cpu; seq = k }) command.0 has.row.answer has.before has.row.told has.after has.served.told j t (ap (λ (r : Row). slice_get r.told j) same ∙ told) in
+          let right = told-so script.layout (view_of last (seat cpu)) (record { cpu = cpu; seq = k }) (copies (record { cpu = cpu; seq = k })) command.0 has.row.answer has.before has.row.told has.after has.served.told j t (ap (λ (r : Row). slice_get r.told j) same ∙ told) in
           told-named script.layout small (view_of last (seat cpu)) (record { cpu = cpu; seq = k }) _ right.0 t right.1
 
   pub ended-of : IsEnded script.layout script.lists last.views rows

@@ -22,7 +22,7 @@ use Rattle.hwp_plain.proofs.of_hwp_plain_order.CrewOpens.{opening-crew}
 use Rattle.hwp_top_report.proofs.of_hwp_law_run.Homes.{there-is}
 use Rattle.hwp_top_report.proofs.of_hwp_law_run.RunKeeps.{kept-ordered}
 use Rattle.hwp_top_report.specs.hwp_cpu_row.declared.Row.{Row}
-use Rattle.hwp_top_report.specs.hwp_law_served.Runs.{AreServed}
+use Rattle.hwp_top_report.specs.hwp_law_served.Runs.{HaveServed}
 use Rattle.hwp_top_report.specs.hwp_cpu.declared.Processor.{Processor}
 use Rattle.hwp_top_report.specs.hwp_cpu.Processors.{AreCommands, AtBeginning}
 use Rattle.hwp_top_report.specs.hwp_cpu.Serving.{Fits}
@@ -109,7 +109,7 @@ module _ (script : Script) (tasks : List Processor) (valid : IsValid script) (be
   -- when all turns are made, each has served its commands
   pub all-served : (turns : List Played) (last : Running Processor) → InOrder processors script.go (running script.layout own_seat tasks (opening script.layout)) turns last
       → Holds script.layout last.state → AreSeated script.layout last.state own_seat
-      → IsCrew processors (running script.layout own_seat last.tasks last.state) → (rows : List (List Row)) → AreFinished last.tasks rows → AreServed script own_seat last.state rows (lines_of_all rows)
+      → IsCrew processors (running script.layout own_seat last.tasks last.state) → (rows : List (List Row)) → AreFinished last.tasks rows → HaveServed script own_seat last.state rows (lines_of_all rows)
   all-served turns last order holds seated crew rows finished = served-kept script valid last.state last.tasks holds seated each rows finished
     where
       turn-keeps : (layout : Layout) (seat : ℕ) (a b : State) (cpu : ℕ) (p q : Processor) (turn : Turn) → Made processors layout seat a b p q turn → Keeps script cpu p → Keeps script cpu q

@@ -16,8 +16,8 @@ use Rattle.hwp_plain.specs.hwp_plain_order.Order.{cpu_of}
 use Rattle.hwp_top_report.proofs.of_hwp_law_run.Homes.{there-is}
 use Rattle.hwp_top_report.specs.hwp_cpu_row.declared.Row.{Row}
 use Rattle.hwp_top_report.specs.hwp_law_served.Rows.{lines_from}
-use Rattle.hwp_top_report.specs.hwp_law_served.Runs.{AreServed}
-use Rattle.hwp_top_report.specs.hwp_law_served.Served.{IsServed}
+use Rattle.hwp_top_report.specs.hwp_law_served.Runs.{HaveServed}
+use Rattle.hwp_top_report.specs.hwp_law_served.Served.{HasServed}
 use Rattle.hwp_top_report.specs.hwp_cpu.declared.Processor.{Processor}
 use Rattle.hwp_top_report.specs.hwp_cpu.Processors.{Next, bare}
 use Rattle.hwp_top_report.specs.hwp_cpu.Serving.{Fits}
@@ -58,16 +58,16 @@ finished-over (q ∷ qs) (r ∷ rs) zero p are at = subst (λ (x : Processor). x
 finished-over (q ∷ qs) (r ∷ rs) (suc i) p are at = finished-over qs rs i p are.1 at
 
 pub served-kept : (script : Script) → IsValid script → (state : State) (ps : List Processor) → Holds script.layout state → AreSeated script.layout state own_seat
-    → ((cpu : ℕ) (p : Processor) → slice_get ps cpu ≡ Some p → Keeps script cpu p × Fits script.layout (view_of state cpu) p) → (rows : List (List Row)) → AreFinished ps rows → AreServed script own_seat state rows (lines_of_all rows)
+    → ((cpu : ℕ) (p : Processor) → slice_get ps cpu ≡ Some p → Keeps script cpu p × Fits script.layout (view_of state cpu) p) → (rows : List (List Row)) → AreFinished ps rows → HaveServed script own_seat state rows (lines_of_all rows)
 served-kept script valid state ps holds seated kept rows finished cpu list own list_is own_is =
     let pair = paired ps rows cpu.0 own finished own_is in
     let p = pair.0 in
     let both = kept cpu.0 p pair.1 in
     let inside : p.cpu.0 < script.layout.cpus = subst (λ (c : Cpu). c.0 < script.layout.cpus) (sym both.0.cpu_is) (subst (λ (n : ℕ). cpu.0 < n) valid.one_each (slice_get_within script.lists cpu.0 list list_is)) in
     let fits : Fits script.layout (view_of state p.cpu.0) p = subst (λ (c : Cpu). Fits script.layout (view_of state c.0) p) (sym both.0.cpu_is) both.1 in
-    let served : IsServed script.layout (view_of state p.cpu.0) p.cpu p.commands p.rows.items = served-of script.layout state own_seat holds seated p inside fits pair.2.1 in (
-      subst (λ (c : Cpu). IsServed script.layout (view_of state c.0) c list own) both.0.cpu_is
-          (subst (λ (l : List Command). IsServed script.layout (view_of state p.cpu.0) p.cpu l own) (same_Some p.commands list (sym both.0.listed ∙ list_is))
-          (subst (IsServed script.layout (view_of state p.cpu.0) p.cpu p.commands) (sym pair.2.0) served)),
+    let served : HasServed script.layout (view_of state p.cpu.0) p.cpu p.commands p.rows.items = served-of script.layout state own_seat holds seated p inside fits pair.2.1 in (
+      subst (λ (c : Cpu). HasServed script.layout (view_of state c.0) c list own) both.0.cpu_is
+          (subst (λ (l : List Command). HasServed script.layout (view_of state p.cpu.0) p.cpu l own) (same_Some p.commands list (sym both.0.listed ∙ list_is))
+          (subst (HasServed script.layout (view_of state p.cpu.0) p.cpu p.commands) (sym pair.2.0) served)),
       at_map (lines_from 0) rows cpu.0 own own_is,
     )

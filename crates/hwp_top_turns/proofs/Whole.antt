@@ -6,6 +6,7 @@ use Rattle.hwp_plain.specs.hwp_script_read.Valid.{IsValid}
 use Rattle.hwp_top_report.specs.hwp_report_text.declared.CpuLine.{CpuLine}
 use Rattle.hwp_top_report.specs.hwp_report_text.declared.Stop.{Stop}
 use Rattle.hwp_top_report.specs.hwp_report_text.declared.Report.{Report}
+use Rattle.hwp_top_report.specs.hwp_law.Acting.{acting_script, copied_at}
 use Rattle.hwp_top_report.specs.hwp_law.Law.{IsLawful}
 use Rattle.hwp_top_report.specs.hwp_law.Runs.{IsOfRun}
 use Rattle.hwp_table_words.specs.hwp_core_rule.declared.State.{State}
@@ -16,10 +17,12 @@ use Rattle.hwp_top_report.specs.hwp_law_run.Ends.{EndsWith}
 use Rattle.hwp_top_report.specs.hwp_law_run.Turns.{Leads}
 use Rattle.hwp_top_report.specs.hwp_cpu_row.declared.Row.{Row}
 use Rattle.hwp_top_report.specs.hwp_law_served.Rows.{lines_from}
-use Rattle.hwp_top_report.specs.hwp_law_served.Runs.{AreRecords, AreServed, HasStopCause, IsRunOf, notes_of}
+use Rattle.hwp_top_report.specs.hwp_law_served.Runs.{AreRecords, HasStopCause, HaveServed, IsRunOf, notes_of}
 use Rattle.hwp_top_report.proofs.of_hwp_law_served.lines.FrameRecords.{gathered}
-use Rattle.hwp_top_report.proofs.of_hwp_law_served.LastBoard.{report-of-run}
+use Rattle.hwp_top_report.proofs.of_hwp_law_served.LastBoard.{stops-first, were-out}
+use Rattle.hwp_top_report.proofs.of_hwp_law_served.copied.RunActed.{acting-long, run-served, run-stops}
 use Rattle.hwp_law_holds.proofs.Lawful.{law-holds}
+use Rattle.hwp_law_holds.proofs.copied.Apart.{run-apart}
 use Rattle.hwp_law_holds.proofs.of_hwp_law_sights.AnswerSights.{report-shown, scrubs-shown}
 use Rattle.hwp_table_words.specs.Ends.{EndValue}
 use Rattle.hwp_top_report.specs.Closing.{IsClosing}
@@ -32,8 +35,8 @@ module _ (script : Script) (turns : List Played) (state : State) (rows : List (L
   caused : (stop : Stop) → report.stop ≡ Some stop → HasStopCause script rows stop
   caused stop is = let by = closing.cause stop is in record { command = by.command; row = by.row; command_is = by.command_is; row_is = by.row_is; cause = by.cause }
 
-  pub lines-served : AreServed script own_seat state rows report.cpus
-  lines-served = subst (AreServed script own_seat state rows) (sym closing.lines) ended.served
+  pub lines-served : HaveServed script own_seat state rows report.cpus
+  lines-served = subst (HaveServed script own_seat state rows) (sym closing.lines) ended.served
 
   -- each frame's record has what the processors noted of that frame
   pub records-noted : AreRecords (notes_of 0 rows) report
@@ -41,37 +44,42 @@ module _ (script : Script) (turns : List Played) (state : State) (rows : List (L
       let on = closing.ends.frames frame line there in
       gathered script.layout own_seat state (last-holds script turns state rows valid ended) ended.seated (notes_of 0 rows) (last-noted script turns state rows valid ended) frame on.word on.there line.marks (closing.marks frame line there)
 
-  pub run-of : IsRunOf script own_seat turns state report
+  -- it is a run of what the processors acted on
+  pub run-of : IsRunOf (acting_script script report) (copied_at script report) own_seat turns state report
   run-of = record {
     rule = ended.rule;
     moves = ended.moves;
     seated = ended.seated;
     settled = ended.settled;
     rows = rows;
-    served = lines-served;
+    served = run-served script report own_seat state rows lines-served;
+    apart = run-apart script report valid;
     records = records-noted;
     ends = closing.ends;
     lengths = record {
       version = closing.version;
-      lists = valid.one_each;
+      lists = acting-long script report ∙ valid.one_each;
       cpus = ap (λ (c : List (List CpuLine)). length c) closing.lines ∙ length-map rows (lines_from 0) ∙ ended.count;
       rows_fit = ended.count;
       frames = closing.frames;
       pages = closing.pages;
     };
-    cause = caused;
+    cause = λ stop is. run-stops script report rows stop (caused stop is);
   }
 
   pub run-of-run : IsOfRun script report
-  run-of-run = report-of-run script own_seat turns state report run-of
+  run-of-run = record {
+    stops_first = stops-first (acting_script script report) (copied_at script report) own_seat turns state report run-of;
+    were_out = were-out (acting_script script report) (copied_at script report) own_seat turns state report run-of;
+  }
 
   pub run-lawful : IsLawful script report
-  run-lawful = law-holds script own_seat turns state report run-of
+  run-lawful = law-holds script valid own_seat turns state report run-of
 
 -- and of one whose tasks made their turns in the script's order
 module _ (script : Script) (log : List Played) (state : State) (rows : List (List Row)) (valid : IsValid script) (played : IsPlayed script log state rows)
     (report : Report) (closing : IsClosing script.layout state script.lists rows report) where
-  of-run : IsRunOf script own_seat played.turns state report
+  of-run : IsRunOf (acting_script script report) (copied_at script report) own_seat played.turns state report
   of-run = run-of script played.turns state rows valid played.ended report closing
 
   run-core : IsCoreRun script report
@@ -86,12 +94,12 @@ module _ (script : Script) (log : List Played) (state : State) (rows : List (Lis
       moves = subst (λ (s : State). Leads script.layout (opening script.layout) played.turns s) (sym played.state_is) played.ended.moves;
       order = played.order;
       ends = subst (λ (s : State). EndsWith script.layout s report) (sym played.state_is) of-run.ends;
-      shown = report-shown script own_seat played.turns state report of-run;
-      scrubs = scrubs-shown script own_seat played.turns state report of-run;
+      shown = report-shown (acting_script script report) (copied_at script report) own_seat played.turns state report of-run;
+      scrubs = scrubs-shown (acting_script script report) (copied_at script report) own_seat played.turns state report of-run;
     };
     rows = rows;
     finished = played.finished;
-    served = subst (λ (s : State). AreServed script own_seat s rows report.cpus) (sym played.state_is) (lines-served script played.turns state rows valid played.ended report closing);
+    served = subst (λ (s : State). HaveServed script own_seat s rows report.cpus) (sym played.state_is) (lines-served script played.turns state rows valid played.ended report closing);
     records = records-noted script played.turns state rows valid played.ended report closing;
   }
 

@@ -23,7 +23,7 @@ use Rattle.hwp_top_report.specs.hwp_law.Runs.{IsOfRun}
 use Rattle.hwp_top_report.specs.hwp_law_run.Run.{CoreRun}
 use Rattle.hwp_top_report.specs.hwp_law_run.Turns.{Leads}
 use Rattle.hwp_top_report.specs.hwp_cpu_row.declared.Row.{Row}
-use Rattle.hwp_top_report.specs.hwp_law_served.Runs.{AreRecords, AreServed, notes_of}
+use Rattle.hwp_top_report.specs.hwp_law_served.Runs.{AreRecords, HaveServed, notes_of}
 use Rattle.hwp_top_report.specs.hwp_cpu.declared.Processor.{Processor}
 use Rattle.hwp_top_report.specs.hwp_cpu.Processors.{AtBeginning}
 use Rattle.hwp_top_report.specs.hwp_cpu.Serving as serving
@@ -53,7 +53,7 @@ pub record HasEnded (script : Script) (turns : List Played) (state : State) (row
   pub moves : Leads script.layout (opening script.layout) turns state
   pub seated : AreSeated script.layout state own_seat
   pub settled : (frame : Frame) (cycle : ℕ) → Pending (words_at script.layout state) frame cycle → ⊥
-  pub served : AreServed script own_seat state rows (lines_of_all rows)
+  pub served : HaveServed script own_seat state rows (lines_of_all rows)
   pub count : length rows ≡ script.layout.cpus
 
 -- a board of the script at opening, on which no turn was made
@@ -86,7 +86,7 @@ pub record IsCoreRun (script : Script) (report : Report) : Type 0 where
   pub run : CoreRun processors tasks own_seat script report
   pub rows : List (List Row)
   pub finished : AreFinished run.last.tasks rows
-  pub served : AreServed script own_seat run.last.state rows report.cpus
+  pub served : HaveServed script own_seat run.last.state rows report.cpus
   pub records : AreRecords (notes_of 0 rows) report
 
 -- the report is of the run whose turns are those of this log, and lawful

@@ -65,6 +65,7 @@ use Rattle.hwp_cpu_command.specs.Runs.{anew, collects_now}
 use Rattle.hwp_cpu_command.proofs.JobEnds.{mapped}
 use Rattle.hwp_cpu_command.proofs.OfKind.{of-copying}
 use Rattle.hwp_law_served.specs.Copied.{AreChecksOf, HasCopied, IsBehind, IsCopyCaused, IsCopyEnded, IsCopyTold, IsGoing, sub_next}
+use Rattle.hwp_law_served.proofs.copied.CopyLeft.{left-of}
 use Rattle.hwp_cpu_causes.specs.Beside.{DoesSo}
 
 -- ---- the access that ended it, or the freeing
@@ -120,7 +121,7 @@ module _ (layout : Layout) (view : View) (c : Copying) (runs : List Run) (has : 
     between : (made : List Made) → EachMember (Precedes a.page a.slot a.line) made → EachMember (IsBetween a) (end.since ++ made)
     between made such = each-append (IsBetween a) end.since made end.such (each-weaken (Precedes a.page a.slot a.line) (IsBetween a) made (λ m is. inl is) such)
 
-    behind : (made : List Made) → EachMember (Precedes a.page a.slot a.line) made → IsBehind c.store c.page sub (end.since ++ made)
+    abbrev behind : (made : List Made) → EachMember (Precedes a.page a.slot a.line) made → IsBehind c.store c.page sub (end.since ++ made)
     behind made such = record { access = a; access_is = end.request_is; such = between made such }
 
     all-of : (made : List Made) → deeds a.who view ≡ base ++ made → deeds c.store.who view ≡ made_by runs ++ (end.since ++ made)
@@ -245,7 +246,7 @@ module _ (layout : Layout) (view : View) (c : Copying) (runs : List Run) (has : 
   next-as : sub ≡ sub_next c.store c.cow.v c.cow.x runs
   next-as = ap cows.sub_of (has.cow_is ∙ ap (λ (w : Cow). cows.told_all w (words_of runs)) begun-as)
 
-  copied-so : (rest : List Made) → deeds c.store.who view ≡ made_by runs ++ rest → HasCopied layout view c.store c.cow.v c.cow.x c.instruction.before.value
+  abbrev copied-so : (rest : List Made) → deeds c.store.who view ≡ made_by runs ++ rest → HasCopied layout view c.store c.cow.v c.cow.x c.instruction.before.value
   copied-so rest all = record {
     names = has.names;
     page = c.page;
@@ -356,6 +357,7 @@ module _ {layout : Layout} {view : View} {who : Who} {thread : Thread} {slot : V
     has = all.has;
     last = all.last;
     are = all.are;
+    left = left-of asked all.has.page (sub_next asked from word all.has.runs) layout view all.has.runs all.has.rest (told_of j) a all.ended;
     counted = all.counted;
     told_is = all.told_is;
     after_is = all.after_is;

@@ -1,8 +1,8 @@
 -- Why a fork is answered so, and which policies it has set: each thread of the child got the policy of the thread that forked.
-use Rattle.std.proofs.Common.{◌≡◌, ◌≢◌, ℕ, zero, suc, nat_lt, Bool, cond, List, [], ◌∷◌, ◌++◌, Option, Some, None, map, slice_get, take, append-nil, refl, sym, ap, ◌∙◌, subst, inl}
+use Rattle.std.proofs.Common.{◌≡◌, ◌≢◌, ℕ, zero, suc, ◌<◌, Bool, cond, List, [], ◌∷◌, ◌++◌, Option, Some, None, map, slice_get, take, append-nil, refl, sym, ap, ◌∙◌, subst, inl, arith}
 use Rattle.std.specs.List.{cons_option}
 use Rattle.std.specs.Option.{option_map}
-use Rattle.std.proofs.lemmas.Bool.{ne_eqb}
+use Rattle.std.proofs.lemmas.Bool.{lt-ltb, ne_eqb}
 use Rattle.hwp_law_served.specs.hwp_geom.declared.Layout.{Layout}
 use Rattle.hwp_law_served.specs.hwp_geom.declared.Proc.{Proc}
 use Rattle.hwp_law_served.specs.hwp_geom.declared.Thread.{Thread}
@@ -93,12 +93,12 @@ fork-caused {layout} earlier {view} told did {who} {thread} {child} {j} {a} k =
 -- ---- the policies that it has set
 
 -- none of them is of another thread
-given-apart : (thread : Thread) (policy : Policy) (count : ℕ) (l : List Thread) → ((n : ℕ) (t : Thread) → cond (nat_lt n count) (slice_get l n) None ≡ Some t → t.0 ≢ thread.0) → of_thread thread (map (λ (t : Thread). (t, policy)) (take count l)) ≡ []
+given-apart : (thread : Thread) (policy : Policy) (count : ℕ) (l : List Thread) → ((n : ℕ) (t : Thread) → n < count → slice_get l n ≡ Some t → t.0 ≢ thread.0) → of_thread thread (map (λ (t : Thread). (t, policy)) (take count l)) ≡ []
 given-apart thread policy zero l apart = refl
 given-apart thread policy (suc count) [] apart = refl
 given-apart thread policy (suc count) (t ∷ ts) apart =
-    ap (λ (b : Bool). cons_option (cond b (Some policy) None) (of_thread thread (map (λ (x : Thread). (x, policy)) (take count ts)))) (ne_eqb t.0 thread.0 (apart 0 t refl))
-    ∙ given-apart thread policy count ts (λ n x there. apart (suc n) x there)
+    ap (λ (b : Bool). cons_option (cond b (Some policy) None) (of_thread thread (map (λ (x : Thread). (x, policy)) (take count ts)))) (ne_eqb t.0 thread.0 (apart 0 t (omega arith) refl))
+    ∙ given-apart thread policy count ts (λ n x less there. apart (suc n) x (omega (arith, less)) there)
 
 module _ {layout : Layout} (earlier : List (Command × Answer)) {view : View} (f : Fork) (fits : forks.Fits layout view f) (counted : AreCounted (λ (t : Thread). settings layout t earlier) view (jobs.Fork f)) where
   -- the policy that the thread has is the one that the earlier commands left it
@@ -106,7 +106,7 @@ module _ {layout : Layout} (earlier : List (Command × Answer)) {view : View} (f
   own-policy policy over =
       counted f.thread
       ∙ ap (λ (x : ForkAt). settings layout f.thread earlier ++ of_thread f.thread (given_at f.targets x)) over
-      ∙ ap (λ (l : List Policy). settings layout f.thread earlier ++ l) (given-apart f.thread policy f.targets.count f.targets.threads (λ n t there. (fits.targets.each n t there).apart))
+      ∙ ap (λ (l : List Policy). settings layout f.thread earlier ++ l) (given-apart f.thread policy f.targets.count f.targets.threads (λ n t less there. (fits.targets.each n t (ap (λ (b : Bool). cond b (slice_get f.targets.threads n) None) (lt-ltb n f.targets.count less) ∙ there)).apart))
       ∙ append-nil (settings layout f.thread earlier)
 
   given : (child : Proc) → take f.targets.count f.targets.threads ≡ forks.threads_of child 0 layout.threads → (x : ForkAnswer) → f.at ≡ fork_at.Over x → forks.FitsOver view f.who f.thread f.process x

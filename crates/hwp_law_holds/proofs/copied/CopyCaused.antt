@@ -103,7 +103,7 @@ module _ (script : Script) (copies : Who → Option VSlot) (seat : Cpu → ℕ) 
       which (answers.Sigbus bt) (going, inr was) = by-failure script copies seat last report end cpu inside who (commands.Store thread to line word) bt (facts.signalled bt was.first)
       which answers.NoFrame (going, found) = not-ample script copies seat last report end cpu inside who found.available
       which (answers.Gone ended) is = is-gone script copies seat last report end cpu inside who (commands.Store thread to line word) thread ended at refl
-          (copy-gone script.layout (view_of last (seat cpu)) (store_by who thread to line word caused.page caused.process) _ _ _ _ told ended is)
+          (copy-gone script.layout (view_of last (seat cpu)) (store_by who thread to line word caused.page caused.process) caused.has.page (sub_next (store_by who thread to line word caused.page caused.process) from word caused.has.runs) caused.has.runs caused.has.rest told ended is)
       which answers.Stopped is = stop-by script copies seat last report end cpu who inside is.stopped
       which _ is = absurd is
 

@@ -8,7 +8,7 @@ use Rattle.hwp_law_records.specs.hwp_report_text.declared.CpuLine.{CpuLine}
 use Rattle.hwp_law_records.specs.hwp_report_text.declared.Report.{Report}
 use Rattle.hwp_law_records.specs.hwp_law.Acting.{acting_from, acting_script}
 use Rattle.hwp_law_records.specs.hwp_law.Lines.{answered, answers_in}
-use Rattle.hwp_law_records.specs.hwp_law.Losses.{IsNumber, LossesAgree, numbers_after}
+use Rattle.hwp_law_records.specs.hwp_law.Losses.{IsNumber, LossesAgree, is_lost, is_lost_before, losses_such, numbers_after}
 use Rattle.hwp_law_records.proofs.of_hwp_law_run.of_hwp_law.ActedLaws.{list-at}
 use Rattle.hwp_law_records.proofs.of_hwp_law_served.copied.NumbersActed.{numbers-acted, pair-acted}
 
@@ -29,7 +29,7 @@ losses-acted script report agree = record {
       let here : (k : ℕ) → numbers_after file 0 (take k (answered acted rows)) ≡ numbers_after file 0 (take k (answered list rows)) = λ k. numbers-acted script.layout [] file 0 list (answers_in rows) k in
       record {
         rises = subst (λ (n : ℕ). n ≤ numbers_after file 0 (take (i + 1) (answered list rows))) (here i) (subst (λ (n : ℕ). numbers_after file 0 (take i (answered acted rows)) ≤ n) (here (i + 1)) number.rises);
-        within = subst (λ (n : ℕ). n ≤ _) (here (i + 1)) number.within;
-        covers = subst (λ (n : ℕ). _ ≤ n) (here (i + 1)) number.covers;
+        within = subst (λ (n : ℕ). n ≤ losses_such is_lost script report file) (here (i + 1)) number.within;
+        covers = subst (λ (n : ℕ). losses_such (is_lost_before (record { cpu = cpu; seq = i })) script report file ≤ n) (here (i + 1)) number.covers;
       };
 }

@@ -73,7 +73,7 @@ use Rattle.hwp_law_records.specs.hwp_scrub.Visits as scrubs
 use Rattle.hwp_law_records.specs.hwp_scrub.Visits.{AreBanks, AreVisits, IsBadMet, IsWeakMet, SawLowest, Visit, left_by_bad, left_by_visit, left_by_weak, lines_of_visit, scrub_bank, scrubbing, with_bad}
 use Rattle.hwp_law_records.proofs.of_hwp_scrub.VisitLaws.{bad-leaves, left-banks}
 use Rattle.hwp_law_records.specs.hwp_law_served.Served.{AreRowsServed, spoiling}
-use Rattle.hwp_law_records.specs.hwp_law_served.Told.{AreToldBy, IsAccessTold, IsCutShort, IsRaiseTold, IsScrubTold, IsUntold, is_raised}
+use Rattle.hwp_law_records.specs.hwp_law_served.Told.{AreToldBy, AreToldWith, IsAccessTold, IsCutShort, IsRaiseTold, IsScrubTold, IsUntold, is_raised}
 use Rattle.hwp_law_records.proofs.of_hwp_law_served.Picked.{picked-is}
 use Rattle.hwp_law_records.proofs.of_hwp_law_served.lines.ScrubBank.{empty-free, kept-so, with-free}
 use Rattle.hwp_law_records.proofs.lines.SpoiledLines.{set-at, spoiled-at-end, spoiled-so}

@@ -106,9 +106,10 @@ module _ (script : Script) (copies : Who → Option VSlot) (seat : Cpu → ℕ) 
   copy-checked thread from to line word some command before told after is results =
       let checks : List Check = checks_by is.has.runs ++ is.last in
       let all : EachMember Result (lines_of (checks_by is.has.runs) ++ lines_of is.last) = subst (EachMember Result) (is.told_is ∙ lines-behind (checks_by is.has.runs) is.last) results in
+      let here : List ℕ = told_lines (cows.begin from to line word) is.has.runs ++ replicate (length is.last) (line_of (sub_next (store_by who thread to line word is.page is.process) from word is.has.runs)) in
       let are = both (told_lines (cows.begin from to line word) is.has.runs) (replicate (length is.last) (line_of (sub_next (store_by who thread to line word is.page is.process) from word is.has.runs))) before (checks_by is.has.runs) is.last
       (of-runs thread to line word is.page is.process is.has.page (cows.begin from to line word) before is.has.runs is.has.are (each-first Result (lines_of (checks_by is.has.runs)) (lines_of is.last) all))
       (of-last thread to line word is.page is.process is.has.page (sub_next (store_by who thread to line word is.page is.process) from word is.has.runs) (left_by before (checks_by is.has.runs)) is.last is.are (each-second Result (lines_of (checks_by is.has.runs)) (lines_of is.last) all)) in
       subst (λ (l : List ℕ). AreAccessChecks script report who (restarting modes.User) origins.Access l before (map (event_at who.seq) told) after) (copy-lines script copies seat last report end who inside thread from to line word some command before told after is)
-      (subst (λ (ts : List EventOutcome). AreAccessChecks script report who (restarting modes.User) origins.Access _ before (map (event_at who.seq) ts) after) (sym is.told_is)
-      (subst (AreAccessChecks script report who (restarting modes.User) origins.Access _ before (map (event_at who.seq) (lines_of checks))) (sym is.after_is) are))
+      (subst (λ (ts : List EventOutcome). AreAccessChecks script report who (restarting modes.User) origins.Access here before (map (event_at who.seq) ts) after) (sym is.told_is)
+      (subst (AreAccessChecks script report who (restarting modes.User) origins.Access here before (map (event_at who.seq) (lines_of checks))) (sym is.after_is) are))

@@ -99,6 +99,7 @@ module _ {layout : Layout} {by : Who} {step : Step} {body : Option BodyValue} {o
     has = has-stays can made (store_by who thread to line word is.page is.process) other from word before is.has;
     last = is.last;
     are = checks-of-stay (store_by who thread to line word is.page is.process) refl is.has.page _ _ is.last is.are;
+    left = is.left;
     counted = is.counted;
     told_is = is.told_is;
     after_is = is.after_is;

@@ -45,7 +45,7 @@ IsInOrder made = (i j : ℕ) (a b : Made) → i < j → slice_get made i ≡ Som
 
 -- a member of two lists is one of the first, or of the second
 pub split-at : {A : Type 0} (l m : List A) (k : ℕ) (x : A) → slice_get (l ++ m) k ≡ Some x → ((k < length l) × (slice_get l k ≡ Some x)) ⊎ ((j : ℕ) × (k ≡ length l + j) × (slice_get m j ≡ Some x))
-split-at [] m k x there = inr (k, refl, there)
+split-at [] m k x there = inr (k, omega arith, there)
 split-at (y ∷ ys) m zero x there = inl (omega arith, there)
 split-at (y ∷ ys) m (suc k) x there = elim (split-at ys m k x there) [
   | inl first ↦ inl (omega (arith, first.0), first.1)

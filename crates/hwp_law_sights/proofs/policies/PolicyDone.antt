@@ -80,52 +80,50 @@ step-count thread cpu n (g ∷ gs) own =
 
 -- ---- what commands set
 
--- among the threads of a process one below the first isn't
-none-below : (thread : Thread) (policy : Policy) (process : Proc) (n : ℕ) (ts : List ThreadDecl) → thread.0 < n → are_of thread (map (λ (t : Thread). (t, policy)) (threads_of process n ts)) ≡ 0
+-- the policies that a fork gives to threads of a process, from this number on
+abbrev given_from : Policy → Proc → ℕ → List ThreadDecl → List (Thread × Policy)
+given_from policy process n ts = map (λ (t : Thread). (t, policy)) (threads_of process n ts)
+
+-- a thread of the process in front
+given-front : (thread : Thread) (policy : Policy) (process : Proc) (n : ℕ) (t : ThreadDecl) (ts : List ThreadDecl)
+    → are_of thread (given_from policy process n (t ∷ ts)) ≡ from_bool ((t.process.0 == process.0) && (n == thread.0)) + are_of thread (given_from policy process (n + 1) ts)
+given-front thread policy process n t ts = which (t.process.0 == process.0)
+  where
+    which : (b : Bool) → are_of thread (map (λ (t : Thread). (t, policy)) (cond b (record { 0 = n } ∷ threads_of process (n + 1) ts) (threads_of process (n + 1) ts))) ≡ from_bool (b && (n == thread.0)) + are_of thread (given_from policy process (n + 1) ts)
+    which false = refl
+    which true = sum_by-cons (λ (p : Thread × Policy). from_bool (p.0.0 == thread.0)) (record { 0 = n }, policy) (given_from policy process (n + 1) ts)
+
+apart-zero : (a b : Bool) → b ≡ false → from_bool (a && b) ≡ 0
+apart-zero true b is = ap from_bool is
+apart-zero false b is = refl
+
+-- one below the first isn't among them
+none-below : (thread : Thread) (policy : Policy) (process : Proc) (n : ℕ) (ts : List ThreadDecl) → thread.0 < n → are_of thread (given_from policy process n ts) ≡ 0
 none-below thread policy process n [] below = refl
-none-below thread policy process n (t ∷ ts) below = which (t.process.0 == process.0)
-  where
-    rest : are_of thread (map (λ (t : Thread). (t, policy)) (threads_of process (n + 1) ts)) ≡ 0
-    rest = none-below thread policy process (n + 1) ts (omega (arith, below))
+none-below thread policy process n (t ∷ ts) below =
+    let front : are_of thread (given_from policy process n (t ∷ ts)) ≡ from_bool ((t.process.0 == process.0) && (n == thread.0)) + are_of thread (given_from policy process (n + 1) ts) = given-front thread policy process n t ts in
+    let apart : from_bool ((t.process.0 == process.0) && (n == thread.0)) ≡ 0 = apart-zero (t.process.0 == process.0) (n == thread.0) (ne_eqb n thread.0 (λ is. omega (arith, below, is))) in
+    let rest : are_of thread (given_from policy process (n + 1) ts) ≡ 0 = none-below thread policy process (n + 1) ts (omega (arith, below)) in
+    omega (arith, front, apart, rest)
 
-    which : (b : Bool) → are_of thread (map (λ (t : Thread). (t, policy)) (cond b (record { 0 = n } ∷ threads_of process (n + 1) ts) (threads_of process (n + 1) ts))) ≡ 0
-    which false = rest
-    which true =
-        let all : are_of thread (map (λ (t : Thread). (t, policy)) (record { 0 = n } ∷ threads_of process (n + 1) ts)) ≡ from_bool (n == thread.0) + are_of thread (map (λ (t : Thread). (t, policy)) (threads_of process (n + 1) ts))
-        = sum_by-cons (λ (p : Thread × Policy). from_bool (p.0.0 == thread.0)) (record { 0 = n }, policy) (map (λ (t : Thread). (t, policy)) (threads_of process (n + 1) ts)) in
-        let apart : from_bool (n == thread.0) ≡ 0 = ap from_bool (ne_eqb n thread.0 (λ is. omega (arith, below, is))) in
-        omega (arith, all, apart, rest)
-
--- and one of it is once
+-- and one of the process is once
 one-among : (thread : Thread) (policy : Policy) (process : Proc) (n k : ℕ) (ts : List ThreadDecl) → thread.0 ≡ n + k
-    → are_of thread (map (λ (t : Thread). (t, policy)) (threads_of process n ts)) ≡ from_bool (option_map_or (λ (t : ThreadDecl). t.process.0 == process.0) (slice_get ts k) false)
+    → are_of thread (given_from policy process n ts) ≡ from_bool (option_map_or (λ (t : ThreadDecl). t.process.0 == process.0) (slice_get ts k) false)
 one-among thread policy process n k [] at = refl
-one-among thread policy process n zero (t ∷ ts) at = which (t.process.0 == process.0)
+one-among thread policy process n zero (t ∷ ts) at =
+    let front : are_of thread (given_from policy process n (t ∷ ts)) ≡ from_bool ((t.process.0 == process.0) && (n == thread.0)) + are_of thread (given_from policy process (n + 1) ts) = given-front thread policy process n t ts in
+    let here : from_bool ((t.process.0 == process.0) && (n == thread.0)) ≡ from_bool (t.process.0 == process.0) = with-true (t.process.0 == process.0) (n == thread.0) (eq-eqb n thread.0 (omega (arith, at))) in
+    let rest : are_of thread (given_from policy process (n + 1) ts) ≡ 0 = none-below thread policy process (n + 1) ts (omega (arith, at)) in
+    omega (arith, front, here, rest)
   where
-    rest : are_of thread (map (λ (t : Thread). (t, policy)) (threads_of process (n + 1) ts)) ≡ 0
-    rest = none-below thread policy process (n + 1) ts (omega (arith, at))
-
-    which : (b : Bool) → are_of thread (map (λ (t : Thread). (t, policy)) (cond b (record { 0 = n } ∷ threads_of process (n + 1) ts) (threads_of process (n + 1) ts))) ≡ from_bool b
-    which false = rest
-    which true =
-        let all : are_of thread (map (λ (t : Thread). (t, policy)) (record { 0 = n } ∷ threads_of process (n + 1) ts)) ≡ from_bool (n == thread.0) + are_of thread (map (λ (t : Thread). (t, policy)) (threads_of process (n + 1) ts))
-        = sum_by-cons (λ (p : Thread × Policy). from_bool (p.0.0 == thread.0)) (record { 0 = n }, policy) (map (λ (t : Thread). (t, policy)) (threads_of process (n + 1) ts)) in
-        let same : from_bool (n == thread.0) ≡ 1 = ap from_bool (eq-eqb n thread.0 (omega (arith, at))) in
-        let one : from_bool true ≡ 1 = refl in
-        omega (arith, all, same, rest, one)
-one-among thread policy process n (suc k) (t ∷ ts) at = which (t.process.0 == process.0)
-  where
-    rest : are_of thread (map (λ (t : Thread). (t, policy)) (threads_of process (n + 1) ts)) ≡ from_bool (option_map_or (λ (t : ThreadDecl). t.process.0 == process.0) (slice_get ts k) false)
-    rest = one-among thread policy process (n + 1) k ts (omega (arith, at))
-
-    which : (b : Bool) → are_of thread (map (λ (t : Thread). (t, policy)) (cond b (record { 0 = n } ∷ threads_of process (n + 1) ts) (threads_of process (n + 1) ts)))
-        ≡ from_bool (option_map_or (λ (t : ThreadDecl). t.process.0 == process.0) (slice_get ts k) false)
-    which false = rest
-    which true =
-        let all : are_of thread (map (λ (t : Thread). (t, policy)) (record { 0 = n } ∷ threads_of process (n + 1) ts)) ≡ from_bool (n == thread.0) + are_of thread (map (λ (t : Thread). (t, policy)) (threads_of process (n + 1) ts))
-        = sum_by-cons (λ (p : Thread × Policy). from_bool (p.0.0 == thread.0)) (record { 0 = n }, policy) (map (λ (t : Thread). (t, policy)) (threads_of process (n + 1) ts)) in
-        let apart : from_bool (n == thread.0) ≡ 0 = ap from_bool (ne_eqb n thread.0 (λ is. omega (arith, at, is))) in
-        omega (arith, all, apart, rest)
+    with-true : (a b : Bool) → b ≡ true → from_bool (a && b) ≡ from_bool a
+    with-true true b is = ap from_bool is
+    with-true false b is = refl
+one-among thread policy process n (suc k) (t ∷ ts) at =
+    let front : are_of thread (given_from policy process n (t ∷ ts)) ≡ from_bool ((t.process.0 == process.0) && (n == thread.0)) + are_of thread (given_from policy process (n + 1) ts) = given-front thread policy process n t ts in
+    let apart : from_bool ((t.process.0 == process.0) && (n == thread.0)) ≡ 0 = apart-zero (t.process.0 == process.0) (n == thread.0) (ne_eqb n thread.0 (λ is. omega (arith, at, is))) in
+    let rest : are_of thread (given_from policy process (n + 1) ts) ≡ from_bool (option_map_or (λ (t : ThreadDecl). t.process.0 == process.0) (slice_get ts k) false) = one-among thread policy process (n + 1) k ts (omega (arith, at)) in
+    omega (arith, front, apart, rest)
 
 -- a command sets as many policies of the thread as its answer says
 pub set-count : (layout : Layout) (earlier : List (Command × Answer)) (thread : Thread) (command : Command) (answer : Answer) → are_of thread (set_by layout earlier command answer) ≡ length (cons_option (setting_of layout (set_behind layout unset earlier) thread.0 command answer) [])
