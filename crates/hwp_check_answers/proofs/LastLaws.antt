@@ -1,14 +1,14 @@
 -- A store of a command behind a place in a page's history.
-use Rattle.std.proofs.Common.{◌≡◌, ℕ, zero, suc, ◌+◌, ◌-◌, ◌<◌, ◌≤◌, ◌&&◌, Bool, true, false, List, [], ◌∷◌, Option, Some, None, drop, get_or, length, slice_get, IsTrue, refl, sym, ap, subst, ◌∙◌, true≢false, inl, inr, arith, ◌==◌, ◌||◌}
+use Rattle.std.proofs.Common.{◌≡◌, ℕ, zero, suc, ◌+◌, ◌-◌, ◌<◌, ◌≤◌, ◌&&◌, Bool, true, false, List, [], ◌∷◌, Option, Some, None, drop, length, slice_get, refl, sym, ap, subst, ◌∙◌, true≢false, arith, ◌==◌, ◌||◌}
 use Rattle.std.specs.List.{list_any}
-use Rattle.std.proofs.lemmas.Bool.{cases_lt, eq-eqb, eqb-true}
-use Rattle.std.proofs.lemmas.Option.{none-some, same_Some, slice_get_within}
+use Rattle.std.proofs.lemmas.Bool.{eq-eqb, eqb-true}
+use Rattle.std.proofs.lemmas.List.{drop_all}
+use Rattle.std.proofs.lemmas.Option.{none-some, same_Some}
 use Rattle.hwp_check_evidence.specs.hwp_geom.declared.VSlot.{VSlot}
 use Rattle.hwp_check_evidence.specs.hwp_geom.declared.Page.{Page}
 use Rattle.hwp_check_evidence.specs.hwp_geom.declared.Who.{Who}
 use Rattle.hwp_check_evidence.specs.hwp_law.Copies.{is_store}
 use Rattle.hwp_check_evidence.specs.hwp_law.Lines.{is_same_command}
-use Rattle.hwp_check_evidence.specs.hwp_law.Places.{entry_at}
 use Rattle.hwp_check_evidence.specs.hwp_page.declared.At.{At}
 use Rattle.hwp_check_evidence.specs.hwp_page.declared.Entry.{Entry}
 use Rattle.hwp_check_evidence.specs.hwp_report_text.declared.Answer.{Answer}
@@ -16,7 +16,7 @@ use Rattle.hwp_check_evidence.specs.hwp_report_text.declared.Answer.TheVariants 
 use Rattle.hwp_check_evidence.specs.hwp_report_text.declared.Report.{Report}
 use Rattle.hwp_check_evidence.proofs.WindowLaws.{entry-is, is-entry}
 use Rattle.hwp_check_rules.specs.AnswerFaults.{IsNotLast}
-use Rattle.hwp_check_answers.specs.Judging.{HasStoreBehind, is_own_store}
+use Rattle.hwp_check_answers.specs.Judging.{HasStoreBehind, StoresPast, is_own_store}
 
 both : (a b : Bool) → (a && b) ≡ true → (a ≡ true) × (b ≡ true)
 both true b e = (refl, e)
@@ -58,6 +58,9 @@ at-any who (x ∷ xs) zero (suc k) e low there is = or-right (is_own_store who x
 at-any who (x ∷ xs) (suc n) zero e low there is = absurd (omega (arith, low))
 at-any who (x ∷ xs) (suc n) (suc k) e low there is = at-any who xs n k e (omega (arith, low)) there is
 
+pub none_past : (who : Who) (list : List Entry) (n : ℕ) → length list ≤ n → list_any (is_own_store who) (drop (n + 1) list) ≡ false
+none_past who list n past = ap (list_any (is_own_store who)) (drop_all (n + 1) list (omega (arith, past)))
+
 module _ (report : Report) (who : Who) (at : At) where
   pub behind_has : (list : List Entry) → slice_get report.pages at.page.0 ≡ Some list → list_any (is_own_store who) (drop (at.entry + 1) list) ≡ true → HasStoreBehind report who at
   behind_has list page any =
@@ -98,6 +101,13 @@ module _ (copies : Who → Option VSlot) (report : Report) (who : Who) where
   last_not at n =
       let same : at ≡ n.at = ap (λ (a : Answer). place_of a at) n.stored in
       subst (HasStoreBehind report who) (sym same) (record { later = n.later; entry = n.entry; there = n.there; own = n.own; same_page = n.same_page; behind = n.behind; stores = n.stores })
+
+  pub past_last : (from : VSlot) (answer : Answer) → copies who ≡ Some from → StoresPast report who answer → IsNotLast copies report who answer
+  past_last from (answers.Stored at) copied past = not_last from at copied past
+  past_last from answer copied past = absurd past
+
+  pub last_past : (answer : Answer) → IsNotLast copies report who answer → StoresPast report who answer
+  last_past answer n = subst (StoresPast report who) (sym n.stored) (record { later = n.later; entry = n.entry; there = n.there; own = n.own; same_page = n.same_page; behind = n.behind; stores = n.stores })
 
   abbrev is_stored : Answer → Bool
   is_stored (answers.Stored at) = true

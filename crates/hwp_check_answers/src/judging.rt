@@ -1,4 +1,4 @@
-ghost use Rattle.std.specs.Prelude.{◌≡◌, ◌⊎◌, ◌↔◌, ◌<◌, IsTrue, MatchBool, Some, drop, length, slice_index_or, false};
+ghost use Rattle.std.specs.Prelude.{◌≡◌, ◌⊎◌, ◌↔◌, ◌<◌, ◌+◌, IsTrue, MatchBool, Some, drop, length, slice_index_or, false};
 ghost use Rattle.hwp_check_evidence.specs.hwp_law_commands.Commands.{process_at};
 ghost use Rattle.hwp_check_evidence.specs.hwp_law.Endings.{IsOver};
 ghost use Rattle.hwp_check_evidence.specs.hwp_law.States.{IsInWindow, state_named};
@@ -11,7 +11,7 @@ ghost use Rattle.hwp_check_answers.specs.Walk.{IsRightlyGiven, IsWronglyGiven};
 use crate::given::GivenAnswer;
 use hwp_check_causes::{is_right, named_state, process_at};
 use hwp_check_evidence::{Names, had_ended, is_elsewhere, is_in_span, is_not_below};
-use hwp_check_rules::{Answer, At, Entry, Proc, Report, What, Who, copy_of};
+use hwp_check_rules::{Answer, At, Entry, Proc, Report, VSlot, What, Who, copy_of};
 
 /// What the lines before an answer tell.
 #[derive(Drop)]
@@ -130,25 +130,26 @@ fn is_own_store(who: Who, entry: &Entry) -> bool
     entry.who.cpu.0 == who.cpu.0 && entry.who.seq == who.seq && matches!(entry.what, What::Store { .. })
 }
 
-/// Whether the command has a store among the entries behind so many.
-fn stores_behind(who: Who, entries: &[Entry], many: u64) -> bool
-    ensures { result ≡ list_any (is_own_store who) (drop many entries.now) }
+/// Whether the command has a store among the entries behind the place.
+#[tactic(auto, using(crate::proofs::LastLaws::none_past))]
+fn stores_behind(who: Who, entries: &[Entry], place: u64) -> bool
+    ensures { result ≡ list_any (is_own_store who) (drop (place + 1) entries.now) }
 {
-    if many >= entries.len() as u64 {
+    if place >= entries.len() as u64 {
         return false;
     }
-    entries[many as usize..]
+    entries[place as usize + 1..]
         .iter()
         .any(|entry| is_own_store(who, entry))
 }
 
 /// Whether the command has a store in the page behind the place.
-#[tactic(auto, using(crate::proofs::LastLaws::behind_has, crate::proofs::LastLaws::has_behind))]
+#[tactic(auto, using(crate::proofs::LastLaws::behind_has, crate::proofs::LastLaws::has_behind, crate::proofs::LastLaws::none_behind))]
 fn has_store_behind(report: &Report, who: Who, at: At) -> bool
     ensures { IsTrue result ↔ HasStoreBehind report.now who at }
 {
     match report.pages.as_slice().get(usize::from(at.page.0)) {
-        Some(entries) => stores_behind(who, entries.as_slice(), at.entry + 1),
+        Some(entries) => stores_behind(who, entries.as_slice(), at.entry),
         None => false,
     }
 }
@@ -163,12 +164,19 @@ fn stores_past(given: &GivenAnswer<'_>) -> bool
     }
 }
 
+/// The translation that the command copied from, if it copied.
+fn copied_from(given: &GivenAnswer<'_>) -> Option<VSlot>
+    ensures { result ≡ given.now.copies given.now.who }
+{
+    copy_of(given.copies, given.case.who())
+}
+
 /// Whether the command copied a page, and stores behind the place that its answer names.
-#[tactic(auto, using(crate::proofs::LastLaws::not_last, crate::proofs::LastLaws::last_not))]
+#[tactic(auto, using(crate::proofs::LastLaws::past_last, crate::proofs::LastLaws::last_past, crate::proofs::LastLaws::none_copied))]
 fn is_not_last(given: &GivenAnswer<'_>) -> bool
     ensures { IsTrue result ↔ IsNotLast given.now.copies given.now.report given.now.who given.now.answer }
 {
-    match copy_of(given.copies, given.case.who()) {
+    match copied_from(given) {
         Some(_) => stores_past(given),
         None => false,
     }

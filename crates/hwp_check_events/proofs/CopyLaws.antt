@@ -1,9 +1,9 @@
 -- The lines that the machine checks of an access meet: one so often, or those of a copy; and how those of a copy are gathered.
-use Rattle.std.proofs.Common.{◌≡◌, ℕ, zero, suc, ◌+◌, ◌-◌, ◌<◌, ◌≤◌, ◌==◌, Bool, true, false, List, [], ◌∷◌, ◌++◌, Option, Some, None, cond, drop, filter, get_or, length, map, option_and_then, replicate, slice_get, unwrap_or, IfOk, inl, inr, refl, sym, ap, subst, ◌∙◌, arith}
+use Rattle.std.proofs.Common.{◌≡◌, ℕ, zero, suc, ◌+◌, ◌-◌, ◌<◌, ◌≤◌, ◌==◌, Bool, true, false, List, [], ◌∷◌, ◌++◌, Option, Some, None, cond, drop, filter, get_or, length, map, replicate, slice_get, unwrap_or, inl, inr, refl, sym, ap, ◌∙◌, arith}
 use Rattle.std.specs.Option.{option_map_or}
 use Rattle.std.proofs.lemmas.Bool.{cases_lt}
-use Rattle.std.proofs.lemmas.List.{append-nil, drop_all, drop_more, get_or_append_left, get_or_past, get_or_push, length-replicate, length_push, length-append, get_or-append-add, get_or-replicate, append_assoc}
-use Rattle.std.proofs.lemmas.Option.{none-some, same_Some}
+use Rattle.std.proofs.lemmas.List.{append-nil, drop_all, drop_more, get_or_append_left, get_or_push, length-replicate, length-append, get_or-append-add, get_or-replicate, append_assoc}
+use Rattle.std.proofs.lemmas.Option.{same_Some}
 use Rattle.hwp_banks.specs.hwp_geom.declared.Cpu.{Cpu}
 use Rattle.hwp_banks.specs.hwp_geom.declared.VSlot.{VSlot}
 use Rattle.hwp_banks.specs.hwp_geom.declared.Who.{Who}
@@ -80,9 +80,12 @@ copied-more layout copies report cpu list n lists c new many are there is = λ s
       ∙ ap (copied_by layout copies report (record { cpu = cpu; seq = seq })) (same_Some c d (sym there ∙ ap (slice_get list) (sym same) ∙ other))
 ]
 
+pub none_yet : (layout : Layout) (copies : Who → Option VSlot) (report : Report) (cpu : Cpu) (list : List Command) (lists : List (List ℕ)) → lists ≡ [] → (length lists ≡ 0) × AreCopied layout copies report cpu list 0 lists
+none_yet layout copies report cpu list lists none = (ap (λ (l : List (List ℕ)). length l) none, λ seq d within other. absurd (omega (arith, within)))
+
 -- where no processor copied, no command did
-pub none-copied : (layout : Layout) (report : Report) (cpu : Cpu) (list : List Command) (n : ℕ) (copies : List (List (Option VSlot))) → copies ≡ [] → AreCopied layout (copies_in copies) report cpu list n []
-none-copied layout report cpu list n copies empty = λ seq d within other.
+pub none_copied : (layout : Layout) (report : Report) (cpu : Cpu) (list : List Command) (n : ℕ) (copies : List (List (Option VSlot))) → copies ≡ [] → AreCopied layout (copies_in copies) report cpu list n []
+none_copied layout report cpu list n copies empty = λ seq d within other.
     sym (ap (λ (l : List (List (Option VSlot))). copied_by layout (copies_in l) report (record { cpu = cpu; seq = seq }) d) empty ∙ none d)
   where
     none : {who : Who} (d : Command) → copied_by layout (copies_in []) report who d ≡ []

@@ -1,4 +1,4 @@
-ghost use Rattle.std.specs.Prelude.{◌≡◌, ◌<◌, length, option_map, unwrap_or};
+ghost use Rattle.std.specs.Prelude.{◌≡◌, ◌<◌, MatchOption, length, option_map, unwrap_or};
 ghost use Rattle.hwp_check_rules.specs.hwp_law.Private.{freeze_from, loaded, private_word, word_at_fork, word_before, word_in, word_stored};
 ghost use Rattle.hwp_check_private.specs.Words.{entries_through, last_before, last_stored, pair_in, word_if};
 
@@ -31,7 +31,8 @@ pub(crate) fn frozen_at(
     pairs: &[(Command, Answer)],
     slot: VSlot,
 ) -> Option<usize>
-    ensures { result ≡ freeze_from layout.now slot 0 pairs.now }
+    ensures at { result ≡ freeze_from layout.now slot 0 pairs.now }
+    ensures within { MatchOption result (Unit {0}) (λ n. n < length pairs.now) }
 {
     for number in 0..pairs.len() {
         let pair = &pairs[number];

@@ -1,4 +1,4 @@
-ghost use Rattle.std.specs.Prelude.{◌↔◌, IsSomeAnd, IsTrue};
+ghost use Rattle.std.specs.Prelude.{◌≡◌, ◌↔◌, IsSomeAnd, IsTrue};
 ghost use Rattle.hwp_law.specs.Copies.{FitsCopy, IsCopyPage, MakesCopy, slot_in};
 ghost use Rattle.hwp_law.specs.hwp_geom.declared.VSlot.{VSlot as Slot};
 ghost use Rattle.hwp_check_events.specs.hwp_check_acting.ActedOn.{copies_in};

@@ -1,4 +1,3 @@
-use Rattle.std.proofs.Common.{arith}
 use Rattle.hwp_check.proofs.ActedVerdicts.{frames_holds}
 use Rattle.hwp_check.proofs.InOrder.{all-hold}
 use Rattle.hwp_check.proofs.late.late_verdict.Goals as goal

@@ -1,4 +1,4 @@
-use Rattle.std.proofs.Common.{◌≡◌, ◌≤◌, ℕ, Bool, length, map, arith}
+use Rattle.std.proofs.Common.{◌≡◌, ◌≤◌, map, arith}
 use Rattle.hwp_law.specs.Copies.{checks_by}
 use Rattle.hwp_check_events.specs.Copied.{own_whats, pair_of, test_of}
 use Rattle.hwp_check_events.proofs.CopyLaws.{gathered-all, gathered-next}
