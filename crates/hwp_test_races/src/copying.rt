@@ -1,4 +1,4 @@
-//! A store that copies a page, and a command of another processor on one of the two pages, under every order of ten turns: the checker
+//! A store that copies a page, and a command of another processor on one of the two pages, under every order of eight turns: the checker
 //! calls each report legal.
 
 use crate::judging::{gives_legal, scheduled};
@@ -37,27 +37,27 @@ const OF_THE_COPY: &[(&str, &str)] = &[
     ("bad 1 0", SOME_POISONED),
 ];
 
-/// Each order of ten turns behind these of the schedule gives a report that begins so, and is legal.
+/// Each order of eight turns behind these of the schedule gives a report that begins so, and is legal.
 fn all_legal_beside(rt: &impl Abort, alloc: Global, others: &[(&str, &str)], schedule: &str) {
     for other in others {
         let mut front = String::from_str(alloc, FRONT).expect(rt, "memory");
         front.push_str(other.0).expect(rt, "memory");
         front.push_str(schedule).expect(rt, "memory");
-        for number in 0..1024 {
-            let script = scheduled(rt, alloc, front.as_str(), 10, number);
+        for number in 0..256 {
+            let script = scheduled(rt, alloc, front.as_str(), 8, number);
             gives_legal(rt, alloc, script.as_str(), other.1);
         }
     }
 }
 
 #[test]
-fn every_order_of_ten_turns_over_a_page_that_is_copied_gives_a_legal_report(rt: HostRuntime) {
+fn every_order_of_eight_turns_over_a_page_that_is_copied_gives_a_legal_report(rt: HostRuntime) {
     // the first line is about to be loaded
     all_legal_beside(&rt, rt.alloc(), OF_THE_PAGE, "\nschedule 0. 0. 0@lock_page");
 }
 
 #[test]
-fn every_order_of_ten_turns_over_a_copy_gives_a_legal_report(rt: HostRuntime) {
+fn every_order_of_eight_turns_over_a_copy_gives_a_legal_report(rt: HostRuntime) {
     // the first line is about to be stored
     all_legal_beside(&rt, rt.alloc(), OF_THE_COPY, "\nschedule 0. 0. 0@load_bad 0@lock_page");
 }
