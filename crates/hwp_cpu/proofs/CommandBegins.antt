@@ -1,4 +1,5 @@
 -- When the command that runs has its answer, its row is right, and the next command may begin.
+use Rattle.hwp_cpu_course.specs.hwp_cpu_row.hwp_script_read.Valid.{IsCommandOf}
 use Rattle.hwp_cpu_course.specs.hwp_cpu_command.Begins.{BeginsWith}
 use Rattle.hwp_cpu_course.specs.hwp_cpu_row.hwp_geom.declared.VSlot.{VSlot}
 use Rattle.hwp_cpu_course.specs.hwp_cpu_row.hwp_geom.declared.FileNo.{FileNo}
@@ -291,8 +292,8 @@ module _ (layout : Layout) (new : View) (cpu : Cpu) (list : List Command) (rows 
     }
 
     forks-so : CanFork layout new (at_number cpu (n + 1)) next
-    forks-so = fork-acted layout after.cows coming (subst (λ (i : ℕ). CanFork layout new (at_number cpu i) coming) number
-        (can-fork layout cpu list longer are.forks are.once new policies coming (subst (λ (i : ℕ). slice_get list i ≡ Some coming) (sym number) there) (at-least list (n + 1) coming are.named there)))
+    forks-so = fork-acted new (at_number cpu (n + 1)) layout after.cows coming (subst (λ (i : ℕ). CanFork layout new (at_number cpu i) coming) number
+        (can-fork layout cpu list longer are.forks are.once new policies coming (subst (λ (i : ℕ). slice_get list i ≡ Some coming) (sym number) there) (at-least (IsCommandOf layout cpu.0) list (n + 1) coming are.named there)))
 
     start : IsAtStop b.own
     start = begins-stop layout (at_number cpu (n + 1)) next copied after.banks (collects after.watching) b.own begins.begins

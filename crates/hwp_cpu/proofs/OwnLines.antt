@@ -145,7 +145,7 @@ module _ {base : List Made} (layout : Layout) (old new : View) (y : Copying) (k 
           who-is : y.instruction.request.who ≡ y.store.who
           who-is = (request-who y.store y.page (cows.sub_of y.cow) has.request_is).0
 
-          abbrev then : Copying
+          then : Copying
           then = record (copyings.bare_at y copying_at.Access) { instruction = next.instruction }
 
           same-told : went.instruction.lines.told ≡ next.instruction.lines.told

@@ -1,4 +1,5 @@
 -- At opening a processor fits: it has made no step, and its first command begins.
+use Rattle.hwp_cpu_course.specs.hwp_cpu_row.hwp_script_read.Valid.{IsCommandOf}
 use Rattle.hwp_cpu_course.specs.hwp_cpu_row.hwp_geom.declared.VSlot.{VSlot}
 use Rattle.hwp_cpu_course.specs.hwp_cpu_row.CowLists.{KnowsCows, acting_in, copied_in, first_cows}
 use Rattle.hwp_cpu_course.proofs.of_hwp_cpu_row.CowListLaws.{acting-known, copied-known, first-are, first-known}
@@ -139,7 +140,7 @@ module _ (layout : Layout) (cpu : Cpu) (list : List Command) (are : AreCommands 
 
     -- nothing is frozen, so it is the script's own
     forks-so : CanFork layout view (at_number cpu 0) command
-    forks-so = fork-acted layout at-first.cows own (can-fork layout cpu list [] are.forks are.once view unset own there (at-least list 0 own are.named there))
+    forks-so = fork-acted view (at_number cpu 0) layout at-first.cows own (can-fork layout cpu list [] are.forks are.once view unset own there (at-least (IsCommandOf layout cpu.0) list 0 own are.named there))
 
     start : IsAtStop c.own
     start = begins-stop layout (at_number cpu 0) command copies at-first.banks (collects at-first.watching) c.own begins.begins

@@ -106,4 +106,4 @@ pub word-read : (layout : Layout) (page : Page) (list : List Entry) (state : Pag
     → slice_get list i ≡ Some e → e.what ≡ entries.Load slot line (Word mask read) → read ≡ last_word 0 (filter_map (stored_on line) (take i list))
 word-read layout page list state replay anon line within i e slot mask read there is =
     leads-read layout page line i list (opening_of replay.kind (is_locked layout page)) state 0 read e slot mask replay.leads
-        (opening-holds replay.kind (is_locked layout page) line (same_Some replay.kind Anon (sym replay.declared ∙ anon)) within) there is
+    (opening-holds replay.kind (is_locked layout page) line (same_Some replay.kind Anon (sym replay.declared ∙ anon)) within) there is

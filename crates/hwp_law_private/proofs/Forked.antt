@@ -1,10 +1,9 @@
 -- A translation that a fork froze: its twin, the pages of both, which have nothing behind them, and the fork in the list of its processor.
-use Rattle.std.proofs.Common.{◌≡◌, ◌≢◌, ℕ, zero, suc, ◌+◌, ◌<◌, ◌≤◌, Bool, true, false, List, [], ◌∷◌, Option, None, Some, fold, is_some, option_and_then, slice_get, take, unwrap_or, refl, sym, ap, ◌∙◌, subst, true≢false, arith}
+use Rattle.std.proofs.Common.{◌≡◌, ◌≢◌, ℕ, zero, suc, ◌+◌, ◌<◌, ◌≤◌, Bool, true, false, List, [], ◌∷◌, Option, None, Some, fold, is_some, slice_get, take, unwrap_or, refl, sym, ap, ◌∙◌, subst, true≢false, arith}
 use Rattle.std.specs.Prelude.{All, IsSomeAnd}
 use Rattle.std.specs.Option.{option_map_or}
 use Rattle.std.proofs.lemmas.Option.{none-some, same_Some}
-use Rattle.hwp_law.specs.hwp_geom.Layout.{IsSound, twin_of}
-use Rattle.hwp_law.specs.hwp_geom.Limits.{line_limit}
+use Rattle.hwp_law.specs.hwp_geom.Layout.{twin_of}
 use Rattle.hwp_law.specs.hwp_geom.declared.Cpu.{Cpu}
 use Rattle.hwp_law.specs.hwp_geom.declared.Layout.{Layout}
 use Rattle.hwp_law.specs.hwp_geom.declared.PageKind.{PageKind}
@@ -18,7 +17,7 @@ use Rattle.hwp_law.specs.hwp_report_text.declared.Answer.{Answer}
 use Rattle.hwp_law.specs.hwp_report_text.declared.Answer.TheVariants as answers
 use Rattle.hwp_law.specs.hwp_report_text.declared.Report.{Report}
 use Rattle.hwp_law.specs.hwp_script_read.Forks.{froze, names_twin}
-use Rattle.hwp_law.specs.hwp_script_read.Valid.{AreLists, ArePaired, IsAccess, IsAnon, IsCommandOf, IsTwinFit, IsValid, NamesNoTwin}
+use Rattle.hwp_law.specs.hwp_script_read.Valid.{AreLists, IsAnon, IsCommandOf, IsTwinFit, IsValid, NamesNoTwin}
 use Rattle.hwp_law.specs.hwp_script_read.declared.Command.{Command}
 use Rattle.hwp_law.specs.hwp_script_read.declared.Command.TheVariants as commands
 use Rattle.hwp_law.specs.hwp_script_read.declared.Script.{Script}
@@ -110,15 +109,25 @@ module _ (script : Script) (report : Report) (valid : IsValid script) (cpu : Cpu
       let t = is-there (twin_of script.layout slot) (shared.twinned slot v v_is refl) in
       let fit : IsTwinFit script.layout slot t.0 = valid.twins.each slot t.0 t.1 in
       let x = some-and (slice_get script.layout.trans slot.0) (λ (a : TransDecl). IsSomeAnd (slice_get script.layout.trans t.0.0) (λ (b : TransDecl).
-          (a.process ≡ b.process) × (a.page.0 ≢ b.page.0) × IsSomeAnd (slice_get script.layout.pages a.page.0) IsAnon × IsSomeAnd (slice_get script.layout.pages b.page.0) IsAnon)) fit.paired in
+      (a.process ≡ b.process) × (a.page.0 ≢ b.page.0) × IsSomeAnd (slice_get script.layout.pages a.page.0) IsAnon × IsSomeAnd (slice_get script.layout.pages b.page.0) IsAnon)) fit.paired in
       let y = some-and (slice_get script.layout.trans t.0.0) (λ (b : TransDecl).
-          (x.0.process ≡ b.process) × (x.0.page.0 ≢ b.page.0) × IsSomeAnd (slice_get script.layout.pages x.0.page.0) IsAnon × IsSomeAnd (slice_get script.layout.pages b.page.0) IsAnon) x.2 in
+      (x.0.process ≡ b.process) × (x.0.page.0 ≢ b.page.0) × IsSomeAnd (slice_get script.layout.pages x.0.page.0) IsAnon × IsSomeAnd (slice_get script.layout.pages b.page.0) IsAnon) x.2 in
       let same : x.0 ≡ v = same_Some x.0 v (sym x.1 ∙ v_is) in
       record {
-        v = v; v_is = v_is; twin = t.0; twin_is = t.1; w = y.0; w_is = y.1;
+        v = v;
+        v_is = v_is;
+        twin = t.0;
+        twin_is = t.1;
+        w = y.0;
+        w_is = y.1;
         v_anon = ap (λ (a : TransDecl). slice_get script.layout.pages a.page.0) (sym same) ∙ anon-there (slice_get script.layout.pages x.0.page.0) y.2.2;
         w_anon = anon-there (slice_get script.layout.pages y.0.page.0) y.2.3;
-        shared = shared; thread = thread; process = process; fork_is = there; frozen = frozen; own = own;
+        shared = shared;
+        thread = thread;
+        process = process;
+        fork_is = there;
+        frozen = frozen;
+        own = own;
       }
 
   at-place : (fork : ℕ) (thread : Thread) (process : Proc) → slice_get (answered_on script report cpu) fork ≡ Some (commands.Fork thread process, answers.Done) → froze_slot script.layout slot (commands.Fork thread process) ≡ true
@@ -128,7 +137,7 @@ module _ (script : Script) (report : Report) (valid : IsValid script) (cpu : Cpu
       let l = list-there (slice_get script.lists cpu.0) fork (commands.Fork thread process) parts.0 in
       let v = map-or-there (λ (t : TransDecl). froze script.layout t.page.0 (commands.Fork thread process)) (slice_get script.layout.trans slot.0) frozen in
       from-shared fork thread process v.0 v.1
-          (fork-shares script.layout cpu.0 (take fork l.0) thread process v.0.page.0 valid.sound (valid.forks cpu.0 l.0 l.1 fork (commands.Fork thread process) l.2) v.2) there v.2 own
+      (fork-shares script.layout cpu.0 (take fork l.0) thread process v.0.page.0 valid.sound (valid.forks cpu.0 l.0 l.1 fork (commands.Fork thread process) l.2) v.2) there v.2 own
 
   pub forked : (n fork : ℕ) → freeze_from script.layout slot 0 (take n (answered_on script report cpu)) ≡ Some fork → IsForked script report cpu slot fork × (fork < n)
   forked n fork is =
@@ -136,9 +145,9 @@ module _ (script : Script) (report : Report) (valid : IsValid script) (cpu : Cpu
       let same : f.place ≡ fork = omega (arith, f.number) in
       let less : f.place < n = take-within n (answered_on script report cpu) f.place f.p f.there in
       let there : slice_get (answered_on script report cpu) f.place ≡ Some (commands.Fork f.is.thread f.is.process, answers.Done) =
-          get-take n (answered_on script report cpu) f.place f.p f.there ∙ ap (λ (c : Command). Some (c, f.p.1)) f.is.command_is ∙ ap (λ (a : Answer). Some (commands.Fork f.is.thread f.is.process, a)) f.is.done in
+      get-take n (answered_on script report cpu) f.place f.p f.there ∙ ap (λ (c : Command). Some (c, f.p.1)) f.is.command_is ∙ ap (λ (a : Answer). Some (commands.Fork f.is.thread f.is.process, a)) f.is.done in
       let own : cow_of script.layout (take f.place (answered_on script report cpu)) slot ≡ own_page =
-          ap (λ (l : List (Command × Answer)). fold (next script.layout slot) own_page l) (sym (take-first f.place n (answered_on script report cpu) (omega (arith, less)))) ∙ f.before in
+      ap (λ (l : List (Command × Answer)). fold (next script.layout slot) own_page l) (sym (take-first f.place n (answered_on script report cpu) (omega (arith, less)))) ∙ f.before in
       subst (λ (k : ℕ). IsForked script report cpu slot k × (k < n)) same (at-place f.place f.is.thread f.is.process there f.is.froze own, less)
 
 -- behind the fork it is frozen, and not switched yet

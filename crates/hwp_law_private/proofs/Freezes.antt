@@ -1,6 +1,6 @@
 -- What is frozen and what is switched, one command after another: from the fork that freezes a translation on it stays frozen, and the first
 -- store through it that is answered `stored` switches it.
-use Rattle.std.proofs.Common.{◌≡◌, ℕ, zero, suc, ◌+◌, ◌<◌, ◌==◌, ◌&&◌, ◌||◌, Bool, true, false, List, [], ◌∷◌, Option, None, Some, filter_map, fold, slice_get, take, if◌then◌else◌, refl, sym, ap, ◌∙◌, subst, true≢false, arith}
+use Rattle.std.proofs.Common.{◌≡◌, ℕ, zero, suc, ◌+◌, ◌<◌, ◌==◌, ◌&&◌, ◌||◌, Bool, true, false, List, [], ◌∷◌, Option, None, Some, filter_map, fold, slice_get, take, if◌then◌else◌, refl, sym, ap, ◌∙◌, true≢false, arith}
 use Rattle.std.specs.List.{cons_option}
 use Rattle.std.proofs.lemmas.Bool.{and_left, and_right, or_left, or_right}
 use Rattle.std.proofs.lemmas.Option.{none-some, same_Some}
@@ -13,7 +13,7 @@ use Rattle.hwp_law.specs.hwp_report_text.declared.Answer.{Answer}
 use Rattle.hwp_law.specs.hwp_report_text.declared.Answer.TheVariants as answers
 use Rattle.hwp_law.specs.hwp_script_read.declared.Command.{Command}
 use Rattle.hwp_law.specs.hwp_script_read.declared.Command.TheVariants as commands
-use Rattle.hwp_law.specs.hwp_law_commands.Cows.{Cow, cow_after, cow_of, froze_slot, own_page}
+use Rattle.hwp_law.specs.hwp_law_commands.Cows.{Cow, cow_after, froze_slot, own_page}
 use Rattle.hwp_law.specs.Private.{freeze_from, word_stored}
 
 -- ---- one command more
@@ -93,7 +93,7 @@ frozen-behind layout slot c [] fork m thread process there froze less = absurd (
 frozen-behind layout slot c (p ∷ rest) fork zero thread process there froze less = absurd (omega (arith, less))
 frozen-behind layout slot c (p ∷ rest) zero (suc m) thread process there froze less =
     frozen-on layout slot (next layout slot c p) (take m rest)
-        (ap (λ (q : Command × Answer). (next layout slot c q).frozen) (same_Some p (commands.Fork thread process, answers.Done) there) ∙ or_right c.frozen (froze_slot layout slot (commands.Fork thread process)) froze)
+    (ap (λ (q : Command × Answer). (next layout slot c q).frozen) (same_Some p (commands.Fork thread process, answers.Done) there) ∙ or_right c.frozen (froze_slot layout slot (commands.Fork thread process)) froze)
 frozen-behind layout slot c (p ∷ rest) (suc fork) (suc m) thread process there froze less =
     frozen-behind layout slot (next layout slot c p) rest fork m thread process there froze (omega (arith, less))
 

@@ -1,11 +1,9 @@
 -- What a report says of a command that has an answer: the command that was acted on, why it was answered so, and that no other answer names
 -- an entry that stored a word.
-use Rattle.std.proofs.Common.{◌≡◌, ℕ, zero, suc, ◌+◌, ◌<◌, ◌==◌, Bool, true, false, cond, List, [], ◌∷◌, Option, None, Some, filter, filter_map, length, option_and_then, option_map, slice_get, unwrap_or, refl, sym, ap, ◌∙◌, subst, true≢false, arith}
-use Rattle.std.specs.Prelude.{All, IsSomeAnd}
-use Rattle.std.specs.List.{zip}
+use Rattle.std.proofs.Common.{◌≡◌, ℕ, zero, suc, ◌+◌, ◌==◌, Bool, true, false, cond, List, [], ◌∷◌, Option, None, Some, option_and_then, option_map, slice_get, unwrap_or, refl, sym, ap, ◌∙◌, subst, true≢false, arith}
+use Rattle.std.specs.Prelude.{All}
 use Rattle.std.proofs.lemmas.Bool.{eq-eqb}
 use Rattle.std.proofs.lemmas.Option.{get_or_from_slice_get, none-some, same_Some, slice_get_within}
-use Rattle.hwp_law.specs.hwp_geom.declared.Cpu.{Cpu}
 use Rattle.hwp_law.specs.hwp_geom.declared.Mask.{Mask}
 use Rattle.hwp_law.specs.hwp_geom.declared.Thread.{Thread}
 use Rattle.hwp_law.specs.hwp_geom.declared.VSlot.{VSlot}
@@ -30,11 +28,11 @@ use Rattle.hwp_law.specs.hwp_script_read.declared.Script.{Script}
 use Rattle.hwp_law.specs.hwp_law_commands.Commands.{command_at}
 use Rattle.hwp_law.specs.hwp_law_commands.Cows.{acting}
 use Rattle.hwp_law.specs.Acting.{acting_script, copied_at}
-use Rattle.hwp_law.specs.Answers.{IsNamed, StandsAt, named_in}
+use Rattle.hwp_law.specs.Answers.{IsNamed, named_in}
 use Rattle.hwp_law.specs.Causes.{AreCaused, IsCaused, SendsSigbus}
 use Rattle.hwp_law.specs.Copies.{must_be_named}
 use Rattle.hwp_law.specs.Law.{AnswersFit}
-use Rattle.hwp_law.specs.Lines.{answer_among, answer_of, answers_in, offlined_among, offlined_in, offlined_of, seq_of}
+use Rattle.hwp_law.specs.Lines.{answer_among, answer_of, answers_in, offlined_among, offlined_of, seq_of}
 use Rattle.hwp_law.specs.Offlined.{AreOfflined, IsOffline}
 use Rattle.hwp_law.specs.Places.{entry_at}
 use Rattle.hwp_law.specs.Policies.{answered_before, answered_on}
@@ -143,8 +141,8 @@ module _ (script : Script) (report : Report) (fit : AnswersFit (acting_script sc
       let same : g.0 ≡ who.seq = omega (arith, g.1) in
       let mine = then-there (λ (list : List Command). slice_get list who.seq) (slice_get script.lists who.cpu.0) command is in
       zip-get (unwrap_or (slice_get script.lists who.cpu.0) []) (answers_in (unwrap_or (slice_get report.cpus who.cpu.0) [])) who.seq command answer
-          (ap (λ (o : Option (List Command)). slice_get (unwrap_or o []) who.seq) mine.1 ∙ mine.2)
-          (ap (λ (o : Option (List CpuLine)). slice_get (answers_in (unwrap_or o [])) who.seq) there ∙ subst (λ (k : ℕ). slice_get (answers_in rows) k ≡ Some answer) same g.2)
+      (ap (λ (o : Option (List Command)). slice_get (unwrap_or o []) who.seq) mine.1 ∙ mine.2)
+      (ap (λ (o : Option (List CpuLine)). slice_get (answers_in (unwrap_or o [])) who.seq) there ∙ subst (λ (k : ℕ). slice_get (answers_in rows) k ≡ Some answer) same g.2)
 
   -- the answer of a command that is there is the one that the report pairs it with
   pub found-pairs : (who : Who) (command : Command) (answer : Answer) → command_at script who ≡ Some command → answer_of report who ≡ Some answer → slice_get (answered_on script report who.cpu) who.seq ≡ Some (command, answer)
@@ -177,7 +175,7 @@ module _ (script : Script) (report : Report) (fit : AnswersFit (acting_script sc
       let offlined : AreOfflined (acting_script script report) report e.who = fit.offlined e.who (acted e.who (commands.Store thread slot own x)) (acted-there e.who (commands.Store thread slot own x) command) in
       let here : slice_get (offlined_of report e.who) member.0 ≡ Some l = ap (λ (o : Option (List CpuLine)). slice_get (offlined_among (unwrap_or o []) e.who.seq) member.0) some ∙ member.1 in
       let offline : IsOffline (acting_script script report) report e.who l.frame l.result =
-          all-at (λ (o : OfflinedLine). IsOffline (acting_script script report) report e.who o.frame o.result) (offlined_of report e.who) member.0 l offlined.caused here in
+      all-at (λ (o : OfflinedLine). IsOffline (acting_script script report) report e.who o.frame o.result) (offlined_of report e.who) member.0 l offlined.caused here in
       let soft = result-soft (acting_script script report) report e.who l l.result at offline named in
       let same : entries.Soft ≡ entries.Store through line (Word mask word) = sym soft.2 ∙ ap (λ (y : Entry). y.what) (same_Some soft.0 e (sym soft.1 ∙ there)) ∙ is in
       absurd (true≢false (sym (ap is_storing same)))

@@ -1,14 +1,11 @@
 -- Command after command behind the fork: once the translation is switched, the page of its twin holds on each line what a full copy would.
-use Rattle.std.proofs.Common.{◌≡◌, ◌≢◌, ℕ, zero, suc, ◌+◌, ◌<◌, ◌==◌, ◌&&◌, Bool, true, false, cond, List, [], ◌∷◌, ◌++◌, Option, None, Some, filter, filter_map, fold, length, map, option_and_then, option_map, slice_get, take, unwrap_or, if◌then◌else◌, refl, sym, ap, ◌∙◌, subst, true≢false, arith}
+use Rattle.std.proofs.Common.{◌≡◌, ◌≢◌, ℕ, zero, suc, ◌+◌, ◌<◌, ◌==◌, ◌&&◌, Bool, true, false, cond, List, [], ◌∷◌, Option, None, Some, filter, filter_map, fold, length, map, option_map, slice_get, take, unwrap_or, if◌then◌else◌, refl, sym, ap, ◌∙◌, subst, true≢false, arith}
 use Rattle.std.specs.Prelude.{Any}
-use Rattle.std.specs.List.{cons_option}
 use Rattle.std.specs.Option.{option_map_or}
 use Rattle.std.proofs.lemmas.Bool.{and_from, eq-eqb, eqb-true}
-use Rattle.std.proofs.lemmas.Option.{get_or_from_slice_get, none-some, same_Some, slice_get-get_or}
-use Rattle.hwp_law.specs.hwp_geom.Layout.{twin_of}
+use Rattle.std.proofs.lemmas.Option.{none-some, same_Some, slice_get-get_or}
 use Rattle.hwp_law.specs.hwp_geom.Limits.{line_limit}
 use Rattle.hwp_law.specs.hwp_geom.declared.Cpu.{Cpu}
-use Rattle.hwp_law.specs.hwp_geom.declared.Layout.{Layout}
 use Rattle.hwp_law.specs.hwp_geom.declared.Mask.{Mask}
 use Rattle.hwp_law.specs.hwp_geom.declared.Page.{Page}
 use Rattle.hwp_law.specs.hwp_geom.declared.Thread.{Thread}
@@ -27,21 +24,18 @@ use Rattle.hwp_law.specs.hwp_script_read.Valid.{IsValid}
 use Rattle.hwp_law.specs.hwp_script_read.declared.Command.{Command}
 use Rattle.hwp_law.specs.hwp_script_read.declared.Command.TheVariants as commands
 use Rattle.hwp_law.specs.hwp_script_read.declared.Script.{Script}
-use Rattle.hwp_law.specs.hwp_law_commands.Commands.{command_at}
 use Rattle.hwp_law.specs.hwp_law_commands.Cows.{Cow, acting, cow_of, own_page, twin_or, written_through}
 use Rattle.hwp_law.specs.Acting.{acting_script, copied_at}
 use Rattle.hwp_law.specs.Answers.{StandsAt}
-use Rattle.hwp_law.specs.Causes.{IsCaused}
 use Rattle.hwp_law.specs.Copies.{own_in}
 use Rattle.hwp_law.specs.Law.{AnswersFit, HistoriesFit}
 use Rattle.hwp_law.specs.Lines.{is_same_command}
-use Rattle.hwp_law.specs.Places.{entry_at}
-use Rattle.hwp_law.specs.Policies.{answered_before, answered_on}
+use Rattle.hwp_law.specs.Policies.{answered_on}
 use Rattle.hwp_law.specs.Private.{last_word, word_at_fork, word_before, word_in, word_stored}
 use Rattle.hwp_law_private.specs.CopiedWords.{CopiesKeepWords, KeepsWord, word_loaded}
 use Rattle.hwp_law.proofs.ActedLaws.{command-acted}
 use Rattle.hwp_law_private.proofs.Forked.{IsForked}
-use Rattle.hwp_law_private.proofs.Freezes.{IsStored, fold-next, frozen-stays, is_stored, next, not-stored, stored-is, stored-switches}
+use Rattle.hwp_law_private.proofs.Freezes.{fold-next, frozen-stays, is_stored, next, not-stored, stored-is, stored-switches}
 use Rattle.hwp_law_private.proofs.GivenAnswers.{IsAnswered, answered-at, then-there}
 use Rattle.hwp_law_private.proofs.MadeStores.{made-store}
 use Rattle.hwp_law_private.proofs.OwnPage.{frozen-word}
@@ -186,7 +180,7 @@ module _ (script : Script) (report : Report) (valid : IsValid script) (histories
       paired i e y here is =
           let o = own-pair script report valid histories fit cpu slot fork f list m i line y e listed here is (ap (λ (d : Cow). d.switched) k.cow_is ∙ on) in
           let pair : (commands.Store o.0 slot line y, answers.Stored (place f.w.page.0 i)) ≡ (commands.Store thread slot l x, answers.Stored at) =
-              same_Some (commands.Store o.0 slot line y, answers.Stored (place f.w.page.0 i)) (commands.Store thread slot l x, answers.Stored at) (sym o.1 ∙ there) in
+          same_Some (commands.Store o.0 slot line y, answers.Stored (place f.w.page.0 i)) (commands.Store thread slot l x, answers.Stored at) (sym o.1 ∙ there) in
           (ap (λ (q : Command × Answer). line_of q.0) pair, ap (λ (q : Command × Answer). number_of q.0) pair)
 
       -- the entry that the answer names
@@ -201,8 +195,8 @@ module _ (script : Script) (report : Report) (valid : IsValid script) (histories
           let found = then-there (λ (es : List Entry). slice_get es at.entry) (slice_get report.pages at.page.0) e stands_at.1 in
           let one : found.0 ≡ list = same_Some found.0 list (sym found.1 ∙ ap (slice_get report.pages) page ∙ listed) in
           let word_is : word_of cpu m line e ≡ Some x =
-              ap (λ (d : Bool). if d then word_in line e.what else None) (and_from (cpu.0 == cpu.0) (m == m) (eq-eqb cpu.0 cpu.0 refl) (eq-eqb m m refl))
-              ∙ ap (λ (d : Bool). if d then Some x else None) (eq-eqb l line same) in
+          ap (λ (d : Bool). if d then word_in line e.what else None) (and_from (cpu.0 == cpu.0) (m == m) (eq-eqb cpu.0 cpu.0 refl) (eq-eqb m m refl))
+          ∙ ap (λ (d : Bool). if d then Some x else None) (eq-eqb l line same) in
           last-mapped (word_of cpu m line) x (stored_to m) list (λ (i : ℕ) (z : Entry) (y : ℕ) here is. (paired i z y here is).1) at.entry e x (ap (λ (es : List Entry). slice_get es at.entry) (sym one) ∙ found.2) word_is
 
       none : l ≢ line → (i : ℕ) (e : Entry) → slice_get list i ≡ Some e → word_of cpu m line e ≡ None
@@ -225,8 +219,8 @@ module _ (script : Script) (report : Report) (valid : IsValid script) (histories
   loaded-base : (m word : ℕ) → fork < m → Any (λ (what : What). word_loaded line what ≡ Some word) (own_in script.layout report (who_at cpu m) slot) → word ≡ base
   loaded-base m word behind loaded =
       by-list (slice_get report.pages f.v.page.0) refl
-          (ap (λ (o : Option TransDecl). slice_get (option_map_or (λ (v : TransDecl). own_whats cpu m (unwrap_or (slice_get report.pages v.page.0) [])) o []) loaded.0) (sym f.v_is)
-          ∙ slice_get-get_or (own_in script.layout report (who_at cpu m) slot) loaded.0 loaded.1 loaded.2 ∙ ap Some loaded.3)
+      (ap (λ (o : Option TransDecl). slice_get (option_map_or (λ (v : TransDecl). own_whats cpu m (unwrap_or (slice_get report.pages v.page.0) [])) o []) loaded.0) (sym f.v_is)
+      ∙ slice_get-get_or (own_in script.layout report (who_at cpu m) slot) loaded.0 loaded.1 loaded.2 ∙ ap Some loaded.3)
     where
       by-list : (o : Option (List Entry)) → slice_get report.pages f.v.page.0 ≡ o → slice_get (own_whats cpu m (unwrap_or o [])) loaded.0 ≡ Some loaded.1 → word ≡ base
       by-list None none there = absurd (none-some loaded.1 there)
@@ -234,7 +228,7 @@ module _ (script : Script) (report : Report) (valid : IsValid script) (histories
           let o = own-entry cpu m own loaded.0 loaded.1 there in
           let w = loaded-word line word loaded.1 loaded.4 in
           frozen-word script report valid histories fit cpu slot fork f (place f.v.page.0 o.i) o.e w.slot line word w.mask (stands report.pages f.v.page.0 o.i own o.e some o.there) refl
-              (ap (λ (k : Who). k.cpu.0) o.who_is) (subst (λ (k : Who). fork < k.seq) (sym o.who_is) behind) within (o.what_is ∙ w.is)
+          (ap (λ (k : Who). k.cpu.0) o.who_is) (subst (λ (k : Who). fork < k.seq) (sym o.who_is) behind) within (o.what_is ∙ w.is)
 
   stored-copy : (m : ℕ) (c : Cow) (word : ℕ) (thread : Thread) (l x : ℕ) (at : At) → IsKept m c word → c.switched ≡ false → slice_get all m ≡ Some (commands.Store thread slot l x, answers.Stored at) → stored_to (suc m) ≡ unwrap_or (if l == line then Some x else None) word
   stored-copy m c word thread l x at k off there = now ∙ which (l == line) refl
@@ -245,14 +239,14 @@ module _ (script : Script) (report : Report) (valid : IsValid script) (histories
       keeps : KeepsWord script.layout report (who_at cpu m) slot f.twin l x line
       keeps =
           copies (who_at cpu m) thread slot f.twin l x line at
-              (command-acted script report (who_at cpu m) ∙ ap (option_map (acting script.layout (take m all))) known.command_is ∙ ap (λ (v : VSlot). Some (commands.Store thread v l x)) (through-twin m c word k))
-              (copies-some script report (who_at cpu m) thread slot l x known.command_is (cow-at m c word k) (ap (λ (d : Cow). d.switched) k.cow_is ∙ off)) known.found within
+          (command-acted script report (who_at cpu m) ∙ ap (option_map (acting script.layout (take m all))) known.command_is ∙ ap (λ (v : VSlot). Some (commands.Store thread v l x)) (through-twin m c word k))
+          (copies-some script report (who_at cpu m) thread slot l x known.command_is (cow-at m c word k) (ap (λ (d : Cow). d.switched) k.cow_is ∙ off)) known.found within
 
       now : stored_to (suc m) ≡ keeps.stored
       now =
           stored-next m
           ∙ ap (last_word (stored_to m)) (sym (ap (λ (o : Option TransDecl). filter_map (word_in line) (option_map_or (λ (v : TransDecl). own_whats cpu m (unwrap_or (slice_get report.pages v.page.0) [])) o [])) f.w_is
-              ∙ ap (λ (o : Option (List Entry)). own_words cpu m line (unwrap_or o [])) listed))
+          ∙ ap (λ (o : Option (List Entry)). own_words cpu m line (unwrap_or o [])) listed))
           ∙ keeps.last (stored_to m)
 
       which : (b : Bool) → (l == line) ≡ b → keeps.stored ≡ unwrap_or (if l == line then Some x else None) word
@@ -275,8 +269,8 @@ module _ (script : Script) (report : Report) (valid : IsValid script) (histories
       which true is =
           let s = stored-is slot p.0 p.1 is in
           let pair : p ≡ (commands.Store s.thread slot s.line s.word, answers.Stored s.at) =
-              ap (λ (q : Command). (q, p.1)) s.command_is ∙ ap (λ (v : VSlot). (commands.Store s.thread v s.line s.word, p.1)) (same-slot s.other slot (eqb-true s.other.0 slot.0 s.same))
-              ∙ ap (λ (a : Answer). (commands.Store s.thread slot s.line s.word, a)) s.answer_is in
+          ap (λ (q : Command). (q, p.1)) s.command_is ∙ ap (λ (v : VSlot). (commands.Store s.thread v s.line s.word, p.1)) (same-slot s.other slot (eqb-true s.other.0 slot.0 s.same))
+          ∙ ap (λ (a : Answer). (commands.Store s.thread slot s.line s.word, a)) s.answer_is in
           subst (λ (q : Command × Answer). IsKept (suc m) (next script.layout slot c q) (unwrap_or (word_stored slot line q) word)) (sym pair) (store s.thread s.line s.word s.at (there ∙ ap Some pair) c.switched refl)
 
   pub keep-all : (todo : List (Command × Answer)) (m : ℕ) (c : Cow) (word : ℕ) → IsKept m c word → ((j : ℕ) (p : Command × Answer) → slice_get todo j ≡ Some p → slice_get all (m + j) ≡ Some p)
@@ -286,7 +280,7 @@ module _ (script : Script) (report : Report) (valid : IsValid script) (histories
       let here : m + 0 ≡ m = omega arith in
       let now = keep-next m c word p k (ap (slice_get all) (sym here) ∙ there 0 p refl) in
       let rest = keep-all todo (suc m) (next script.layout slot c p) (unwrap_or (word_stored slot line p) word) now
-          (λ (j : ℕ) (q : Command × Answer) is. let same : suc m + j ≡ m + suc j = omega arith in ap (slice_get all) same ∙ there (suc j) q is) in
+      (λ (j : ℕ) (q : Command × Answer) is. let same : suc m + j ≡ m + suc j = omega arith in ap (slice_get all) same ∙ there (suc j) q is) in
       let far : suc m + length todo ≡ m + suc (length todo) = omega arith in
       subst (λ (w : ℕ). IsKept (m + suc (length todo)) (fold (next script.layout slot) (next script.layout slot c p) todo) w) (sym (last-cons word (word_stored slot line p) (filter_map (word_stored slot line) todo)))
-          (subst (λ (n : ℕ). IsKept n (fold (next script.layout slot) (next script.layout slot c p) todo) (last_word (unwrap_or (word_stored slot line p) word) (filter_map (word_stored slot line) todo))) far rest)
+      (subst (λ (n : ℕ). IsKept n (fold (next script.layout slot) (next script.layout slot c p) todo) (last_word (unwrap_or (word_stored slot line p) word) (filter_map (word_stored slot line) todo))) far rest)

@@ -1,6 +1,6 @@
 -- Which command made an entry that stored a word: a store of the script, through the translation itself, or through its twin where that is
 -- frozen; and it named this line and this word, but for the lines of a copy.
-use Rattle.std.proofs.Common.{◌≡◌, ◌⊎◌, inl, inr, ℕ, ◌==◌, Bool, true, false, List, Option, None, Some, option_and_then, option_map, slice_get, if◌then◌else◌, refl, sym, ap, ◌∙◌, subst, true≢false}
+use Rattle.std.proofs.Common.{◌≡◌, ◌⊎◌, inl, inr, ℕ, ◌==◌, Bool, true, false, List, Option, None, Some, option_map, if◌then◌else◌, refl, sym, ap, ◌∙◌, subst}
 use Rattle.std.specs.Prelude.{IsSomeAnd}
 use Rattle.std.proofs.lemmas.Bool.{eq-eqb, eqb-true}
 use Rattle.std.proofs.lemmas.Option.{none-some, same_Some}
@@ -9,7 +9,6 @@ use Rattle.hwp_law.specs.hwp_geom.declared.Mask.{Mask}
 use Rattle.hwp_law.specs.hwp_geom.declared.Page.{Page}
 use Rattle.hwp_law.specs.hwp_geom.declared.Thread.{Thread}
 use Rattle.hwp_law.specs.hwp_geom.declared.VSlot.{VSlot}
-use Rattle.hwp_law.specs.hwp_geom.declared.Who.{Who}
 use Rattle.hwp_law.specs.hwp_page.Step.{IsOf}
 use Rattle.hwp_law.specs.hwp_page.declared.At.{At}
 use Rattle.hwp_law.specs.hwp_page.declared.Entry.{Entry}
@@ -25,7 +24,7 @@ use Rattle.hwp_law.specs.hwp_law_commands.Commands.{command_at, has_watch}
 use Rattle.hwp_law.specs.hwp_law_commands.Cows.{acting, written_through}
 use Rattle.hwp_law.specs.Acting.{acting_script, copied_at}
 use Rattle.hwp_law.specs.Copies.{MakesCopy}
-use Rattle.hwp_law.specs.Entries.{AreMadeBy, CanStandIn, IsMadeBy, Makes}
+use Rattle.hwp_law.specs.Entries.{AreMadeBy, CanStandIn, Makes}
 use Rattle.hwp_law.specs.Places.{entry_at}
 use Rattle.hwp_law.specs.Policies.{answered_before}
 use Rattle.hwp_law.specs.Private.{word_in}
@@ -67,7 +66,6 @@ pub record IsStoreBy (layout : Layout) (earlier : List (Command × Answer)) (cop
   pub kept : copies ≡ None → (line ≡ own) × (word ≡ own_word)
 
 module _ (layout : Layout) (earlier : List (Command × Answer)) (watches : Bool) (copies : Option VSlot) (page : Page) (through : VSlot) (line word : ℕ) (mask : Mask) where
-
   abbrev Made : Command → Type 0
   Made c = (Makes watches c (entries.Store through line (Word mask word)) × CanStandIn layout c page (entries.Store through line (Word mask word)))
       ⊎ IsSomeAnd copies (λ (from : VSlot). MakesCopy layout from c page (entries.Store through line (Word mask word)))
@@ -81,7 +79,13 @@ module _ (layout : Layout) (earlier : List (Command × Answer)) (watches : Bool)
   by-command (commands.Store thread slot own own_word) (inr copy) =
       let c = copied (commands.Store thread (written_through layout earlier slot) own own_word) copy in
       record {
-        thread = thread; slot = slot; own = own; own_word = own_word; command_is = refl; through_is = c.2.0.0; page_is = c.2.1;
+        thread = thread;
+        slot = slot;
+        own = own;
+        own_word = own_word;
+        command_is = refl;
+        through_is = c.2.0.0;
+        page_is = c.2.1;
         kept = λ none. absurd (none-some c.0 (sym none ∙ c.1));
       }
   by-command c (inl made) = absurd made.0
@@ -97,6 +101,6 @@ pub made-store : (script : Script) (report : Report) → AreMadeBy (acting_scrip
     → (c : Command) × (command_at script e.who ≡ Some c) × IsStoreBy script.layout (answered_before script report e.who) (copied_at script report e.who) at.page through line word c
 made-store script report made at e through line word mask there is =
     by-some script.layout (answered_before script report e.who) (has_watch (acting_script script report)) (copied_at script report e.who) at.page through line word mask (command_at script e.who)
-        (subst (λ (o : Option Command). IsSomeAnd o (Made script.layout (answered_before script report e.who) (has_watch (acting_script script report)) (copied_at script report e.who) at.page through line word mask)) (command-acted script report e.who)
-            (subst (λ (w : What). IsSomeAnd (command_at (acting_script script report) e.who) (λ (c : Command). (Makes (has_watch (acting_script script report)) c w × CanStandIn script.layout c at.page w)
-                ⊎ IsSomeAnd (copied_at script report e.who) (λ (from : VSlot). MakesCopy script.layout from c at.page w))) is (made at e there)))
+    (subst (λ (o : Option Command). IsSomeAnd o (Made script.layout (answered_before script report e.who) (has_watch (acting_script script report)) (copied_at script report e.who) at.page through line word mask)) (command-acted script report e.who)
+    (subst (λ (w : What). IsSomeAnd (command_at (acting_script script report) e.who) (λ (c : Command). (Makes (has_watch (acting_script script report)) c w × CanStandIn script.layout c at.page w)
+    ⊎ IsSomeAnd (copied_at script report e.who) (λ (from : VSlot). MakesCopy script.layout from c at.page w))) is (made at e there)))

@@ -1,9 +1,9 @@
 -- The page of a translation that a fork froze: no command behind the fork stores there, so each load of it behind the fork reads what the page
 -- held then.
-use Rattle.std.proofs.Common.{◌≡◌, ◌⊎◌, inl, inr, ℕ, suc, ◌<◌, ◌≤◌, Bool, true, false, List, [], Option, None, Some, filter_map, fold, is_some, option_and_then, slice_get, take, unwrap_or, if◌then◌else◌, refl, sym, ap, ◌∙◌, subst, true≢false, arith}
+use Rattle.std.proofs.Common.{◌≡◌, ◌⊎◌, inl, inr, ℕ, ◌<◌, Bool, true, false, List, [], Option, None, Some, filter_map, is_some, slice_get, take, unwrap_or, if◌then◌else◌, refl, sym, ap, ◌∙◌, subst, true≢false, arith}
 use Rattle.std.specs.Option.{option_map_or}
 use Rattle.std.proofs.lemmas.Bool.{cases_order}
-use Rattle.std.proofs.lemmas.Option.{none-some, same_Some}
+use Rattle.std.proofs.lemmas.Option.{same_Some}
 use Rattle.hwp_law.specs.hwp_geom.Layout.{twin_of}
 use Rattle.hwp_law.specs.hwp_geom.Limits.{line_limit}
 use Rattle.hwp_law.specs.hwp_geom.declared.Cpu.{Cpu}
@@ -84,7 +84,7 @@ module _ (script : Script) (report : Report) (valid : IsValid script) (histories
       which (inr (inl less)) = less
       which (inr (inr past)) =
           let still = frozen-behind script.layout other own_page (answered_on script report cpu) fork who.seq f.thread f.process f.fork_is
-              (froze-slot script.layout other o (commands.Fork f.thread f.process) there ∙ ap (λ (p : ℕ). froze script.layout p (commands.Fork f.thread f.process)) page ∙ f.frozen) past in
+          (froze-slot script.layout other o (commands.Fork f.thread f.process) there ∙ ap (λ (p : ℕ). froze script.layout p (commands.Fork f.thread f.process)) page ∙ f.frozen) past in
           absurd (true≢false (sym still ∙ ap (λ (k : Cpu). (cow_of script.layout (take who.seq (answered_on script report k)) other).frozen) (sym (same-cpu who.cpu cpu mine)) ∙ unfrozen))
 
   pub store-before : (at : At) (e : Entry) (line y : ℕ) → entry_at report.pages at ≡ Some e → at.page.0 ≡ f.v.page.0 → word_in line e.what ≡ Some y → (e.who.cpu.0 ≡ cpu.0) × (e.who.seq < fork)
@@ -118,7 +118,7 @@ module _ (script : Script) (report : Report) (valid : IsValid script) (histories
       let anon = ap (slice_get script.layout.pages) page ∙ f.v_anon in
       word-read script.layout at.page l.0 history.state history.replay anon line within at.entry e through mask read l.2 is
       ∙ ap (last_word 0) (page-words l.0 cpu line fork at.entry e (page-ordered report.pages f.v.page.0 l.0 cpu histories.ordered here) l.2 mine (omega (arith, behind))
-          (λ (j : ℕ) (x : Entry) (y : ℕ) one less stores. store-before (place f.v.page.0 j) x line y (stands report.pages f.v.page.0 j l.0 x here one) refl stores))
+      (λ (j : ℕ) (x : Entry) (y : ℕ) one less stores. store-before (place f.v.page.0 j) x line y (stands report.pages f.v.page.0 j l.0 x here one) refl stores))
       ∙ sym (at-fork l.0 here)
     where
       at-fork : (list : List Entry) → slice_get report.pages f.v.page.0 ≡ Some list → word_at_fork script.layout report cpu fork slot line ≡ last_word 0 (filter_map (word_before cpu fork line) list)

@@ -1,14 +1,12 @@
 -- The words that a processor's commands stored in a page, in the order of its history, which is that of their numbers: those before a command,
 -- and behind them its own.
-use Rattle.std.proofs.Common.{◌≡◌, ◌⊎◌, inl, inr, ℕ, zero, suc, ◌<◌, ◌≤◌, ◌==◌, ◌&&◌, Bool, true, false, cond, List, [], ◌∷◌, ◌++◌, Option, None, Some, filter, filter_map, map, nat_lt, option_and_then, slice_get, take, if◌then◌else◌, refl, sym, ap, ◌∙◌, subst, true≢false, arith}
+use Rattle.std.proofs.Common.{◌≡◌, ◌⊎◌, inl, inr, ℕ, suc, ◌<◌, ◌≤◌, ◌==◌, ◌&&◌, Bool, true, false, cond, List, [], ◌∷◌, ◌++◌, Option, None, Some, filter, filter_map, map, nat_lt, option_and_then, slice_get, take, if◌then◌else◌, refl, sym, ap, ◌∙◌, subst, arith}
 use Rattle.std.specs.List.{cons_option}
 use Rattle.std.proofs.lemmas.Bool.{and_from, and_left, and_parts, and_right, cases_Bool, cases_eq, cases_order, eq-eqb, eqb-true, le-ltb, lt-ltb}
-use Rattle.std.proofs.lemmas.Option.{none-some, same_Some}
+use Rattle.std.proofs.lemmas.Option.{same_Some}
 use Rattle.hwp_law.specs.hwp_geom.declared.Cpu.{Cpu}
-use Rattle.hwp_law.specs.hwp_geom.declared.Page.{Page}
 use Rattle.hwp_law.specs.hwp_page.declared.At.{At}
 use Rattle.hwp_law.specs.hwp_page.declared.Entry.{Entry}
-use Rattle.hwp_law.specs.hwp_page.declared.What.{What}
 use Rattle.hwp_law.specs.History.{AreOrdered}
 use Rattle.hwp_law.specs.Lines.{is_same_command}
 use Rattle.hwp_law.specs.Places.{entry_at}
@@ -64,8 +62,8 @@ pub page-words : (list : List Entry) (cpu : Cpu) (line b i : ℕ) (e : Entry) �
     → filter_map (stored_on line) (take i list) ≡ filter_map (word_before cpu b line) list
 page-words list cpu line b i e ordered there mine past stores =
     first-mapped (stored_on line) (word_before cpu b line) i list
-        (λ (j : ℕ) (x : Entry) here less. before-same cpu b line x (λ (y : ℕ) is. stores j x y here less is))
-        (λ (j : ℕ) (x : Entry) here behind. before-none cpu b line x (late j x here behind))
+    (λ (j : ℕ) (x : Entry) here less. before-same cpu b line x (λ (y : ℕ) is. stores j x y here less is))
+    (λ (j : ℕ) (x : Entry) here behind. before-none cpu b line x (late j x here behind))
   where
     late : (j : ℕ) (x : Entry) → slice_get list j ≡ Some x → i ≤ j → x.who.cpu.0 ≡ cpu.0 → b ≤ x.who.seq
     late j x here behind also = which (cases_order i j)
@@ -86,14 +84,14 @@ cons-append (Some x) xs ys = refl
 
 split-at : (cpu : Cpu) (m line : ℕ) (x : Entry) (list : List Entry) (more less : Option ℕ) (same : Bool) → word_before cpu (suc m) line x ≡ more → word_before cpu m line x ≡ less → is_same_command (record { cpu = cpu; seq = m }) x.who ≡ same
     → cons_option more (filter_map (word_before cpu (suc m) line) list) ≡ cons_option less (filter_map (word_before cpu m line) list)
-        ++ filter_map (word_in line) (map (λ (e : Entry). e.what) (cond same (x ∷ filter (λ (e : Entry). is_same_command (record { cpu = cpu; seq = m }) e.who) list) (filter (λ (e : Entry). is_same_command (record { cpu = cpu; seq = m }) e.who) list)))
+    ++ filter_map (word_in line) (map (λ (e : Entry). e.what) (cond same (x ∷ filter (λ (e : Entry). is_same_command (record { cpu = cpu; seq = m }) e.who) list) (filter (λ (e : Entry). is_same_command (record { cpu = cpu; seq = m }) e.who) list)))
     → filter_map (word_before cpu (suc m) line) (x ∷ list) ≡ filter_map (word_before cpu m line) (x ∷ list) ++ own_words cpu m line (x ∷ list)
 split-at cpu m line x list more less same is also b goal =
     ap (λ (o : Option ℕ). cons_option o (filter_map (word_before cpu (suc m) line) list)) is ∙ goal
     ∙ ap (λ (o : Option ℕ). cons_option o (filter_map (word_before cpu m line) list)
-        ++ filter_map (word_in line) (map (λ (e : Entry). e.what) (cond same (x ∷ filter (λ (e : Entry). is_same_command (record { cpu = cpu; seq = m }) e.who) list) (filter (λ (e : Entry). is_same_command (record { cpu = cpu; seq = m }) e.who) list)))) (sym also)
+    ++ filter_map (word_in line) (map (λ (e : Entry). e.what) (cond same (x ∷ filter (λ (e : Entry). is_same_command (record { cpu = cpu; seq = m }) e.who) list) (filter (λ (e : Entry). is_same_command (record { cpu = cpu; seq = m }) e.who) list)))) (sym also)
     ∙ ap (λ (t : Bool). cons_option (word_before cpu m line x) (filter_map (word_before cpu m line) list)
-        ++ filter_map (word_in line) (map (λ (e : Entry). e.what) (cond t (x ∷ filter (λ (e : Entry). is_same_command (record { cpu = cpu; seq = m }) e.who) list) (filter (λ (e : Entry). is_same_command (record { cpu = cpu; seq = m }) e.who) list)))) (sym b)
+    ++ filter_map (word_in line) (map (λ (e : Entry). e.what) (cond t (x ∷ filter (λ (e : Entry). is_same_command (record { cpu = cpu; seq = m }) e.who) list) (filter (λ (e : Entry). is_same_command (record { cpu = cpu; seq = m }) e.who) list)))) (sym b)
 
 other-command : (cpu : Cpu) (m : ℕ) (x : Entry) → (x.who.cpu.0 ≡ cpu.0 → x.who.seq ≡ m → ⊥) → is_same_command (record { cpu = cpu; seq = m }) x.who ≡ false
 other-command cpu m x apart = which (is_same_command (record { cpu = cpu; seq = m }) x.who) refl
@@ -109,24 +107,24 @@ split-next cpu m line x list ordered rest = by-cpu (cases_eq x.who.cpu.0 cpu.0)
     by-order : x.who.cpu.0 ≡ cpu.0 → (x.who.seq ≡ m) ⊎ ((x.who.seq < m) ⊎ (m < x.who.seq)) → filter_map (word_before cpu (suc m) line) (x ∷ list) ≡ filter_map (word_before cpu m line) (x ∷ list) ++ own_words cpu m line (x ∷ list)
     by-order mine (inl same) =
         let none : filter_map (word_before cpu m line) list ≡ [] =
-            none-mapped (word_before cpu m line) list (λ (j : ℕ) (y : Entry) there. before-none cpu m line y (λ also.
-                let le : x.who.seq ≤ y.who.seq = ordered 0 (suc j) x y refl there (omega arith) mine also in omega (arith, le, same))) in
+        none-mapped (word_before cpu m line) list (λ (j : ℕ) (y : Entry) there. before-none cpu m line y (λ also.
+        let le : x.who.seq ≤ y.who.seq = ordered 0 (suc j) x y refl there (omega arith) mine also in omega (arith, le, same))) in
         split-at cpu m line x list (word_in line x.what) None true (before-there cpu (suc m) line x mine (omega (arith, same))) (before-none cpu m line x (λ also. omega (arith, same)))
-            (and_from (cpu.0 == x.who.cpu.0) (m == x.who.seq) (eq-eqb cpu.0 x.who.cpu.0 (sym mine)) (eq-eqb m x.who.seq (sym same)))
-            (ap (cons_option (word_in line x.what)) (rest ∙ ap (λ (l : List ℕ). l ++ own_words cpu m line list) none) ∙ ap (λ (l : List ℕ). l ++ cons_option (word_in line x.what) (own_words cpu m line list)) (sym none))
+        (and_from (cpu.0 == x.who.cpu.0) (m == x.who.seq) (eq-eqb cpu.0 x.who.cpu.0 (sym mine)) (eq-eqb m x.who.seq (sym same)))
+        (ap (cons_option (word_in line x.what)) (rest ∙ ap (λ (l : List ℕ). l ++ own_words cpu m line list) none) ∙ ap (λ (l : List ℕ). l ++ cons_option (word_in line x.what) (own_words cpu m line list)) (sym none))
     by-order mine (inr (inl less)) =
         split-at cpu m line x list (word_in line x.what) (word_in line x.what) false (before-there cpu (suc m) line x mine (omega (arith, less))) (before-there cpu m line x mine less)
-            (other-command cpu m x (λ also same. omega (arith, same, less)))
-            (ap (cons_option (word_in line x.what)) rest ∙ cons-append (word_in line x.what) (filter_map (word_before cpu m line) list) (own_words cpu m line list))
+        (other-command cpu m x (λ also same. omega (arith, same, less)))
+        (ap (cons_option (word_in line x.what)) rest ∙ cons-append (word_in line x.what) (filter_map (word_before cpu m line) list) (own_words cpu m line list))
     by-order mine (inr (inr past)) =
         split-at cpu m line x list None None false (before-none cpu (suc m) line x (λ also. omega (arith, past))) (before-none cpu m line x (λ also. omega (arith, past)))
-            (other-command cpu m x (λ also same. omega (arith, same, past))) rest
+        (other-command cpu m x (λ also same. omega (arith, same, past))) rest
 
     by-cpu : (x.who.cpu.0 ≡ cpu.0) ⊎ (x.who.cpu.0 ≡ cpu.0 → ⊥) → filter_map (word_before cpu (suc m) line) (x ∷ list) ≡ filter_map (word_before cpu m line) (x ∷ list) ++ own_words cpu m line (x ∷ list)
     by-cpu (inl mine) = by-order mine (cases_order x.who.seq m)
     by-cpu (inr other) =
         split-at cpu m line x list None None false (before-none cpu (suc m) line x (λ also. absurd (other also))) (before-none cpu m line x (λ also. absurd (other also)))
-            (other-command cpu m x (λ also same. other also)) rest
+        (other-command cpu m x (λ also same. other also)) rest
 
 ordered-rest : (cpu : Cpu) (x : Entry) (list : List Entry) → IsOrdered cpu (x ∷ list) → IsOrdered cpu list
 ordered-rest cpu x list ordered i j y z one other less mine also = ordered (suc i) (suc j) y z one other (omega (arith, less)) mine also

@@ -1,15 +1,13 @@
 -- What a load behind a fork reads is what it would read of a full copy: through a translation that isn't switched, what its page held at the
 -- fork, and else what the page of its twin holds.
-use Rattle.std.proofs.Common.{◌≡◌, ◌⊎◌, inl, inr, ℕ, suc, ◌+◌, ◌-◌, ◌<◌, ◌≤◌, Bool, true, false, List, [], ◌∷◌, ◌++◌, Option, None, Some, drop, filter_map, fold, length, option_map, slice_get, take, unwrap_or, if◌then◌else◌, length-drop, length-take-le, refl, sym, ap, ◌∙◌, subst, true≢false, arith}
+use Rattle.std.proofs.Common.{◌≡◌, ◌⊎◌, inl, inr, ℕ, suc, ◌+◌, ◌-◌, ◌<◌, ◌≤◌, Bool, true, false, List, Option, Some, drop, filter_map, fold, length, option_map, slice_get, take, unwrap_or, if◌then◌else◌, length-drop, length-take-le, refl, sym, ap, ◌∙◌, subst, true≢false, arith}
 use Rattle.std.specs.Prelude.{IsSomeAnd}
 use Rattle.std.proofs.lemmas.Bool.{cases_order}
 use Rattle.std.proofs.lemmas.List.{take-append-drop}
 use Rattle.std.proofs.lemmas.List.Sums.{fold-append}
 use Rattle.std.proofs.lemmas.Option.{none-some, same_Some, slice_get_within, some_pair_parts}
-use Rattle.hwp_law.specs.hwp_geom.Layout.{twin_of}
 use Rattle.hwp_law.specs.hwp_geom.Limits.{line_limit}
 use Rattle.hwp_law.specs.hwp_geom.declared.Cpu.{Cpu}
-use Rattle.hwp_law.specs.hwp_geom.declared.Layout.{Layout}
 use Rattle.hwp_law.specs.hwp_geom.declared.Mask.{Mask}
 use Rattle.hwp_law.specs.hwp_geom.declared.Page.{Page}
 use Rattle.hwp_law.specs.hwp_geom.declared.Thread.{Thread}
@@ -36,19 +34,18 @@ use Rattle.hwp_law.specs.Acting.{acting_script, copied_at}
 use Rattle.hwp_law.specs.Answers.{StandsAt}
 use Rattle.hwp_law.specs.Causes.{IsCaused}
 use Rattle.hwp_law.specs.Copies.{MakesCopy}
-use Rattle.hwp_law.specs.Entries.{CanStandIn, IsMadeBy, Makes}
+use Rattle.hwp_law.specs.Entries.{CanStandIn, Makes}
 use Rattle.hwp_law.specs.Law.{AnswersFit, HistoriesFit}
-use Rattle.hwp_law.specs.Places.{entry_at}
 use Rattle.hwp_law.specs.Policies.{answered_before, answered_on}
-use Rattle.hwp_law.specs.Private.{ArePrivate, freeze_from, last_word, loaded, private_word, word_at_fork, word_before, word_in, word_stored}
+use Rattle.hwp_law.specs.Private.{ArePrivate, last_word, loaded, private_word, word_at_fork, word_before, word_in, word_stored}
 use Rattle.hwp_law_private.specs.CopiedWords.{CopiesKeepWords}
 use Rattle.hwp_law.proofs.ActedLaws.{command-acted}
 use Rattle.hwp_law_private.proofs.AnswerLines.{get-drop, get-take}
 use Rattle.hwp_law_private.proofs.Contents.{word-read}
 use Rattle.hwp_law_private.proofs.Forked.{IsForked, forked, frozen-next, take-first, valid-command}
 use Rattle.hwp_law_private.proofs.Freezes.{next, unswitched-none}
-use Rattle.hwp_law_private.proofs.GivenAnswers.{IsAnswered, answered-at, found-pairs, then-there}
-use Rattle.hwp_law_private.proofs.Keeps.{IsKept, keep-all, stored_to}
+use Rattle.hwp_law_private.proofs.GivenAnswers.{answered-at, found-pairs, then-there}
+use Rattle.hwp_law_private.proofs.Keeps.{keep-all}
 use Rattle.hwp_law_private.proofs.OwnPage.{frozen-word, same-cpu}
 use Rattle.hwp_law_private.proofs.PageWords.{page-ordered, page-words, place, stands}
 use Rattle.hwp_law_private.proofs.Shares.{some-and}
@@ -84,15 +81,15 @@ module _ (script : Script) (report : Report) (who : Who) (slot : VSlot) (line wo
   abbrev Made : Command → What → Type 0
   Made c what = (Makes (has_watch (acting_script script report)) c what × CanStandIn script.layout c at.page what) ⊎ IsSomeAnd (copied_at script report who) (λ (from : VSlot). MakesCopy script.layout from c at.page what)
 
-  put : (c : Command) (v : VSlot) (l : ℕ) → Some (v, l) ≡ Some (slot, line) → Stands v l → ((mask : Mask) → StandsAt report.pages who at (entries.Load (through_to v) l (Word mask word)) → IsOf script.layout at.page (through_to v)) → l < line_limit → is_load c ≡ true
+  put : (c : Command) (v : VSlot) (l : ℕ) → ◌≡◌ {A = Option (VSlot × ℕ)} (Some (v, l)) (Some (slot, line)) → Stands v l → ((mask : Mask) → StandsAt report.pages who at (entries.Load (through_to v) l (Word mask word)) → IsOf script.layout at.page (through_to v)) → l < line_limit → is_load c ≡ true
       → IsLoadOf script report who c slot line word at
-  put c v l is stands made within loads =
+  put c v l is stood made within loads =
       let parts = some_pair_parts v slot l line is in
-      let put_in : Stands slot line = subst (Stands slot) parts.1 (subst (λ (u : VSlot). Stands u l) parts.0 stands) in
+      let put_in : Stands slot line = subst (Stands slot) parts.1 (subst (λ (u : VSlot). Stands u l) parts.0 stood) in
       record {
         mask = put_in.0;
         there = put_in.1;
-        page_is = subst (λ (u : VSlot). IsOf script.layout at.page (through_to u)) parts.0 (made stands.0 stands.1);
+        page_is = subst (λ (u : VSlot). IsOf script.layout at.page (through_to u)) parts.0 (made stood.0 stood.1);
         within = subst (λ (n : ℕ). n < line_limit) parts.1 within;
         loads = loads;
       }
@@ -113,11 +110,11 @@ module _ (script : Script) (report : Report) (who : Who) (slot : VSlot) (line wo
   load-of : (c : Command) → command_at script who ≡ Some c → loaded c ≡ Some (slot, line) → IsCommandOf script.layout who.cpu.0 c → IsCaused (acting_script script report) report who (acting script.layout earlier c) (answers.Value word at)
       → ((v : VSlot) (l : ℕ) (mask : Mask) → StandsAt report.pages who at (entries.Load (through_to v) l (Word mask word)) → Made (acting script.layout earlier c) (entries.Load (through_to v) l (Word mask word))) → IsLoadOf script report who c slot line word at
   load-of (commands.Load thread v l) there is of caused made =
-      put (commands.Load thread v l) v l is caused (λ (mask : Mask) stands. names (commands.Load thread v l) refl v l (Word mask word) refl (made v l mask stands)) of.1 refl
+      put (commands.Load thread v l) v l is caused (λ (mask : Mask) stood. names (commands.Load thread v l) refl v l (Word mask word) refl (made v l mask stood)) of.1 refl
   load-of (commands.Fetch thread v l) there is of caused made =
-      put (commands.Fetch thread v l) v l is caused (λ (mask : Mask) stands. names (commands.Fetch thread v l) refl v l (Word mask word) refl (made v l mask stands)) of.1 refl
+      put (commands.Fetch thread v l) v l is caused (λ (mask : Mask) stood. names (commands.Fetch thread v l) refl v l (Word mask word) refl (made v l mask stood)) of.1 refl
   load-of (commands.KLoad thread v l) there is of caused made =
-      put (commands.KLoad thread v l) v l is caused (λ (mask : Mask) stands. names (commands.KLoad thread v l) refl v l (Word mask word) refl (made v l mask stands)) of.1 refl
+      put (commands.KLoad thread v l) v l is caused (λ (mask : Mask) stood. names (commands.KLoad thread v l) refl v l (Word mask word) refl (made v l mask stood)) of.1 refl
   load-of c there is of caused made = absurd (none-some (slot, line) is)
 
 -- ---- what it read
@@ -128,13 +125,13 @@ module _ (script : Script) (report : Report) (valid : IsValid script) (histories
       → Made script report who (record { 0 = 0 }) 0 0 at (acting script.layout (answered_before script report who) c) what
   made-there who c at what is there =
       subst (λ (o : Option Command). IsSomeAnd o (λ (d : Command). Made script report who (record { 0 = 0 }) 0 0 at d what)) (command-acted script report who ∙ ap (option_map (acting script.layout (answered_before script report who))) is)
-          (histories.made at (record { who = who; what = what }) there)
+      (histories.made at (record { who = who; what = what }) there)
 
   load-there : (who : Who) (command : Command) (slot : VSlot) (line word : ℕ) (at : At) → command_at script who ≡ Some command → loaded command ≡ Some (slot, line) → slice_get (answered_on script report who.cpu) who.seq ≡ Some (command, answers.Value word at)
       → IsLoadOf script report who command slot line word at
   load-there who command slot line word at is loads pair =
       load-of script report who slot line word at command is loads (valid-command script valid who command is).0 (answered-at script report fit who (command, answers.Value word at) pair).caused
-          (λ (v : VSlot) (l : ℕ) (mask : Mask) stands. made-there who command at (entries.Load (through script.layout (answered_before script report who) v) l (Word mask word)) is stands)
+      (λ (v : VSlot) (l : ℕ) (mask : Mask) stood. made-there who command at (entries.Load (through script.layout (answered_before script report who) v) l (Word mask word)) is stood)
 
 page-of : (script : Script) (at : At) (u : VSlot) (d : TransDecl) → slice_get script.layout.trans u.0 ≡ Some d → IsOf script.layout at.page u → at.page.0 ≡ d.page.0
 page-of script at u d there of =
@@ -163,8 +160,8 @@ module _ (script : Script) (report : Report) (valid : IsValid script) (histories
   cow-rest : fold (next script.layout slot) start rest ≡ cow_of script.layout (take who.seq all) slot
   cow-rest =
       sym (ap (λ (l : List (Command × Answer)). fold (next script.layout slot) own_page l) (sym (take-append-drop (suc fork) (take who.seq all)))
-          ∙ fold-append (next script.layout slot) own_page (take (suc fork) (take who.seq all)) rest
-          ∙ ap (λ (c : Cow). fold (next script.layout slot) c rest) (ap (λ (l : List (Command × Answer)). fold (next script.layout slot) own_page l) (take-first (suc fork) who.seq all (omega (arith, behind))) ∙ frozen-next script report who.cpu slot fork f))
+      ∙ fold-append (next script.layout slot) own_page (take (suc fork) (take who.seq all)) rest
+      ∙ ap (λ (c : Cow). fold (next script.layout slot) c rest) (ap (λ (l : List (Command × Answer)). fold (next script.layout slot) own_page l) (take-first (suc fork) who.seq all (omega (arith, behind))) ∙ frozen-next script report who.cpu slot fork f))
 
   rest-there : (j : ℕ) (p : Command × Answer) → slice_get rest j ≡ Some p → slice_get all (suc fork + j) ≡ Some p
   rest-there j p there = get-take who.seq all (suc fork + j) p (sym (get-drop (suc fork) (take who.seq all) j) ∙ there)
@@ -200,7 +197,7 @@ module _ (script : Script) (report : Report) (valid : IsValid script) (histories
       which : (x.who.seq ≡ who.seq) ⊎ ((x.who.seq < who.seq) ⊎ (who.seq < x.who.seq)) → x.who.seq ≤ who.seq → x.who.cpu.0 ≡ who.cpu.0 → (thread : Thread) (l z : ℕ) → command_at script x.who ≡ Some (commands.Store thread slot l z) → x.who.seq < who.seq
       which (inl same) le mine thread l z is =
           let one : command_at script x.who ≡ command_at script who =
-              ap (λ (k : Cpu). command_at script (record { cpu = k; seq = x.who.seq })) (same-cpu x.who.cpu who.cpu mine) ∙ ap (λ (n : ℕ). command_at script (record { cpu = who.cpu; seq = n })) same in
+          ap (λ (k : Cpu). command_at script (record { cpu = k; seq = x.who.seq })) (same-cpu x.who.cpu who.cpu mine) ∙ ap (λ (n : ℕ). command_at script (record { cpu = who.cpu; seq = n })) same in
           let clash : command ≡ commands.Store thread slot l z = same_Some command (commands.Store thread slot l z) (sym command_is ∙ sym one ∙ is) in
           absurd (true≢false (sym load.loads ∙ ap is_load clash))
       which (inr (inl less)) le mine thread l z is = less
@@ -224,7 +221,7 @@ module _ (script : Script) (report : Report) (valid : IsValid script) (histories
       let found = then-there (λ (es : List Entry). slice_get es at.entry) (slice_get report.pages at.page.0) e load.there in
       let listed : slice_get report.pages f.w.page.0 ≡ Some found.0 = ap (slice_get report.pages) (sym page) ∙ found.1 in
       let kept = keep-all script report valid histories fit copies who.cpu slot fork f found.0 listed line load.within rest (suc fork) start base
-          (record { cow_is = frozen-next script report who.cpu slot fork f; frozen = refl; switched = λ is. absurd (true≢false (sym is)); own = λ is. refl; behind = omega arith }) rest-there in
+      (record { cow_is = frozen-next script report who.cpu slot fork f; frozen = refl; switched = λ is. absurd (true≢false (sym is)); own = λ is. refl; behind = omega arith }) rest-there in
       read-twin found.0 listed page
       ∙ ap (λ (n : ℕ). last_word 0 (filter_map (word_before who.cpu n line) found.0)) (sym rest-long)
       ∙ kept.switched (ap (λ (c : Cow). c.switched) cow-rest ∙ on)

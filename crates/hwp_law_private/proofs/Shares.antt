@@ -1,13 +1,13 @@
 -- Who can access a page that a fork froze: each translation to it has a twin and is of the parent or the child, so it is used on the fork's
 -- processor alone; and to the page of a twin the twin alone leads.
-use Rattle.std.proofs.Common.{◌≡◌, ◌≢◌, ◌⊎◌, inl, inr, ℕ, zero, suc, ◌+◌, ◌<◌, ◌≤◌, ◌==◌, ◌&&◌, ◌||◌, not, Bool, true, false, cond, List, [], ◌∷◌, Option, None, Some, count_by, is_some, length, nat_lt, slice_get, sum_by, refl, sym, ap, ◌∙◌, subst, true≢false, arith}
+use Rattle.std.proofs.Common.{◌≡◌, ◌⊎◌, inl, inr, ℕ, zero, suc, ◌+◌, ◌<◌, ◌≤◌, ◌==◌, ◌&&◌, ◌||◌, not, Bool, true, false, cond, List, [], ◌∷◌, Option, None, Some, count_by, is_some, length, slice_get, refl, sym, ap, ◌∙◌, true≢false, arith}
 use Rattle.std.specs.Prelude.{IsSomeAnd}
-use Rattle.std.specs.List.{list_any, zip}
+use Rattle.std.specs.List.{list_any}
 use Rattle.std.specs.Option.{option_map_or}
 use Rattle.std.proofs.lemmas.Bool.{and_parts, cases_order, eq-eqb, eqb-true, lt-ltb, not-false, or_parts}
 use Rattle.std.proofs.lemmas.List.Sums.{sum_by-cons}
 use Rattle.std.proofs.lemmas.Option.{none-some, same_Some, slice_get-get_or, slice_get_within}
-use Rattle.hwp_law.specs.hwp_geom.Layout.{IsSound, has_twin, twin_of}
+use Rattle.hwp_law.specs.hwp_geom.Layout.{IsSound, twin_of}
 use Rattle.hwp_law.specs.hwp_geom.declared.Layout.{Layout}
 use Rattle.hwp_law.specs.hwp_geom.declared.Proc.{Proc}
 use Rattle.hwp_law.specs.hwp_geom.declared.Thread.{Thread}
@@ -41,7 +41,6 @@ none-any test [] none i x there = absurd (none-some x there)
 none-any test (y ∷ ys) none zero x there = sym (ap test (same_Some y x there)) ∙ (or_parts (test y) (list_any test ys) none).0
 none-any test (y ∷ ys) none (suc i) x there = none-any test ys (or_parts (test y) (list_any test ys) none).1 i x there
 
-
 abbrev flag : Bool → ℕ
 flag b = cond b 1 0
 
@@ -74,7 +73,7 @@ count-two {X} test (z ∷ zs) (suc i) (suc j) x y apart here there is also =
 two-shared : (layout : Layout) (page i j : ℕ) (v w : TransDecl) → i < j → slice_get layout.trans i ≡ Some v → slice_get layout.trans j ≡ Some w → v.page.0 ≡ page → w.page.0 ≡ page → is_shared layout page ≡ true
 two-shared layout page i j v w apart here there is also =
     let many : 2 ≤ count_by (λ (t : TransDecl). t.page.0 == page) layout.trans =
-        count-two (λ (t : TransDecl). t.page.0 == page) layout.trans i j v w apart here there (eq-eqb v.page.0 page is) (eq-eqb w.page.0 page also) in
+    count-two (λ (t : TransDecl). t.page.0 == page) layout.trans i j v w apart here there (eq-eqb v.page.0 page is) (eq-eqb w.page.0 page also) in
     lt-ltb 1 (count_by (λ (t : TransDecl). t.page.0 == page) layout.trans) (omega (arith, many))
 
 -- a translation to the page of one whose page is its alone is that one
@@ -119,11 +118,11 @@ module _ (layout : Layout) (cpu : ℕ) (before : List Command) (parent child pag
       let some = any-where (λ (slot : TransDecl × Option VSlot). is_cow parent slot && (slot.0.page.0 == page)) (slots layout) frozen in
       let both : (is_cow parent some.1 ≡ true) × ((some.1.0.page.0 == page) ≡ true) = and_parts (is_cow parent some.1) (some.1.0.page.0 == page) some.3 in
       let none : (is_cow parent some.1 && (is_unfit layout parent child some.1.0.page.0 || list_any (froze layout some.1.0.page.0) before)) ≡ false =
-          none-any (λ (slot : TransDecl × Option VSlot). is_cow parent slot && (is_unfit layout parent child slot.0.page.0 || list_any (froze layout slot.0.page.0) before)) (slots layout) parts.1 some.0 some.1 some.2 in
+      none-any (λ (slot : TransDecl × Option VSlot). is_cow parent slot && (is_unfit layout parent child slot.0.page.0 || list_any (froze layout slot.0.page.0) before)) (slots layout) parts.1 some.0 some.1 some.2 in
       let either : (is_unfit layout parent child some.1.0.page.0 || list_any (froze layout some.1.0.page.0) before) ≡ false =
-          sym (ap (λ (b : Bool). b && (is_unfit layout parent child some.1.0.page.0 || list_any (froze layout some.1.0.page.0) before)) both.0) ∙ none in
+      sym (ap (λ (b : Bool). b && (is_unfit layout parent child some.1.0.page.0 || list_any (froze layout some.1.0.page.0) before)) both.0) ∙ none in
       let unfit : is_unfit layout parent child page ≡ false =
-          ap (is_unfit layout parent child) (sym (eqb-true some.1.0.page.0 page both.1)) ∙ (or_parts (is_unfit layout parent child some.1.0.page.0) (list_any (froze layout some.1.0.page.0) before) either).0 in
+      ap (is_unfit layout parent child) (sym (eqb-true some.1.0.page.0 page both.1)) ∙ (or_parts (is_unfit layout parent child some.1.0.page.0) (list_any (froze layout some.1.0.page.0) before) either).0 in
       first-of (list_any (is_odd parent child page) (slots layout)) (is_doubled layout parent page) (is_doubled layout child page) unfit
 
   even : (slot : VSlot) (v : TransDecl) → slice_get layout.trans slot.0 ≡ Some v → v.page.0 ≡ page → (is_some (twin_of layout slot) ≡ true) × (is_either parent child v.process.0 ≡ true)
@@ -132,7 +131,7 @@ module _ (layout : Layout) (cpu : ℕ) (before : List Command) (parent child pag
       let twins : length layout.twins ≡ length layout.trans = sound.twins in
       let twin : slice_get layout.twins slot.0 ≡ Some (twin_of layout slot) = slice_get-get_or layout.twins slot.0 None (omega (arith, within, twins)) in
       let odd : ((v.page.0 == page) && not (is_some (twin_of layout slot) && is_either parent child v.process.0)) ≡ false =
-          none-any (is_odd parent child page) (slots layout) fits slot.0 (v, twin_of layout slot) (zip-get layout.trans layout.twins slot.0 v (twin_of layout slot) there twin) in
+      none-any (is_odd parent child page) (slots layout) fits slot.0 (v, twin_of layout slot) (zip-get layout.trans layout.twins slot.0 v (twin_of layout slot) there twin) in
       and_parts (is_some (twin_of layout slot)) (is_either parent child v.process.0) (and-not (v.page.0 == page) (is_some (twin_of layout slot) && is_either parent child v.process.0) (eq-eqb v.page.0 page is) odd)
 
   pub shared : IsShared layout cpu page

@@ -1,15 +1,11 @@
 -- The page of a twin: commands of its processor alone store there, each through the translation whose twin it is, once that is frozen; and
 -- where no copy is made, each is answered `stored` and stores its own word on its own line.
-use Rattle.std.proofs.Common.{◌≡◌, ◌⊎◌, inl, inr, ℕ, zero, suc, ◌<◌, ◌==◌, ◌&&◌, ◌||◌, not, Bool, true, false, cond, List, [], ◌∷◌, ◌++◌, Option, None, Some, filter, filter_map, get_or, length, map, option_and_then, option_map, slice_get, slice_index_or, take, unwrap_or, if◌then◌else◌, refl, sym, ap, ◌∙◌, subst, true≢false, arith}
+use Rattle.std.proofs.Common.{◌≡◌, ◌⊎◌, inl, inr, ℕ, zero, suc, ◌==◌, ◌&&◌, not, Bool, true, false, cond, List, [], ◌∷◌, Option, None, Some, filter, filter_map, get_or, map, option_and_then, slice_get, take, if◌then◌else◌, refl, sym, ap, ◌∙◌, subst, true≢false}
 use Rattle.std.specs.List.{cons_option, list_any}
-use Rattle.std.specs.Option.{option_map_or}
-use Rattle.std.proofs.lemmas.Bool.{and_from, and_parts, and_right, eq-eqb, eqb-true, or_left, or_right}
-use Rattle.std.proofs.lemmas.Option.{none-some, same_Some}
+use Rattle.std.proofs.lemmas.Bool.{and_parts, and_right, eq-eqb, eqb-true, or_left, or_right}
+use Rattle.std.proofs.lemmas.Option.{none-some}
 use Rattle.hwp_law.specs.hwp_geom.Layout.{is_slot, is_twin, twin_of}
-use Rattle.hwp_law.specs.hwp_geom.Limits.{line_limit}
 use Rattle.hwp_law.specs.hwp_geom.declared.Cpu.{Cpu}
-use Rattle.hwp_law.specs.hwp_geom.declared.Layout.{Layout}
-use Rattle.hwp_law.specs.hwp_geom.declared.Mask.{Mask}
 use Rattle.hwp_law.specs.hwp_geom.declared.Page.{Page}
 use Rattle.hwp_law.specs.hwp_geom.declared.Thread.{Thread}
 use Rattle.hwp_law.specs.hwp_geom.declared.TransDecl.{TransDecl}
@@ -17,8 +13,6 @@ use Rattle.hwp_law.specs.hwp_geom.declared.VSlot.{VSlot}
 use Rattle.hwp_law.specs.hwp_geom.declared.Who.{Who}
 use Rattle.hwp_law.specs.hwp_page.declared.At.{At}
 use Rattle.hwp_law.specs.hwp_page.declared.Entry.{Entry}
-use Rattle.hwp_law.specs.hwp_page.declared.What.{What}
-use Rattle.hwp_law.specs.hwp_report_text.declared.Answer.{Answer}
 use Rattle.hwp_law.specs.hwp_report_text.declared.Answer.TheVariants as answers
 use Rattle.hwp_law.specs.hwp_report_text.declared.Report.{Report}
 use Rattle.hwp_law.specs.hwp_script_read.Forks.{names_twin}
@@ -29,7 +23,6 @@ use Rattle.hwp_law.specs.hwp_script_read.declared.Script.{Script}
 use Rattle.hwp_law.specs.hwp_law_commands.Commands.{command_at}
 use Rattle.hwp_law.specs.hwp_law_commands.Cows.{copied_from, cow_of}
 use Rattle.hwp_law.specs.Acting.{acting_script, copied_at}
-use Rattle.hwp_law.specs.Copies.{own_in}
 use Rattle.hwp_law.specs.Law.{AnswersFit, HistoriesFit}
 use Rattle.hwp_law.specs.Lines.{is_same_command}
 use Rattle.hwp_law.specs.Places.{entry_at}
@@ -43,7 +36,6 @@ use Rattle.hwp_law_private.proofs.PageWords.{own_words, place, stands}
 use Rattle.hwp_law_private.proofs.Shares.{alone, some-and}
 
 -- ---- names
-
 
 twin-listed : (ts : List (Option VSlot)) (i : ℕ) (x : VSlot) → get_or ts i None ≡ Some x → list_any (is_slot x) ts ≡ true
 twin-listed [] i x is = absurd (none-some x is)
@@ -100,14 +92,16 @@ module _ (script : Script) (report : Report) (valid : IsValid script) (histories
       done : (c : Command) (thread : Thread) (own x : ℕ) → command_at script e.who ≡ Some c → c ≡ commands.Store thread slot own x → IsCommandOf script.layout e.who.cpu.0 c → (copied_at script report e.who ≡ None → (line ≡ own) × (y ≡ x)) → IsTwinStore script report cpu slot line y e.who
       done c thread own x is command of kept = record {
         mine = f.shared.here slot f.v e.who.cpu.0 thread f.v_is refl (subst (IsCommandOf script.layout e.who.cpu.0) command of).0;
-        thread = thread; own = own; own_word = x;
+        thread = thread;
+        own = own;
+        own_word = x;
         command_is = is ∙ ap Some command;
         kept = kept;
       }
 
       which : (through other : VSlot) → through ≡ f.twin → is_twin script.layout through ≡ true → is_twin script.layout other ≡ false
           → (((cow_of script.layout (answered_before script report e.who) other).frozen ≡ false) × (through ≡ other))
-              ⊎ (((cow_of script.layout (answered_before script report e.who) other).frozen ≡ true) × ((twin_of script.layout other ≡ Some through) ⊎ ((twin_of script.layout other ≡ None) × (through ≡ other))))
+          ⊎ (((cow_of script.layout (answered_before script report e.who) other).frozen ≡ true) × ((twin_of script.layout other ≡ Some through) ⊎ ((twin_of script.layout other ≡ None) × (through ≡ other))))
           → (c : Command) (thread : Thread) (own x : ℕ) → command_at script e.who ≡ Some c → c ≡ commands.Store thread other own x → IsCommandOf script.layout e.who.cpu.0 c → (copied_at script report e.who ≡ None → (line ≡ own) × (y ≡ x)) → IsTwinStore script report cpu slot line y e.who
       which through other is twin named (inl (unfrozen, same)) c thread own x at_c command of kept = absurd (true≢false (sym twin ∙ ap (is_twin script.layout) same ∙ named))
       which through other is twin named (inr (frozen, inr (none, same))) c thread own x at_c command of kept = absurd (true≢false (sym twin ∙ ap (is_twin script.layout) same ∙ named))
@@ -126,7 +120,7 @@ word_of cpu m line e = if is_same_command (who_at cpu m) e.who then word_in line
 
 fused-next : (cpu : Cpu) (m line : ℕ) (e : Entry) (rest : List Entry) (b : Bool) → own_words cpu m line rest ≡ filter_map (word_of cpu m line) rest
     → filter_map (word_in line) (map (λ (x : Entry). x.what) (cond b (e ∷ filter (λ (x : Entry). is_same_command (who_at cpu m) x.who) rest) (filter (λ (x : Entry). is_same_command (who_at cpu m) x.who) rest)))
-        ≡ cons_option (if b then word_in line e.what else None) (filter_map (word_of cpu m line) rest)
+    ≡ cons_option (if b then word_in line e.what else None) (filter_map (word_of cpu m line) rest)
 fused-next cpu m line e rest true same = ap (cons_option (word_in line e.what)) same
 fused-next cpu m line e rest false same = same
 
@@ -150,6 +144,14 @@ word-of-there cpu m line word e is = which (is_same_command (who_at cpu m) e.who
     which false e_is none = absurd (none-some word none)
     which true e_is stores = record { who_is = same-command cpu m e.who e_is; stores = stores }
 
+-- the pair of a command with its answer, said of its number
+moved : (script : Script) (report : Report) (cpu : Cpu) (slot : VSlot) (m line y : ℕ) (at : At) (who : Who) (thread : Thread) (own own_word : ℕ) → who ≡ who_at cpu m → (line ≡ own) × (y ≡ own_word)
+    → slice_get (answered_on script report who.cpu) who.seq ≡ Some (commands.Store thread slot own own_word, answers.Stored at) → slice_get (answered_on script report cpu) m ≡ Some (commands.Store thread slot line y, answers.Stored at)
+moved script report cpu slot m line y at who thread own own_word is kept pair =
+    ap (λ (w : Who). slice_get (answered_on script report w.cpu) w.seq) (sym is) ∙ pair
+    ∙ ap (λ (n : ℕ). Some (commands.Store thread slot n own_word, answers.Stored at)) (sym kept.0)
+    ∙ ap (λ (n : ℕ). Some (commands.Store thread slot line n, answers.Stored at)) (sym kept.1)
+
 module _ (script : Script) (report : Report) (valid : IsValid script) (histories : HistoriesFit (acting_script script report) (copied_at script report) report) (fit : AnswersFit (acting_script script report) (copied_at script report) report)
     (cpu : Cpu) (slot : VSlot) (fork : ℕ) (f : IsForked script report cpu slot fork) where
   -- a word that a command stored in the page, once the translation is switched, is that of a store through it on this line, which was
@@ -162,11 +164,8 @@ module _ (script : Script) (report : Report) (valid : IsValid script) (histories
       let t = twin-store script report valid histories cpu slot fork f (place f.w.page.0 i) e line y at refl o.stores in
       let s = stored-word line y e.what o.stores in
       let switched : (cow_of script.layout (answered_before script report e.who) slot).switched ≡ true = ap (λ (w : Who). (cow_of script.layout (answered_before script report w) slot).switched) o.who_is ∙ on in
-      let none : copied_at script report e.who ≡ None = copies-none script report e.who t.thread slot t.own t.own_word t.command_is switched in
-      let k : (line ≡ t.own) × (y ≡ t.own_word) = t.kept none in
-      let pair = named-stored script report fit (place f.w.page.0 i) e s.slot line y s.mask t.thread slot t.own t.own_word at s.is t.command_is none in (
+      let none : copied_at script report e.who ≡ None = copies-none script report e.who t.thread slot t.own t.own_word t.command_is switched in (
         t.thread,
-        ap (λ (w : Who). slice_get (answered_on script report w.cpu) w.seq) (sym o.who_is) ∙ pair
-        ∙ ap (λ (n : ℕ). Some (commands.Store t.thread slot n t.own_word, answers.Stored (place f.w.page.0 i))) (sym k.0)
-        ∙ ap (λ (n : ℕ). Some (commands.Store t.thread slot line n, answers.Stored (place f.w.page.0 i))) (sym k.1),
+        moved script report cpu slot m line y (place f.w.page.0 i) e.who t.thread t.own t.own_word o.who_is (t.kept none)
+            (named-stored script report fit (place f.w.page.0 i) e s.slot line y s.mask t.thread slot t.own t.own_word at s.is t.command_is none),
       )

@@ -1,6 +1,6 @@
 -- What `CopiesKeepWords` says of small reports: the copy of the report of a fork by hand keeps the words of its page; one that leaves out a
 -- line doesn't, nor one that stores another word on a line than it loaded there.
-use Rattle.std.proofs.Common.{◌≡◌, ◌⊎◌, inl, inr, ℕ, zero, suc, ◌+◌, ◌<◌, ◌≤◌, ◌==◌, Bool, List, [], ◌∷◌, ◌++◌, None, Some, true, false, filter, filter_map, map, slice_get, if◌then◌else◌, refl, sym, ap, ◌∙◌, subst, arith}
+use Rattle.std.proofs.Common.{◌≡◌, ◌⊎◌, inl, inr, ℕ, zero, suc, ◌+◌, ◌<◌, ◌≤◌, ◌==◌, Bool, List, [], ◌∷◌, ◌++◌, Option, None, Some, true, false, filter, filter_map, map, slice_get, if◌then◌else◌, refl, sym, ap, ◌∙◌, subst, arith}
 use Rattle.std.specs.Prelude.{Any}
 use Rattle.std.specs.List.{cons_option}
 use Rattle.std.proofs.lemmas.Bool.{cases_eq, eq-eqb, ne_eqb}
@@ -89,7 +89,7 @@ last-there line before within =
 loaded-there : (line : ℕ) → line < line_limit → Any (λ (what : What). word_loaded line what ≡ Some (held line)) (own_in shared forked (command 2) (slot 1))
 loaded-there line within =
     let there : slice_get (own_in shared forked (command 2) (slot 1)) (suc line) ≡ Some (load_of (0 + line)) =
-    loads-at line 0 64 (record { who = command 2; what = entries.Free (slot 1) } ∷ record { who = command 3; what = entries.Load (slot 0) 5 (Word (record { 0 = 0 }) 77) } ∷ []) (omega (arith, within)) in
+        loads-at line 0 64 (record { who = command 2; what = entries.Free (slot 1) } ∷ record { who = command 3; what = entries.Load (slot 0) 5 (Word (record { 0 = 0 }) 77) } ∷ []) (omega (arith, within)) in
     let same : 0 + line ≡ line = omega arith in
     let here : slice_get (own_in shared forked (command 2) (slot 1)) (suc line) ≡ Some (load_of line) = there ∙ ap (λ (n : ℕ). Some (load_of n)) same in (
       suc line,
@@ -129,9 +129,9 @@ child : Keeps 0 2
 child = λ other from to own word line at is copied answered within.
     let c : commands.Store (thread 1) (slot 3) 5 88 ≡ commands.Store other to own word = same_Some (commands.Store (thread 1) (slot 3) 5 88) (commands.Store other to own word) is in
     subst (λ (v : VSlot). KeepsWord shared forked (command 2) v to own word line) (same_Some (slot 1) from copied)
-    (subst (λ (v : VSlot). KeepsWord shared forked (command 2) (slot 1) v own word line) (ap slot_in c)
-    (subst (λ (n : ℕ). KeepsWord shared forked (command 2) (slot 1) (slot 3) n word line) (ap line_in c)
-    (subst (λ (n : ℕ). KeepsWord shared forked (command 2) (slot 1) (slot 3) 5 n line) (ap number_in c) (child-keeps line within))))
+        (subst (λ (v : VSlot). KeepsWord shared forked (command 2) (slot 1) v own word line) (ap slot_in c)
+            (subst (λ (n : ℕ). KeepsWord shared forked (command 2) (slot 1) (slot 3) n word line) (ap line_in c)
+                (subst (λ (n : ℕ). KeepsWord shared forked (command 2) (slot 1) (slot 3) 5 n line) (ap number_in c) (child-keeps line within))))
 
 each-keeps : (cpu n : ℕ) → Keeps cpu n
 each-keeps zero zero = λ other from to own word line at is copied answered within. absurd (none-some from copied)

@@ -1,5 +1,5 @@
 -- No load of a report got bad bytes.
-use Rattle.std.proofs.Common.{◌≡◌, ℕ, List, [], Some, ap, ◌∙◌, subst, Option}
+use Rattle.std.proofs.Common.{◌≡◌, ℕ, List, [], Option, Some, slice_get, ap, ◌∙◌, subst}
 use Rattle.std.specs.Prelude.{IsTrue, slice_index}
 use Rattle.std.specs.FinSet as set
 use Rattle.hwp_law_records.specs.hwp_geom.declared.Who.{Who}

@@ -109,7 +109,7 @@ watched-after layout earlier c a notes before = refl
 length-acted : (layout : Layout) (earlier : List (Command × Answer)) (list : List Command) (answers : List Answer) → length (acting_from layout earlier list answers) ≡ length list
 length-acted layout earlier [] answers = refl
 length-acted layout earlier (c ∷ cs) [] = ap suc (length-acted layout earlier cs [])
-length-acted layout earlier (c ∷ cs) (a ∷ as) = ap suc (length-acted layout (earlier ++ (c, a) ∷ []) cs as)
+length-acted layout earlier (c ∷ cs) (a ∷ rest) = ap suc (length-acted layout (earlier ++ (c, a) ∷ []) cs rest)
 
 watched-acted : (layout : Layout) (earlier : List (Command × Answer)) (list : List Command) (rows : List Row) (n : ℕ) (before : Option Watched) → watched_along layout (acting_from layout earlier list (given rows)) (take n rows) before ≡ watched_along layout list (take n rows) before
 watched-acted layout earlier [] rows n before = refl

@@ -1,8 +1,8 @@
 -- The lines of machine checks among entries, by the number of accesses before them.
-use Rattle.std.proofs.Common.{◌≡◌, ◌≢◌, ℕ, zero, suc, ◌+◌, ◌<◌, ◌==◌, Bool, true, false, cond, List, [], ◌∷◌, ◌++◌, append_assoc, filter, length, map, replicate, flat_map, refl, sym, ap, ◌∙◌, subst, arith}
+use Rattle.std.proofs.Common.{◌≡◌, ◌≢◌, ℕ, zero, suc, ◌+◌, ◌<◌, ◌==◌, Bool, true, false, cond, List, [], ◌∷◌, ◌++◌, append_assoc, filter, length, map, replicate, flat_map, refl, sym, ap, ◌∙◌, arith}
 use Rattle.std.specs.Int.{from_bool}
 use Rattle.std.specs.List.{range_with_len}
-use Rattle.std.proofs.lemmas.Bool.{both_ways, eq-eqb, eqb-true, false_from_ne_true, ne_eqb}
+use Rattle.std.proofs.lemmas.Bool.{both_ways, eq-eqb, eqb-true, ne_eqb}
 use Rattle.std.proofs.lemmas.List.{map-append}
 use Rattle.std.proofs.lemmas.List.Elements.{filter-append}
 use Rattle.hwp_law_run.specs.hwp_geom.declared.Mask.{Mask}
@@ -93,8 +93,8 @@ low-lines test (w ∷ ws) k n less = low-one test w ws k n less (λ i below. low
 
 -- one that is no check
 pass-one : (test : What → Bool) (w : What) (ws : List What) (n : ℕ) → is_check w ≡ false → checks_by test n (w ∷ ws) ≡ checks_by test (n + from_bool (test w)) ws
-pass-one test (entries.Mce slot line mask) ws n no = absurd (both_ways true no refl)
-pass-one test w ws n no = refl
+pass-one test (entries.Mce slot line mask) ws n misses = absurd (both_ways true misses refl)
+pass-one test w ws n misses = refl
 
 -- those in a page, from a number of accesses on
 abbrev pub seen : Page → (What → Bool) → ℕ → List Made → List (ℕ × ℕ)
@@ -130,15 +130,22 @@ quiet-all page test n (m ∷ ms) l each = quiet-one page test n m (ms ++ l) (eac
 
 -- an access that was answered
 pub seen-access : (page : Page) (test : What → Bool) (n : ℕ) (m : Made) (l : List Made) → m.page ≡ page → is_check m.entry.what ≡ false → test m.entry.what ≡ true → seen page test n (m ∷ l) ≡ seen page test (n + 1) l
-seen-access page test n m l own no yes =
+seen-access page test n m l own misses hits =
     seen-in page test n m l own
-    ∙ pass-one test m.entry.what (map (λ (x : Made). x.entry.what) (in_page page l)) n no
-    ∙ ap (λ (b : Bool). checks_by test (n + from_bool b) (map (λ (x : Made). x.entry.what) (in_page page l))) yes
+    ∙ pass-one test m.entry.what (map (λ (x : Made). x.entry.what) (in_page page l)) n misses
+    ∙ ap (λ (b : Bool). checks_by test (n + from_bool b) (map (λ (x : Made). x.entry.what) (in_page page l))) hits
+
+-- a machine check in the page, at the line
+pub record IsCheckAt (page : Page) (line : ℕ) (m : Made) : Type 0 where
+  pub page_is : m.page ≡ page
+  pub slot : VSlot
+  pub mask : Mask
+  pub what_is : m.entry.what ≡ entries.Mce slot line mask
 
 -- on the way of an access to the line: no access, and a check only in the page, at the line
 pub record IsWay (page : Page) (line : ℕ) (test : What → Bool) (m : Made) : Type 0 where
   pub fails : test m.entry.what ≡ false
-  pub checked : is_check m.entry.what ≡ true → (m.page ≡ page) × ((slot : VSlot) × (mask : Mask) × (m.entry.what ≡ entries.Mce slot line mask))
+  pub checked : is_check m.entry.what ≡ true → IsCheckAt page line m
 
 way-one : (page : Page) (line : ℕ) (test : What → Bool) (n : ℕ) (m : Made) (ms l : List Made) → IsWay page line test m → seen page test n (ms ++ l) ≡ replicate (num is_check ms) (n, line) ++ seen page test n l
     → seen page test n (m ∷ (ms ++ l)) ≡ replicate (num is_check (m ∷ ms)) (n, line) ++ seen page test n l
@@ -147,8 +154,8 @@ way-one page line test n m ms l way rest = which (is_check m.entry.what) refl
     which : (b : Bool) → is_check m.entry.what ≡ b → seen page test n (m ∷ (ms ++ l)) ≡ replicate (length (cond b (m ∷ filter (λ (x : Made). is_check x.entry.what) ms) (filter (λ (x : Made). is_check x.entry.what) ms))) (n, line) ++ seen page test n l
     which true is =
         let checked = way.checked is in
-        seen-in page test n m (ms ++ l) checked.0
-        ∙ ap (λ (w : What). checks_by test n (w ∷ map (λ (x : Made). x.entry.what) (in_page page (ms ++ l)))) checked.1.2
+        seen-in page test n m (ms ++ l) checked.page_is
+        ∙ ap (λ (w : What). checks_by test n (w ∷ map (λ (x : Made). x.entry.what) (in_page page (ms ++ l)))) checked.what_is
         ∙ ap (λ (c : List (ℕ × ℕ)). (n, line) ∷ c) rest
     which false is = quiet-one page test n m (ms ++ l) (record { unchecked = λ own. is; fails = λ own. way.fails }) ∙ rest
 
@@ -158,8 +165,8 @@ way-all page line test n (m ∷ ms) l each = way-one page line test n m ms l (ea
 
 -- where there is no check, there is none of the page
 none-one : (page : Page) (test : What → Bool) (n : ℕ) (m : Made) (l : List Made) (b : Bool) → is_check m.entry.what ≡ false → ((k : ℕ) → seen page test k l ≡ []) → checks_by test n (map (λ (x : Made). x.entry.what) (cond b (m ∷ in_page page l) (in_page page l))) ≡ []
-none-one page test n m l true no rest = pass-one test m.entry.what (map (λ (x : Made). x.entry.what) (in_page page l)) n no ∙ rest (n + from_bool (test m.entry.what))
-none-one page test n m l false no rest = rest n
+none-one page test n m l true misses rest = pass-one test m.entry.what (map (λ (x : Made). x.entry.what) (in_page page l)) n misses ∙ rest (n + from_bool (test m.entry.what))
+none-one page test n m l false misses rest = rest n
 
 none-first : (m : Made) (l : List Made) → num is_check (m ∷ l) ≡ 0 → (is_check m.entry.what ≡ false) × (num is_check l ≡ 0)
 none-first m l none = which (is_check m.entry.what) none

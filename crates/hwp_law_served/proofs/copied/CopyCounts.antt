@@ -1,11 +1,10 @@
 -- How many loads and stores a copy made: so many as the access says that comes.
-use Rattle.std.proofs.Common.{◌≡◌, ◌⊎◌, inl, inr, ℕ, suc, ◌+◌, ◌<◌, ◌≤◌, ◌==◌, Bool, true, false, cond, if◌then◌else◌, nat_lt, List, [], ◌∷◌, ◌++◌, Option, Some, filter, length, map, refl, sym, ap, ◌∙◌, subst, arith}
+use Rattle.std.proofs.Common.{◌≡◌, inl, inr, ℕ, suc, ◌+◌, ◌<◌, ◌≤◌, ◌==◌, Bool, true, false, cond, if◌then◌else◌, nat_lt, List, [], ◌∷◌, ◌++◌, filter, length, map, refl, sym, ap, ◌∙◌, subst, arith}
 use Rattle.std.specs.Prelude.{count_by}
 use Rattle.std.proofs.lemmas.Bool.{both_ways, eq-eqb, false_from_ne_true, ltb-false, ltb-true}
 use Rattle.std.proofs.lemmas.List.{length-append}
 use Rattle.std.proofs.lemmas.List.Elements.{filter-append}
 use Rattle.std.proofs.lemmas.List.Sums.{length-filter}
-use Rattle.std.proofs.lemmas.Option.{none-some}
 use Rattle.hwp_law_run.specs.hwp_geom.declared.Layout.{Layout}
 use Rattle.hwp_law_run.specs.hwp_geom.declared.Page.{Page}
 use Rattle.hwp_law_run.specs.hwp_geom.declared.VSlot.{VSlot}
@@ -27,7 +26,7 @@ use Rattle.hwp_fork.specs.declared.cow.CowAt.{CowAt}
 use Rattle.hwp_fork.specs.declared.cow.CowAt.TheVariants as at
 use Rattle.hwp_fork.specs.Cows as cows
 use Rattle.hwp_cpu_copy.specs.Copyings.{load_of, store_of}
-use Rattle.hwp_cpu_copy.specs.Runs.{AreRuns, IsAccessRun, IsBetween, IsFreeRun, IsRun, Run, made_by, words_of}
+use Rattle.hwp_cpu_copy.specs.Runs.{AreRuns, IsAccessRun, IsBetween, IsRun, Run, made_by, words_of}
 use Rattle.hwp_law_served.specs.Copied.{HasCopied}
 use Rattle.hwp_law_served.proofs.copied.OwnIn.{in_page}
 use Rattle.hwp_law_served.proofs.copied.RunFacts.{IsSoOf, of-runs}

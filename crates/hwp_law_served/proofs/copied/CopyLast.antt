@@ -17,7 +17,6 @@ use Rattle.hwp_law_run.specs.hwp_core_task.Known.{deeds, is_by}
 use Rattle.hwp_law_run.specs.hwp_script_read.declared.Command.{Command}
 use Rattle.hwp_law_run.specs.hwp_script_read.declared.Command.TheVariants as commands
 use Rattle.hwp_law_run.specs.hwp_script_read.declared.Script.{Script}
-use Rattle.hwp_law_run.specs.hwp_report_text.declared.Answer.{Answer}
 use Rattle.hwp_law_run.specs.hwp_report_text.declared.Answer.TheVariants as answers
 use Rattle.hwp_law_run.specs.hwp_report_text.declared.Report.{Report}
 use Rattle.hwp_law_run.specs.hwp_law.Copies.{AreLastStores, is_store}
@@ -30,7 +29,7 @@ use Rattle.hwp_law_served.proofs.RunEnds.{IsEnd, IsOf, filter-has, of-made, own-
 use Rattle.hwp_law_served.proofs.marks.Marked.{same-self}
 use Rattle.hwp_law_served.proofs.copied.MadeOrder.{IsInOrder, split-at}
 use Rattle.hwp_law_served.proofs.copied.OwnIn.{deeds-order}
-use Rattle.hwp_law_served.proofs.copied.StoredLast.{IsStoredLast, stored-last}
+use Rattle.hwp_law_served.proofs.copied.StoredLast.{stored-last}
 
 at-seam : (front : List Made) (x : Made) (behind : List Made) → slice_get (front ++ x ∷ behind) (length front) ≡ Some x
 at-seam [] x behind = refl

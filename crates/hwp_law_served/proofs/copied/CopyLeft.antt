@@ -1,6 +1,6 @@
 -- What stands behind the accesses of a copy that went well, whatever it was answered: entries on the way of the access that comes, and
 -- behind them no machine check.
-use Rattle.std.proofs.Common.{◌≡◌, ◌⊎◌, inl, inr, ℕ, Bool, true, false, cond, List, [], ◌∷◌, ◌++◌, Option, Some, length, append-nil, refl, sym, ap, ◌∙◌, subst}
+use Rattle.std.proofs.Common.{◌≡◌, inl, inr, ℕ, Bool, false, cond, List, [], ◌∷◌, Some, length, append-nil, refl, sym, ap, ◌∙◌, subst}
 use Rattle.std.proofs.lemmas.Option.{none-some, same_Some}
 use Rattle.hwp_law_run.specs.hwp_geom.declared.Layout.{Layout}
 use Rattle.hwp_law_run.specs.hwp_geom.declared.Page.{Page}
@@ -31,12 +31,15 @@ module _ (store : Request) (page : Page) (sub : Sub) where
   left-none : (rest : List Made) → rest ≡ [] → IsLeft (request_by store page sub) rest
   left-none rest is = record { way = []; behind = []; rest_is = is; such = λ a comes i m there. absurd (none-some m there); unchecked = refl }
 
+  such-of : (rest : List Made) → IsBehind store page sub rest → (a : Request) → request_by store page sub ≡ Some a → EachMember (IsBetween a) rest
+  such-of rest b a comes = subst (λ (x : Request). EachMember (IsBetween x) rest) (same_Some b.access a (sym b.access_is ∙ comes)) b.such
+
   left-behind : (rest : List Made) → IsBehind store page sub rest → IsLeft (request_by store page sub) rest
   left-behind rest b = record {
     way = rest;
     behind = [];
     rest_is = sym (append-nil rest);
-    such = λ a comes. subst (λ (x : Request). EachMember (IsBetween x) rest) (same_Some b.access a (sym b.access_is ∙ comes)) b.such;
+    such = such-of rest b;
     unchecked = refl;
   }
 
@@ -45,7 +48,7 @@ module _ (store : Request) (page : Page) (sub : Sub) where
     way = is.front;
     behind = is.last ∷ [];
     rest_is = is.rest_is;
-    such = (left-behind is.front is.behind).such;
+    such = such-of is.front is.behind;
     unchecked = ap (λ (b : Bool). length (cond b (is.last ∷ []) [])) (ap is_check is.refused.2 ∙ no-check is.behind.access.kind is.behind.access.slot is.behind.access.line is.behind.access.thread);
   }
 

@@ -1,14 +1,12 @@
 -- The lines of the machine checks of a store that copies a page, in their order: those of each access, and behind them those of the one that
 -- comes.
-use Rattle.std.proofs.Common.{◌≡◌, ◌≢◌, ◌⊎◌, inl, inr, ℕ, zero, suc, ◌+◌, ◌<◌, ◌≤◌, ◌==◌, Bool, true, false, cond, if◌then◌else◌, nat_lt, List, [], ◌∷◌, ◌++◌, append-nil, append_assoc, Option, Some, None, filter, flat_map, length, map, replicate, slice_get, refl, sym, ap, ◌∙◌, subst, arith}
-use Rattle.std.specs.List.{range_with_len}
+use Rattle.std.proofs.Common.{◌≡◌, ◌⊎◌, inl, inr, ℕ, zero, suc, ◌+◌, ◌<◌, ◌≤◌, ◌==◌, Bool, true, false, cond, if◌then◌else◌, nat_lt, List, [], ◌∷◌, ◌++◌, append-nil, append_assoc, Option, Some, None, length, map, replicate, refl, sym, ap, ◌∙◌, subst, arith}
 use Rattle.std.proofs.lemmas.Bool.{both_ways, eq-eqb, false_from_ne_true, ltb-false, ltb-true}
 use Rattle.std.proofs.lemmas.List.{length-append, length-map}
 use Rattle.std.proofs.lemmas.List.Elements.{filter-append}
-use Rattle.std.proofs.lemmas.Option.{none-some, same_Some}
+use Rattle.std.proofs.lemmas.Option.{none-some}
 use Rattle.hwp_law_run.specs.hwp_geom.declared.Cpu.{Cpu}
 use Rattle.hwp_law_run.specs.hwp_geom.declared.Layout.{Layout}
-use Rattle.hwp_law_run.specs.hwp_geom.declared.Mask.{Mask}
 use Rattle.hwp_law_run.specs.hwp_geom.declared.Page.{Page}
 use Rattle.hwp_law_run.specs.hwp_geom.declared.Thread.{Thread}
 use Rattle.hwp_law_run.specs.hwp_geom.declared.VSlot.{VSlot}
@@ -21,7 +19,6 @@ use Rattle.hwp_law_run.specs.hwp_page.Step.{IsOf}
 use Rattle.hwp_law_run.specs.hwp_core_rule.declared.Made.{Made}
 use Rattle.hwp_law_run.specs.hwp_core_rule.declared.State.{State}
 use Rattle.hwp_law_run.specs.hwp_core_rule.declared.View.{View}
-use Rattle.hwp_law_run.specs.hwp_core_rule.Lists.{EachMember}
 use Rattle.hwp_law_run.proofs.of_hwp_core_rule.Lists.{each-push}
 use Rattle.hwp_law_run.specs.hwp_core_task.Boards.{view_of}
 use Rattle.hwp_law_run.specs.hwp_core_task.Known.{IsOnTheWay, deeds, is_failure}
@@ -29,8 +26,7 @@ use Rattle.hwp_law_run.specs.hwp_script_read.declared.Command.TheVariants as com
 use Rattle.hwp_law_run.specs.hwp_script_read.declared.Script.{Script}
 use Rattle.hwp_law_run.specs.hwp_report_text.declared.Report.{Report}
 use Rattle.hwp_law_run.specs.hwp_law_commands.Commands.{command_at, is_check}
-use Rattle.hwp_law_run.specs.hwp_law.Copies.{copy_checks, is_load, is_store, lines_at, own_in}
-use Rattle.hwp_law_run.specs.hwp_law.Copies as copying
+use Rattle.hwp_law_run.specs.hwp_law.Copies.{checks_by, copy_checks, is_load, is_store, own_in}
 use Rattle.hwp_cpu_row.specs.hwp_cpu_check.Checks.{Check, left_by}
 use Rattle.hwp_cpu_row.specs.hwp_cpu_check.declared.EventOutcome.{EventOutcome}
 use Rattle.hwp_fault.specs.declared.Request.{Request}
@@ -44,9 +40,9 @@ use Rattle.hwp_fork.specs.Cows as cows
 use Rattle.hwp_cpu_access.specs.Fits.{checks_in}
 use Rattle.hwp_cpu_copy.specs.Copyings.{load_of, request_by, store_of}
 use Rattle.hwp_cpu_copy.specs.Runs.{AreRuns, IsAccessRun, IsBetween, IsFreeRun, IsRun, Run, made_by, words_of}
-use Rattle.hwp_law_served.specs.Copied.{AreChecksOf, IsCopyTold, IsLeft, store_by, sub_next}
+use Rattle.hwp_law_served.specs.Copied.{AreChecksOf, HasCopied, IsCopyTold, IsLeft, store_by, sub_next}
 use Rattle.hwp_law_served.proofs.RunEnds.{IsEnd}
-use Rattle.hwp_law_served.proofs.copied.CheckLines.{IsQuiet, IsWay, by-load, by-next, by-none, by-store, line_by_line, low-seen, none-seen, quiet-all, seen, seen-access, way-all}
+use Rattle.hwp_law_served.proofs.copied.CheckLines.{IsCheckAt, IsQuiet, IsWay, by-load, by-next, by-none, by-store, line_by_line, low-seen, none-seen, quiet-all, seen, seen-access, way-all}
 use Rattle.hwp_law_served.proofs.copied.CopyCounts.{HasCounts, no-load, no-store, num, num-append, num-one}
 use Rattle.hwp_law_served.proofs.copied.CopyEntries.{declared-of}
 use Rattle.hwp_law_served.proofs.copied.OwnIn.{in_page, own-deeds}
@@ -64,18 +60,18 @@ told_lines c (r ∷ rs) = replicate (length r.checks) (line_of (cows.sub_of c)) 
 
 -- ---- what stands on the way of an access
 
-way-check : (a : Request) (m : Made) → IsBetween a m → is_check m.entry.what ≡ true → (m.page ≡ a.page) × ((slot : VSlot) × (mask : Mask) × (m.entry.what ≡ entries.Mce slot a.line mask))
+way-check : (a : Request) (m : Made) → IsBetween a m → is_check m.entry.what ≡ true → IsCheckAt a.page a.line m
 way-check a m (inr soft) is = absurd (both_ways (is_check m.entry.what) (ap is_check soft) is)
-way-check a m (inl (inl (page, way))) is = (page, which m.entry.what way is)
+way-check a m (inl (inl (page, way))) is = which m.entry.what refl way is
   where
-    which : (w : What) → IsOnTheWay a.slot a.line w → is_check w ≡ true → (slot : VSlot) × (mask : Mask) × (w ≡ entries.Mce slot a.line mask)
-    which (entries.Mce slot line mask) on yes = (slot, mask, ap (λ (n : ℕ). entries.Mce slot n mask) on.1)
-    which w on yes = absurd (both_ways false refl yes)
+    which : (w : What) → m.entry.what ≡ w → IsOnTheWay a.slot a.line w → is_check w ≡ true → IsCheckAt a.page a.line m
+    which (entries.Mce slot line mask) same on hits = record { page_is = page; slot = slot; mask = mask; what_is = same ∙ ap (λ (n : ℕ). entries.Mce slot n mask) on.1 }
+    which w same on hits = absurd (both_ways false refl hits)
 way-check a m (inl (inr failure)) is = which m.entry.what failure is
   where
-    which : {A : Type 0} (w : What) → is_failure w ≡ true → is_check w ≡ true → A
-    which (entries.Mce slot line mask) fails yes = absurd (both_ways false refl fails)
-    which w fails yes = absurd (both_ways false refl yes)
+    which : (w : What) → is_failure w ≡ true → is_check w ≡ true → IsCheckAt a.page a.line m
+    which (entries.Mce slot line mask) fails hits = absurd (both_ways false refl fails)
+    which w fails hits = absurd (both_ways false refl hits)
 
 -- in its own page, and in another
 on-way : (test : What → Bool) (a : Request) (m : Made) → ((x : Made) → IsBetween a x → test x.entry.what ≡ false) → IsBetween a m → IsWay a.page a.line test m
@@ -83,7 +79,7 @@ on-way test a m none between = record { fails = none m between; checked = way-ch
 
 off-way : (test : What → Bool) (page : Page) (a : Request) (m : Made) → (a.page ≡ page → ⊥) → ((x : Made) → IsBetween a x → test x.entry.what ≡ false) → IsBetween a m → IsQuiet page test m
 off-way test page a m differs none between = record {
-  unchecked = λ own. false_from_ne_true (is_check m.entry.what) (λ yes. differs (sym (way-check a m between yes).0 ∙ own));
+  unchecked = λ own. false_from_ne_true (is_check m.entry.what) (λ hits. differs (sym (way-check a m between hits).page_is ∙ own));
   fails = λ own. none m between;
 }
 
@@ -92,18 +88,18 @@ off-way test page a m differs none between = record {
 -- in its page: its machine checks, and then one access more
 own-access : (test : What → Bool) (layout : Layout) (view : View) (a : Request) (banks : Banks) (r : Run) (n : ℕ) (l : List Made) (run : IsAccessRun layout view a banks r) → ((x : Made) → IsBetween a x → test x.entry.what ≡ false) → test (what_of a run.mask r.word) ≡ true
     → is_check (what_of a run.mask r.word) ≡ false → seen a.page test n (r.made ++ l) ≡ replicate (length r.checks) (n, a.line) ++ seen a.page test (n + 1) l
-own-access test layout view a banks r n l run none yes no =
+own-access test layout view a banks r n l run none hits misses =
     ap (λ (made : List Made). seen a.page test n (made ++ l)) run.made_is
     ∙ ap (seen a.page test n) (append_assoc run.before (run.last ∷ []) l)
     ∙ way-all a.page a.line test n run.before (run.last ∷ l) (λ i m there. on-way test a m none (run.such i m there))
-    ∙ ap (λ (c : List (ℕ × ℕ)). replicate (num is_check run.before) (n, a.line) ++ c) (seen-access a.page test n run.last l run.answers.0 (ap is_check run.answers.2 ∙ no) (ap test run.answers.2 ∙ yes))
+    ∙ ap (λ (c : List (ℕ × ℕ)). replicate (num is_check run.before) (n, a.line) ++ c) (seen-access a.page test n run.last l run.answers.0 (ap is_check run.answers.2 ∙ misses) (ap test run.answers.2 ∙ hits))
     ∙ ap (λ (k : ℕ). replicate k (n, a.line) ++ seen a.page test (n + 1) l) counted
   where
     counted : num is_check run.before ≡ length r.checks
     counted =
         let all : num is_check r.made ≡ num is_check (run.before ++ run.last ∷ []) = ap (num is_check) run.made_is in
         let parts : num is_check (run.before ++ run.last ∷ []) ≡ num is_check run.before + num is_check (run.last ∷ []) = num-append is_check run.before (run.last ∷ []) in
-        let last : num is_check (run.last ∷ []) ≡ 0 = num-one is_check run.last false (ap is_check run.answers.2 ∙ no) in
+        let last : num is_check (run.last ∷ []) ≡ 0 = num-one is_check run.last false (ap is_check run.answers.2 ∙ misses) in
         let told : num is_check r.made ≡ length r.checks = run.counted in
         omega (arith, all, parts, last, told)
 
@@ -117,13 +113,13 @@ other-access test page layout view a banks r n l run differs none =
     (λ i m there. off-way test page a m differs none (run.such i m there)))
 
 free-access : (test : What → Bool) (any page : Page) (slot : VSlot) (r : Run) (n : ℕ) (l : List Made) → IsFreeRun page slot r → test (entries.Free slot) ≡ false → seen any test n (r.made ++ l) ≡ seen any test n l
-free-access test any page slot r n l run no = which run.made_is
+free-access test any page slot r n l run misses = which run.made_is
   where
     which : (r.made ≡ []) ⊎ ((m : Made) × (r.made ≡ m ∷ []) × (m.page ≡ page) × (m.entry.what ≡ entries.Free slot)) → seen any test n (r.made ++ l) ≡ seen any test n l
     which (inl none) = ap (λ (made : List Made). seen any test n (made ++ l)) none
     which (inr (m, one, own, what)) =
         ap (λ (made : List Made). seen any test n (made ++ l)) one
-        ∙ quiet-all any test n (m ∷ []) l (each-push (IsQuiet any test) [] m (record { unchecked = λ is. ap is_check what; fails = λ is. ap test what ∙ no }) (λ i x there. absurd (none-some x there)))
+        ∙ quiet-all any test n (m ∷ []) l (each-push (IsQuiet any test) [] m (record { unchecked = λ is. ap is_check what; fails = λ is. ap test what ∙ misses }) (λ i x there. absurd (none-some x there)))
 
 -- ---- by the access that comes
 
@@ -195,13 +191,13 @@ module _ (layout : Layout) (view : View) (store : Request) (page : Page) (differ
       omega (arith, all, parts, one)
 
   -- behind the store of its own word none is seen
-  freed-one : (any : Page) (test : What → Bool) (no : (slot : VSlot) → test (entries.Free slot) ≡ false) (c : Cow) (x : CowAt) (banks : Banks) (r : Run) (l : List Made) → IsFreeing x → IsRun layout view store page banks r (cows.sub_at c x)
+  freed-one : (any : Page) (test : What → Bool) (misses : (slot : VSlot) → test (entries.Free slot) ≡ false) (c : Cow) (x : CowAt) (banks : Banks) (r : Run) (l : List Made) → IsFreeing x → IsRun layout view store page banks r (cows.sub_at c x)
       → (IsFreeing (cows.told_at x r.word) → (n : ℕ) → seen any test n l ≡ []) → (n : ℕ) → seen any test n (r.made ++ l) ≡ []
-  freed-one any test no c (at.Load line) banks r l freeing run later n = absurd freeing
-  freed-one any test no c (at.Store line word) banks r l freeing run later n = absurd freeing
-  freed-one any test no c at.Last banks r l freeing run later n = absurd freeing
-  freed-one any test no c at.Free banks r l freeing run later n = free-access test any page c.v r n l run (no c.v) ∙ later tt n
-  freed-one any test no c at.Switched banks r l freeing run later n = absurd run
+  freed-one any test misses c (at.Load line) banks r l freeing run later n = absurd freeing
+  freed-one any test misses c (at.Store line word) banks r l freeing run later n = absurd freeing
+  freed-one any test misses c at.Last banks r l freeing run later n = absurd freeing
+  freed-one any test misses c at.Free banks r l freeing run later n = free-access test any page c.v r n l run (misses c.v) ∙ later tt n
+  freed-one any test misses c at.Switched banks r l freeing run later n = absurd run
 
   comes-none : (c : Cow) (x : CowAt) → IsFreeing x → request_by store page (cows.sub_at c x) ≡ None
   comes-none c (at.Load line) freeing = absurd freeing
@@ -210,12 +206,12 @@ module _ (layout : Layout) (view : View) (store : Request) (page : Page) (differ
   comes-none c at.Free freeing = refl
   comes-none c at.Switched freeing = refl
 
-  freed-none : (any : Page) (test : What → Bool) (no : (slot : VSlot) → test (entries.Free slot) ≡ false) (c : Cow) (banks : Banks) (runs : List Run) → IsFreeing c.at → AreRuns layout view store page c banks runs
+  freed-none : (any : Page) (test : What → Bool) (misses : (slot : VSlot) → test (entries.Free slot) ≡ false) (c : Cow) (banks : Banks) (runs : List Run) → IsFreeing c.at → AreRuns layout view store page c banks runs
       → IsTail (request_by store page (cows.sub_of (cows.told_all c (words_of runs)))) rest count → (n : ℕ) → seen any test n (made_by runs ++ rest) ≡ []
-  freed-none any test no c banks [] freeing are tail n = no-rest test any n rest count (subst (λ (o : Option Request). IsTail o rest count) (comes-none c c.at freeing) tail)
-  freed-none any test no c banks (r ∷ rs) freeing are tail n =
+  freed-none any test misses c banks [] freeing are tail n = no-rest test any n rest count (subst (λ (o : Option Request). IsTail o rest count) (comes-none c c.at freeing) tail)
+  freed-none any test misses c banks (r ∷ rs) freeing are tail n =
       ap (seen any test n) (append_assoc r.made (made_by rs) rest)
-      ∙ freed-one any test no c c.at banks r (made_by rs ++ rest) freeing are.0 (λ next. freed-none any test no (cows.told_by c r.word) (left_by banks r.checks) rs next are.1 tail) n
+      ∙ freed-one any test misses c c.at banks r (made_by rs ++ rest) freeing are.0 (λ next. freed-none any test misses (cows.told_by c r.word) (left_by banks r.checks) rs next are.1 tail) n
 
   -- and none is told
   told-one : (c : Cow) (x : CowAt) (banks : Banks) (r : Run) (l : List ℕ) → IsFreeing x → IsRun layout view store page banks r (cows.sub_at c x) → (IsFreeing (cows.told_at x r.word) → l ≡ []) → replicate (length r.checks) (line_of (cows.sub_at c x)) ++ l ≡ []
@@ -357,51 +353,47 @@ module _ (layout : Layout) (view : View) (store : Request) (page : Page) (differ
       a b n has going (subst (λ (l : List Made). long store.page l < n) (append_assoc r.made (made_by rs) rest) room)
       ∙ ap (λ (l : List Made). line_by_line b n (seen page is_load a l) (seen store.page is_store b l)) (sym (append_assoc r.made (made_by rs) rest))
 
-none-checks : {layout : Layout} {view : View} {banks : Banks} (o : Option Request) (checks : List Check) → AreChecksOf layout view o banks checks → o ≡ None → length checks ≡ 0
-none-checks None checks are is = ap (λ (l : List Check). length l) are
-none-checks (Some a) checks are is = absurd (none-some a (sym is))
+none-checks : (layout : Layout) (view : View) (banks : Banks) (o : Option Request) (checks : List Check) → AreChecksOf layout view o banks checks → o ≡ None → length checks ≡ 0
+none-checks layout view banks None checks are is = ap (λ (l : List Check). length l) are
+none-checks layout view banks (Some a) checks are is = absurd (none-some a (sym is))
+
+module _ (script : Script) (copies : Who → Option VSlot) (seat : Cpu → ℕ) (last : State) (report : Report) (end : IsEnd script copies seat last report) (who : Who) (inside : who.cpu.0 < script.layout.cpus) where
+  abbrev Has : Request → VSlot → ℕ → Banks → Type 0
+  Has store from word before = HasCopied script.layout (view_of last (seat who.cpu)) store from word before
+
+  lines-of : (store : Request) → store.who ≡ who → (from : VSlot) (word : ℕ) (before : Banks) (has : Has store from word before) → (has.page ≡ store.page → ⊥)
+      → (checks : List Check) (banks : Banks) → AreChecksOf script.layout (view_of last (seat who.cpu)) (request_by store has.page (sub_next store from word has.runs)) banks checks → IsLeft (request_by store has.page (sub_next store from word has.runs)) has.rest → checks_in has.rest ≡ length checks
+      → told_lines (cows.begin from store.slot store.line word) has.runs ++ replicate (length checks) (line_of (sub_next store from word has.runs)) ≡ copy_checks script.layout report who from store.slot
+  lines-of store who_is from word before has differs checks banks are left counted =
+      all-lines script.layout (view_of last (seat who.cpu)) store has.page differs has.rest (length checks) (cows.begin from store.slot store.line word) before has.runs has.are
+      (record { left = left; counted = counted; free = none-checks script.layout (view_of last (seat who.cpu)) banks (request_by store has.page (sub_next store from word has.runs)) checks are })
+      0 0 (length (own_in script.layout report who from) + length (own_in script.layout report who store.slot) + 1) (omega arith, refl, refl) tt room
+      ∙ ap (λ (l : List Made). line_by_line 0 (length (own_in script.layout report who from) + length (own_in script.layout report who store.slot) + 1) (seen has.page is_load 0 l) (seen store.page is_store 0 l)) (sym all)
+      ∙ ap (λ (l : List What). line_by_line 0 (length (own_in script.layout report who from) + length (own_in script.layout report who store.slot) + 1) (checks_by is_load 0 l) (seen store.page is_store 0 (deeds who (view_of last (seat who.cpu))))) (sym from_is)
+      ∙ ap (λ (l : List What). line_by_line 0 (length (own_in script.layout report who from) + length (own_in script.layout report who store.slot) + 1) (checks_by is_load 0 (own_in script.layout report who from)) (checks_by is_store 0 l)) (sym to_is)
+    where
+      all : deeds who (view_of last (seat who.cpu)) ≡ made_by has.runs ++ has.rest
+      all = ap (λ (w : Who). deeds w (view_of last (seat who.cpu))) (sym who_is) ∙ has.all
+
+      from_is : own_in script.layout report who from ≡ map (λ (m : Made). m.entry.what) (in_page has.page (deeds who (view_of last (seat who.cpu))))
+      from_is = own-deeds script copies seat last report end who inside from has.page has.own.page (declared-of script.layout (load_of store has.page from 0) has.own)
+
+      to_is : own_in script.layout report who store.slot ≡ map (λ (m : Made). m.entry.what) (in_page store.page (deeds who (view_of last (seat who.cpu))))
+      to_is = own-deeds script copies seat last report end who inside store.slot store.page has.names.page (declared-of script.layout store has.names)
+
+      room : long store.page (made_by has.runs ++ has.rest) < length (own_in script.layout report who from) + length (own_in script.layout report who store.slot) + 1
+      room =
+          let same : long store.page (deeds who (view_of last (seat who.cpu))) ≡ long store.page (made_by has.runs ++ has.rest) = ap (long store.page) all in
+          let to_long : length (own_in script.layout report who store.slot) ≡ length (map (λ (m : Made). m.entry.what) (in_page store.page (deeds who (view_of last (seat who.cpu))))) = ap (λ (l : List What). length l) to_is in
+          let mapped : length (map (λ (m : Made). m.entry.what) (in_page store.page (deeds who (view_of last (seat who.cpu))))) ≡ long store.page (deeds who (view_of last (seat who.cpu))) = length-map (in_page store.page (deeds who (view_of last (seat who.cpu)))) (λ (m : Made). m.entry.what) in
+          omega (arith, same, to_long, mapped)
 
 module _ (script : Script) (copies : Who → Option VSlot) (seat : Cpu → ℕ) (last : State) (report : Report) (end : IsEnd script copies seat last report) where
   pub copy-lines : (who : Who) → who.cpu.0 < script.layout.cpus → (thread : Thread) (from to : VSlot) (line word : ℕ) → copies who ≡ Some from → command_at script who ≡ Some (commands.Store thread to line word) → (before : Banks) (told : List EventOutcome) (after : Banks)
       (is : IsCopyTold script.layout (view_of last (seat who.cpu)) who thread from to line word before told after)
       → told_lines (cows.begin from to line word) is.has.runs ++ replicate (length is.last) (line_of (sub_next (store_by who thread to line word is.page is.process) from word is.has.runs)) ≡ copy_checks script.layout report who from to
   copy-lines who inside thread from to line word copied command before told after is =
-      all-lines layout view store page differs is.has.rest (length is.last) (cows.begin from to line word) before is.has.runs is.has.are
-      (record { left = is.left; counted = is.counted; free = none-checks (request_by store page (sub_next store from word is.has.runs)) is.last is.are }) 0 0 (length (own_in layout report who from) + length (own_in layout report who to) + 1) (omega arith, refl, refl) tt room
-      ∙ ap (λ (l : List Made). line_by_line 0 (length (own_in layout report who from) + length (own_in layout report who to) + 1) (seen page is_load 0 l) (seen store.page is_store 0 l)) (sym is.has.all)
-      ∙ ap (λ (l : List What). line_by_line 0 (length (own_in layout report who from) + length (own_in layout report who to) + 1) (copying.checks_by is_load 0 l) (seen store.page is_store 0 (deeds who view))) (sym from_is)
-      ∙ ap (λ (l : List What). line_by_line 0 (length (own_in layout report who from) + length (own_in layout report who to) + 1) (copying.checks_by is_load 0 (own_in layout report who from)) (copying.checks_by is_store 0 l)) (sym to_is)
-    where
-      layout : Layout
-      layout = script.layout
-
-      view : View
-      view = view_of last (seat who.cpu)
-
-      store : Request
-      store = store_by who thread to line word is.page is.process
-
-      page : Page
-      page = is.has.page
-
-      of_from : IsOf script.layout page from
-      of_from = declared-of script.layout (load_of store page from 0) is.has.own
-
-      of_to : IsOf script.layout store.page to
-      of_to = declared-of script.layout store is.has.names
-
-      differs : page ≡ store.page → ⊥
-      differs same = end.apart who from to thread line word page copied command of_from (subst (λ (p : Page). IsOf script.layout p to) (sym same) of_to)
-
-      from_is : own_in script.layout report who from ≡ map (λ (m : Made). m.entry.what) (in_page page (deeds who view))
-      from_is = own-deeds script copies seat last report end who inside from page is.has.own.page of_from
-
-      to_is : own_in script.layout report who to ≡ map (λ (m : Made). m.entry.what) (in_page store.page (deeds who view))
-      to_is = own-deeds script copies seat last report end who inside to store.page is.has.names.page of_to
-
-      room : long store.page (made_by is.has.runs ++ is.has.rest) < length (own_in script.layout report who from) + length (own_in script.layout report who to) + 1
-      room =
-          let same : long store.page (deeds who view) ≡ long store.page (made_by is.has.runs ++ is.has.rest) = ap (long store.page) is.has.all in
-          let to_long : length (own_in script.layout report who to) ≡ length (map (λ (m : Made). m.entry.what) (in_page store.page (deeds who view))) = ap (λ (l : List What). length l) to_is in
-          let mapped : length (map (λ (m : Made). m.entry.what) (in_page store.page (deeds who view))) ≡ long store.page (deeds who view) = length-map (in_page store.page (deeds who view)) (λ (m : Made). m.entry.what) in
-          omega (arith, same, to_long, mapped)
+      lines-of script copies seat last report end who inside (store_by who thread to line word is.page is.process) refl from word before is.has
+      (λ same. end.apart who from to thread line word is.has.page copied command (declared-of script.layout (load_of (store_by who thread to line word is.page is.process) is.has.page from 0) is.has.own)
+      (subst (λ (p : Page). IsOf script.layout p to) (sym same) (declared-of script.layout (store_by who thread to line word is.page is.process) is.has.names)))
+      is.last _ is.are is.left is.counted

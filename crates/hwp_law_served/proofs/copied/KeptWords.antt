@@ -1,6 +1,6 @@
 -- A store that copied a page and was answered `stored` left on each line of the twin's page the word that it loaded from the line, and on one
 -- line its own.
-use Rattle.std.proofs.Common.{◌≡◌, ◌≢◌, ℕ, ◌<◌, ◌==◌, Bool, true, false, if◌then◌else◌, List, [], ◌∷◌, ◌++◌, append-nil, Option, None, Some, filter_map, map, option_and_then, slice_get, refl, sym, ap, ◌∙◌, subst}
+use Rattle.std.proofs.Common.{◌≡◌, ◌≢◌, ℕ, ◌<◌, ◌==◌, Bool, if◌then◌else◌, List, ◌++◌, append-nil, Option, None, Some, filter_map, map, option_and_then, slice_get, refl, sym, ap, ◌∙◌, subst}
 use Rattle.std.proofs.lemmas.Bool.{eq-eqb, ne_eqb}
 use Rattle.std.proofs.lemmas.Option.{none-some, same_Some}
 use Rattle.hwp_law_run.specs.hwp_geom.declared.Cpu.{Cpu}
@@ -15,10 +15,8 @@ use Rattle.hwp_law_run.specs.hwp_page.declared.At.{At}
 use Rattle.hwp_law_run.specs.hwp_page.declared.Met.TheVariants.{Word}
 use Rattle.hwp_law_run.specs.hwp_page.declared.What.{What}
 use Rattle.hwp_law_run.specs.hwp_page.declared.What.TheVariants as entries
-use Rattle.hwp_law_run.specs.hwp_page.Step.{IsOf}
 use Rattle.hwp_law_run.specs.hwp_core_rule.declared.Made.{Made}
 use Rattle.hwp_law_run.specs.hwp_core_rule.declared.State.{State}
-use Rattle.hwp_law_run.specs.hwp_core_rule.declared.View.{View}
 use Rattle.hwp_law_run.specs.hwp_core_rule.Lists.{EachMember, SomeMember}
 use Rattle.hwp_law_run.proofs.of_hwp_core_rule.Lists.{at_map}
 use Rattle.hwp_law_run.specs.hwp_core_task.Boards.{view_of}
@@ -26,14 +24,12 @@ use Rattle.hwp_law_run.specs.hwp_core_task.Known.{deeds}
 use Rattle.hwp_law_run.specs.hwp_script_read.declared.Command.{Command}
 use Rattle.hwp_law_run.specs.hwp_script_read.declared.Command.TheVariants as commands
 use Rattle.hwp_law_run.specs.hwp_script_read.declared.Script.{Script}
-use Rattle.hwp_law_run.specs.hwp_report_text.declared.Answer.{Answer}
 use Rattle.hwp_law_run.specs.hwp_report_text.declared.Answer.TheVariants as answers
 use Rattle.hwp_law_run.specs.hwp_report_text.declared.Report.{Report}
 use Rattle.hwp_law_run.specs.hwp_law_commands.Commands.{command_at}
 use Rattle.hwp_law_run.specs.hwp_law.Copies.{own_in}
 use Rattle.hwp_law_run.specs.hwp_law.Lines.{answer_of}
 use Rattle.hwp_law_run.specs.hwp_law.Private.{last_word, word_in}
-use Rattle.hwp_cpu_row.specs.hwp_cpu_check.declared.EventOutcome.{EventOutcome}
 use Rattle.hwp_fault.specs.declared.Request.{Request}
 use Rattle.hwp_fork.specs.Cows as cows
 use Rattle.hwp_cpu_copy.specs.Copyings.{load_of}
@@ -46,7 +42,7 @@ use Rattle.hwp_law_served.proofs.deeds.Made.{command-is}
 use Rattle.hwp_law_served.proofs.copied.CopyCounts.{IsPlaced, runs-placed}
 use Rattle.hwp_law_served.proofs.copied.CopyEntries.{declared-of}
 use Rattle.hwp_law_served.proofs.copied.OwnIn.{in_page, own-deeds}
-use Rattle.hwp_law_served.proofs.copied.WordsKept.{IsKept, IsLoaded, ends_on, kept-from, left-page, left_on}
+use Rattle.hwp_law_served.proofs.copied.WordsKept.{IsKept, ends_on, kept-from, left-page}
 
 -- the entry loaded the word from the line
 pub record HasLoaded (from : VSlot) (line word : ℕ) (what : What) : Type 0 where
@@ -69,9 +65,6 @@ of-command script copies seat last report end who command is = which (slice_get 
     which (Some list) some at = command-of script copies seat last report end who list command some at
 
 module _ (script : Script) (copies : Who → Option VSlot) (seat : Cpu → ℕ) (last : State) (report : Report) (end : IsEnd script copies seat last report) where
-  abbrev view : Who → View
-  view who = view_of last (seat who.cpu)
-
   -- of the copy itself
   kept-by : (who : Who) → who.cpu.0 < script.layout.cpus → (from : VSlot) (word line : ℕ) (before : Banks) (store : Request) → store.who ≡ who → (has : HasCopied script.layout (view_of last (seat who.cpu)) store from word before) (at : At)
       → HasSwitched (sub_next store from word has.runs) has.runs has.rest at → line < line_limit → HasKept script.layout report who from store.slot store.line word line

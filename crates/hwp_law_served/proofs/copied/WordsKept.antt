@@ -1,14 +1,13 @@
 -- What the accesses of a finished copy leave on a line: the word that was stored there last is that of the load of the line, or the store's own.
-use Rattle.std.proofs.Common.{◌≡◌, ◌≢◌, ◌⊎◌, inl, inr, ℕ, zero, suc, ◌+◌, ◌<◌, ◌≤◌, ◌==◌, Bool, true, false, cond, if◌then◌else◌, nat_lt, List, [], ◌∷◌, ◌++◌, Option, None, Some, filter_map, map, slice_get, refl, sym, ap, ◌∙◌, subst, arith, true≢false}
+use Rattle.std.proofs.Common.{◌≡◌, ◌⊎◌, inl, inr, ℕ, suc, ◌+◌, ◌<◌, ◌≤◌, ◌==◌, Bool, true, false, cond, if◌then◌else◌, nat_lt, List, [], ◌∷◌, ◌++◌, Option, None, Some, filter_map, length, map, refl, sym, ap, ◌∙◌, subst, arith, true≢false}
 use Rattle.std.specs.List.{cons_option}
-use Rattle.std.proofs.lemmas.Bool.{both_ways, cases_eq, cases_lt, eq-eqb, false_from_ne_true, lt-ltb, ne_eqb}
-use Rattle.std.proofs.lemmas.Option.{none-some}
+use Rattle.std.proofs.lemmas.Bool.{both_ways, cases_eq, eq-eqb, false_from_ne_true, lt-ltb, ne_eqb}
 use Rattle.hwp_law_run.specs.hwp_geom.declared.Layout.{Layout}
 use Rattle.hwp_law_run.specs.hwp_geom.declared.Page.{Page}
 use Rattle.hwp_law_run.specs.hwp_geom.declared.VSlot.{VSlot}
 use Rattle.hwp_law_run.specs.hwp_geom.Limits.{line_limit}
 use Rattle.hwp_law_run.specs.hwp_banks.Banks.{Banks}
-use Rattle.hwp_law_run.specs.hwp_page.declared.Met.TheVariants.{Sigbus, Word}
+use Rattle.hwp_law_run.specs.hwp_page.declared.Met.TheVariants.{Word}
 use Rattle.hwp_law_run.specs.hwp_page.declared.What.{What}
 use Rattle.hwp_law_run.specs.hwp_page.declared.What.TheVariants as entries
 use Rattle.hwp_law_run.specs.hwp_core_rule.declared.Made.{Made}
@@ -27,7 +26,7 @@ use Rattle.hwp_fork.specs.declared.cow.Sub.{Sub}
 use Rattle.hwp_fork.specs.declared.cow.Sub.TheVariants as subs
 use Rattle.hwp_fork.specs.Cows as cows
 use Rattle.hwp_cpu_copy.specs.Copyings.{load_of, store_of}
-use Rattle.hwp_cpu_copy.specs.Runs.{AreRuns, IsAccessRun, IsBetween, IsFreeRun, IsRun, Run, made_by, words_of}
+use Rattle.hwp_cpu_copy.specs.Runs.{AreRuns, IsAccessRun, IsFreeRun, IsRun, Run, made_by, words_of}
 use Rattle.hwp_law_served.proofs.copied.CopyCounts.{no-store}
 use Rattle.hwp_law_served.proofs.copied.OwnIn.{in_page}
 
@@ -217,7 +216,7 @@ module _ (k : ℕ) (within : k < line_limit) (layout : Layout) (view : View) (st
   }
     where
       entry : (m : List Made) → SomeMember (IsLoaded page c.v k r.word) ((run.before ++ run.last ∷ []) ++ m)
-      entry m = (_, run.last, at_longer (run.before ++ run.last ∷ []) m _ run.last (at_last run.before run.last), record { mask = run.mask; page_is = run.answers.0; what_is = run.answers.2 })
+      entry m = (length run.before, run.last, at_longer (run.before ++ run.last ∷ []) m (length run.before) run.last (at_last run.before run.last), record { mask = run.mask; page_is = run.answers.0; what_is = run.answers.2 })
 
   -- an earlier access
   earlier : (c : Cow) (r : Run) (l : List Made) → IsKept k c page l → IsKept k c page (r.made ++ l)

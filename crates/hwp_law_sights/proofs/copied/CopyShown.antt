@@ -63,7 +63,7 @@ module _ (script : Script) (copies : Who → Option VSlot) (seat : Cpu → ℕ) 
             (page-shown script.layout turns (view_of last (seat who.cpu)) said who (λ (log : Log). (state_of script.layout log).cached ≡ false) found.behind.access.page found.place IsAway found.away found.away.such);
       }
   copy-shown thread from to line word before told_ (answers.Gone ended) some at caused =
-      gone-shown script turns (view_of last (seat who.cpu)) said who [] (commands.Store thread to line word) thread ended at refl (copy-gone script.layout (view_of last (seat who.cpu)) (store_by who thread to line word caused.page caused.process) _ _ _ _ told_ ended caused.ended)
+      gone-shown script turns (view_of last (seat who.cpu)) said who [] (commands.Store thread to line word) thread ended at refl (copy-gone script.layout (view_of last (seat who.cpu)) (store_by who thread to line word caused.page caused.process) caused.has.page (sub_next (store_by who thread to line word caused.page caused.process) from word caused.has.runs) caused.has.runs caused.has.rest told_ ended caused.ended)
   copy-shown thread from to line word before told_ answers.Stopped some at caused = stopped-shown script.layout turns (view_of last (seat who.cpu)) said who caused.ended.stopped
   copy-shown thread from to line word before told_ _ some at caused = absurd caused.ended
 

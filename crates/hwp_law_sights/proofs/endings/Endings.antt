@@ -32,7 +32,7 @@ use Rattle.hwp_law_served.specs.hwp_cpu_row.declared.FrameChange.{FrameChange}
 use Rattle.hwp_law_served.specs.hwp_cpu_check.declared.EventOutcome.{EventOutcome}
 use Rattle.hwp_law_served.specs.hwp_banks.Banks.{Banks}
 use Rattle.hwp_law_served.specs.Causes.{IsAnswerCaused, IsCausedWith, IsTableCaused, SawProcess, WasSignalled}
-use Rattle.hwp_law_served.specs.Copied.{store_by}
+use Rattle.hwp_law_served.specs.Copied.{store_by, sub_next}
 use Rattle.hwp_law_sights.proofs.copied.CopyGoing.{copy-goes, copy-gone}
 use Rattle.hwp_law_served.specs.Runs.{IsRunOf}
 use Rattle.hwp_law_served.proofs.RunKeeps.{run-keeps}
@@ -138,7 +138,7 @@ module _ (layout : Layout) (earlier : List (Command × Answer)) (view : View) (w
   gone-with : (copied : Option VSlot) (command : Command) (before : Banks) (told : List EventOutcome) (own : Option FrameChange) (page : Page) → IsProcess command → IsCausedWith layout earlier copied view who command before told own (answers.Gone page) → Saw view who (places.Process process) (page.0 + 1)
   gone-with None command before told own page is caused = gone command told own page is caused
   gone-with (Some from) (commands.Store thread to line word) before told own page is caused =
-      saw-process thread (page.0 + 1) is (copy-gone layout view (store_by who thread to line word caused.page caused.process) _ _ _ _ told page caused.ended).ended
+      saw-process thread (page.0 + 1) is (copy-gone layout view (store_by who thread to line word caused.page caused.process) caused.has.page (sub_next (store_by who thread to line word caused.page caused.process) from word caused.has.runs) caused.has.runs caused.has.rest told page caused.ended).ended
   gone-with (Some from) command before told own page is caused = absurd caused
 
 module _ (script : Script) (copies : Who → Option VSlot) (seat : Cpu → ℕ) (turns : List Played) (last : State) (report : Report) (run : IsRunOf script copies seat turns last report) where

@@ -209,7 +209,7 @@ module _ (script : Script) (copies : Who → Option VSlot) (seat : Cpu → ℕ) 
     -- ---- of the command's own processor
 
     module _ (of : IsOf script copies end.rows view who) (fails : can_fail of.command ≡ true) where
-      served : IsServed script.layout view who.cpu of.list of.own × (slice_get report.cpus who.cpu.0 ≡ Some (lines_from 0 of.own))
+      served : IsServed script.layout copies view who.cpu of.list of.own × (slice_get report.cpus who.cpu.0 ≡ Some (lines_from 0 of.own))
       served = served-of script copies seat last report end who.cpu of.list of.own of.list_is of.own_is
 
       abbrev pairs : List (Command × Answer)

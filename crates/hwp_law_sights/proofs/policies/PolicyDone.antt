@@ -1,5 +1,6 @@
 -- The settings of a thread that a view lists by commands below a number are as many as its processor's commands below it made.
-use Rattle.std.proofs.Common.{◌≡◌, ℕ, zero, suc, ◌+◌, ◌<◌, ◌≤◌, ◌==◌, ◌&&◌, nat_lt, Bool, true, false, cond, List, [], ◌∷◌, ◌++◌, Option, None, Some, filter, length, map, option_map_or, take, slice_get, refl, sym, ap, ◌∙◌, arith, true≢false}
+use Rattle.std.proofs.Common.{◌≡◌, ℕ, zero, suc, ◌+◌, ◌<◌, ◌≤◌, ◌==◌, ◌&&◌, nat_lt, Bool, true, false, cond, List, [], ◌∷◌, ◌++◌, Option, None, Some, filter, length, map, take, slice_get, refl, sym, ap, ◌∙◌, arith, true≢false}
+use Rattle.std.specs.Option.{option_map_or}
 use Rattle.std.specs.Int.{from_bool}
 use Rattle.std.specs.List.{cons_option, sum_by}
 use Rattle.std.proofs.lemmas.Bool.{eq-eqb, eqb-true, le-ltb, ltb-false, ltb-true, ne_eqb}
@@ -84,13 +85,16 @@ step-count thread cpu n (g ∷ gs) own =
 abbrev given_from : Policy → Proc → ℕ → List ThreadDecl → List (Thread × Policy)
 given_from policy process n ts = map (λ (t : Thread). (t, policy)) (threads_of process n ts)
 
+zero-plus : (n : ℕ) → n ≡ 0 + n
+zero-plus n = omega arith
+
 -- a thread of the process in front
 given-front : (thread : Thread) (policy : Policy) (process : Proc) (n : ℕ) (t : ThreadDecl) (ts : List ThreadDecl)
     → are_of thread (given_from policy process n (t ∷ ts)) ≡ from_bool ((t.process.0 == process.0) && (n == thread.0)) + are_of thread (given_from policy process (n + 1) ts)
 given-front thread policy process n t ts = which (t.process.0 == process.0)
   where
     which : (b : Bool) → are_of thread (map (λ (t : Thread). (t, policy)) (cond b (record { 0 = n } ∷ threads_of process (n + 1) ts) (threads_of process (n + 1) ts))) ≡ from_bool (b && (n == thread.0)) + are_of thread (given_from policy process (n + 1) ts)
-    which false = refl
+    which false = zero-plus (are_of thread (given_from policy process (n + 1) ts))
     which true = sum_by-cons (λ (p : Thread × Policy). from_bool (p.0.0 == thread.0)) (record { 0 = n }, policy) (given_from policy process (n + 1) ts)
 
 apart-zero : (a b : Bool) → b ≡ false → from_bool (a && b) ≡ 0
