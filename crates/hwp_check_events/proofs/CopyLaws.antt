@@ -17,6 +17,7 @@ use Rattle.hwp_law.specs.hwp_script_read.declared.Command.{Command}
 use Rattle.hwp_law.specs.hwp_script_read.declared.Command.TheVariants as commands
 use Rattle.hwp_law.specs.Copies.{copy_checks, own_in, checks_by, is_load, is_store, lines_at}
 use Rattle.hwp_law.specs.Events.{store_lines}
+use Rattle.hwp_law.specs.Lines.{is_same_command}
 use Rattle.hwp_check_acting.specs.ActedOn.{copies_in}
 use Rattle.hwp_check_events.specs.Accesses.{lines_met}
 use Rattle.hwp_check_events.specs.Copied.{AreCopied, checks_in, copied_by, copied_from, entries_through, is_counted, own_whats, pair_of}
@@ -84,13 +85,14 @@ pub none_yet : (layout : Layout) (copies : Who → Option VSlot) (report : Repor
 none_yet layout copies report cpu list lists none = (ap (λ (l : List (List ℕ)). length l) none, λ seq d within other. absurd (omega (arith, within)))
 
 -- where no processor copied, no command did
-pub none_copied : (layout : Layout) (report : Report) (cpu : Cpu) (list : List Command) (n : ℕ) (copies : List (List (Option VSlot))) → copies ≡ [] → AreCopied layout (copies_in copies) report cpu list n []
-none_copied layout report cpu list n copies empty = λ seq d within other.
-    sym (ap (λ (l : List (List (Option VSlot))). copied_by layout (copies_in l) report (record { cpu = cpu; seq = seq }) d) empty ∙ none d)
+pub none_copied : (layout : Layout) (report : Report) (cpu : Cpu) (list : List Command) (n : ℕ) (copies : List (List (Option VSlot))) (lists : List (List ℕ)) → copies ≡ [] → lists ≡ [] → AreCopied layout (copies_in copies) report cpu list n lists
+none_copied layout report cpu list n copies lists empty none = λ seq d within other.
+    ap (λ (l : List (List ℕ)). get_or l seq []) none
+    ∙ sym (ap (λ (l : List (List (Option VSlot))). copied_by layout (copies_in l) report (record { cpu = cpu; seq = seq }) d) empty ∙ no-copy (record { cpu = cpu; seq = seq }) d)
   where
-    none : {who : Who} (d : Command) → copied_by layout (copies_in []) report who d ≡ []
-    none (commands.Store thread slot at word) = refl
-    none d = refl
+    no-copy : (who : Who) (d : Command) → copied_by layout (copies_in []) report who d ≡ []
+    no-copy who (commands.Store thread slot at word) = refl
+    no-copy who d = refl
 
 -- ---- a command's own entries in the page of a translation
 
@@ -106,7 +108,10 @@ own-through layout report who slot = by (slice_get layout.trans slot.0)
 
 range-more : (a n : ℕ) → range_with_len a (n + 1) ≡ range_with_len a n ++ (a + n) ∷ []
 range-more a zero = let same : a ≡ a + 0 = omega arith in ap (λ (k : ℕ). k ∷ []) same
-range-more a (suc n) = let same : a + 1 + n ≡ a + suc n = omega arith in ap (λ (l : List ℕ). a ∷ l) (range-more (a + 1) n) ∙ ap (λ (k : ℕ). a ∷ range_with_len (a + 1) n ++ k ∷ []) same
+range-more a (suc n) =
+    let next : suc n + 1 ≡ suc (n + 1) = omega arith in
+    let same : a + 1 + n ≡ a + suc n = omega arith in
+    ap (range_with_len a) next ∙ ap (λ (l : List ℕ). a ∷ l) (range-more (a + 1) n) ∙ ap (λ (k : ℕ). a ∷ range_with_len (a + 1) n ++ k ∷ []) same
 
 module _ (f g : ℕ → List ℕ) where
   abbrev both : ℕ → List ℕ
@@ -136,6 +141,10 @@ copy-is layout report who from to loads stores a b bound lines loads_are stores_
         omega (arith, f, t, a_is, b_is, bound_is)
 
 -- ---- one entry more
+
+pub bool_few : (b : Bool) → from_bool b ≤ 1
+bool_few true = omega arith
+bool_few false = omega arith
 
 checks-split : (test : What → Bool) (n : ℕ) (what : What) (rest : List What) → checks_by test n (what ∷ rest) ≡ checks_in n what ++ checks_by test (n + from_bool (is_counted test what)) rest
 checks-split test n (entries.Mce slot line mask) rest = let same : n ≡ n + 0 = omega arith in ap (λ (k : ℕ). (n, line) ∷ checks_by test k rest) same

@@ -53,12 +53,12 @@ both_there (a ∷ xs) (b ∷ ys) zero x same is = (b, refl)
 both_there (a ∷ xs) (b ∷ ys) (suc i) x same is = let e : suc (length xs) ≡ suc (length ys) = same in both_there xs ys i x (omega (arith, e)) is
 
 -- the law of a report by a script, where stores copy so
-record IsLawfulBy (script : Script) (copies : Who → Option VSlot) (report : Report) : Type 0 where
-  shape : HasShape script report
-  histories : LawHistories script copies report
-  answers : LawAnswers script copies report
-  frames : LawFrames script report
-  losses : LossesAgree script report
+pub record IsLawfulBy (script : Script) (copies : Who → Option VSlot) (report : Report) : Type 0 where
+  pub shape : HasShape script report
+  pub histories : LawHistories script copies report
+  pub answers : LawAnswers script copies report
+  pub frames : LawFrames script report
+  pub losses : LossesAgree script report
 
 module _ (script : Script) (copies : Who → Option VSlot) (report : Report) where
   -- what the law says of a script that has as many lists as processors, where stores copy so

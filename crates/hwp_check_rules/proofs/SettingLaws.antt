@@ -116,7 +116,9 @@ module _ (layout : Layout) where
     next-pairs : (ps : List (Command × Answer)) (n : ℕ) (p : Command × Answer) → slice_get ps n ≡ Some p → take (n + 1) ps ≡ take n ps ++ p ∷ []
     next-pairs [] n p there = absurd (none-some p there)
     next-pairs (q ∷ ps) zero p there = ap (λ (x : Command × Answer). x ∷ []) (same_Some q p there)
-    next-pairs (q ∷ ps) (suc n) p there = ap (λ (l : List (Command × Answer)). q ∷ l) (next-pairs ps n p there)
+    next-pairs (q ∷ ps) (suc n) p there =
+        let same : suc n + 1 ≡ suc (n + 1) = omega arith in
+        ap (λ (k : ℕ). take {A = Command × Answer} k (q ∷ ps)) same ∙ ap (λ (l : List (Command × Answer)). q ∷ l) (next-pairs ps n p there)
 
     behind-next : (n : ℕ) (c : Command) (f : Bool) → n < length list → behind (n + 1) ≡ set_after layout (behind n) (get_or list n c, flag_answer (get_or flags n f))
     behind-next n c f within =

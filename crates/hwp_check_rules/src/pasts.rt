@@ -128,9 +128,14 @@ fn sets(
 ) -> u64
     requires each { length done.now ≡ length commands.now }
     requires within { number < length commands.now }
-    ensures { result ≡ from_bool (is_some (set_if layout.now thread commands.now done.now number)) }
+    ensures sets { result ≡ from_bool (is_some (set_if layout.now thread commands.now done.now number)) }
+    ensures few { result ≤ 1 }
 {
-    u64::from(set_if(layout, commands, done, number, thread).is_some())
+    if set_if(layout, commands, done, number, thread).is_some() {
+        1
+    } else {
+        0
+    }
 }
 
 /// How many policies there are before each of the commands and behind the last.

@@ -6,10 +6,10 @@ use Rattle.hwp_check_rules.proofs.pasts.policies_of.Goals as goal
 
 pub loop-number-preserved : goal.loop-number-preserved
 loop-number-preserved c =
-    policies-more c.args.layout.now c.args.commands.now c.args.done.now c.requires c.args.thread c.loop-number.number c.loop-number.list _ c.set_if.result c.loop-number-test.true c.loop-number.invariant c.set_if.ensures
+    policies-more c.args.layout.now c.args.commands.now c.args.done.now c.requires.each c.args.thread c.loop-number.number c.loop-number.list _ c.set_if.result c.loop-number-test.true c.loop-number.invariant c.set_if.ensures
     refl
 
 pub returns : goal.returns
 returns c =
     c.loop-number.invariant
-    ∙ ap (settings c.args.layout.now c.args.thread) (all-taken c.args.commands.now c.args.done.now c.loop-number.number (let past = c.loop-number-test.false in omega arith))
+    ∙ ap (settings c.args.layout.now c.args.thread) (all-taken c.args.layout.now c.args.commands.now c.args.done.now c.loop-number.number (let past = c.loop-number-test.false in omega arith))
