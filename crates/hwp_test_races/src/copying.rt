@@ -6,7 +6,8 @@ use std::alloc::Global;
 use std::process::Abort;
 
 /// A script up to the command of processor 1. Page 0 is shared by a parent and its child, whose store copies it to page 2.
-const FRONT: &str = "hwp 2\ncpus 2\nframes 4\nproc 0\nproc 1\nthread 0 0 0 handler\nthread 1 1 0 handler\npage 0 anon\npage 1 anon\n\
+const FRONT: &str =
+    "hwp 2\ncpus 2\nframes 4\nproc 0\nproc 1\nthread 0 0 0 handler\nthread 1 1 0 handler\npage 0 anon\npage 1 anon\n\
 page 2 anon\ntrans 0 0 0\ntrans 1 1 0\ntrans 2 0 1\ntrans 3 1 2\ncow 0 2\ncow 1 3\ncpu 0\nstore 0 0 0 7\nfork 0 1\nstore 1 1 1 8\n\
 load 0 0 0\nload 1 1 0\ncpu 1\n";
 
@@ -59,5 +60,10 @@ fn every_order_of_eight_turns_over_a_page_that_is_copied_gives_a_legal_report(rt
 #[test]
 fn every_order_of_eight_turns_over_a_copy_gives_a_legal_report(rt: HostRuntime) {
     // the first line is about to be stored
-    all_legal_beside(&rt, rt.alloc(), OF_THE_COPY, "\nschedule 0. 0. 0@load_bad 0@lock_page");
+    all_legal_beside(
+        &rt,
+        rt.alloc(),
+        OF_THE_COPY,
+        "\nschedule 0. 0. 0@load_bad 0@lock_page",
+    );
 }
