@@ -231,7 +231,7 @@ module _ (layout : Layout) (new : View) (cpu : Cpu) (list : List Command) (rows 
   numbers-known file told =
       let same : tells_number file command a ≡ true = ap (λ (x : Command). tells_number file x a) now.way.next.acts ∙ tells-acted layout earlier file own a ∙ told in
       subst (KnowsNumber layout new at file) (ap (λ (x : Command). number_by file (number_at file list rows n) x a) now.way.next.acts ∙ number-acted layout earlier file (number_at file list rows n) own a)
-          ((now.known.numbers file (tells-inside layout at command copies c.own a file now.way.runs same)).knows same)
+      ((now.known.numbers file (tells-inside layout at command copies c.own a file now.way.runs same)).knows same)
 
   serves : Serves layout new cpu list longer after.banks after.handles after.cows
   serves = record {
@@ -358,7 +358,7 @@ module _ (layout : Layout) (new : View) (cpu : Cpu) (list : List Command) (rows 
   settled b begins = which (slice_get list (n + 1)) refl b begins
     where
       which : (o : Option Command) → slice_get list (n + 1) ≡ o → (x : Option Course) → BeginsAt layout (at_number cpu (n + 1)) o after x → FitsAt layout new cpu list longer (left_of x after) x
-      which (Some next) there (Some x) is = begun next x there is
+      which (Some coming) there (Some x) is = begun coming x there is
       which None there None is = done there
-      which (Some next) there None is = absurd is
+      which (Some coming) there None is = absurd is
       which None there (Some x) is = absurd is
