@@ -1,5 +1,7 @@
 -- The command that a processor acts on is one of the processor, as the script's own is: a twin is of the same process as the translation for
 -- which it stands.
+use Rattle.hwp_cpu.specs.Processors.{AreCommands}
+use Rattle.hwp_cpu_course.specs.hwp_cpu_row.hwp_geom.declared.Cpu.{Cpu}
 use Rattle.std.proofs.Common.{◌≡◌, ◌≢◌, ℕ, ◌<◌, ◌&&◌, not, All, Bool, true, false, List, Option, Some, None, length, slice_get, if◌then◌else◌, refl, sym, ap, ◌∙◌, subst}
 use Rattle.std.specs.Prelude.{IsSomeAnd, unwrap_or}
 use Rattle.std.proofs.lemmas.List.Elements.{All-get_or}
@@ -80,3 +82,13 @@ fork-acted view who layout cows own can = can
 -- a command of a list of which all fit
 pub at-least : (P : Command → Type 0) (l : List Command) (n : ℕ) (own : Command) → All P l → slice_get l n ≡ Some own → P own
 at-least P l n own all there = subst P (get_or_from_slice_get l n own own there) (All-get_or P l n own (slice_get_within l n own there) all)
+
+-- a command that begins is one of the processor, and can be copied for
+pub begins-fits : (layout : Layout) (cpu : Cpu) (list : List Command) (cows : List Cow) (n : ℕ) (own acting : Command) → AreCommands layout cpu list → slice_get list n ≡ Some own → acting ≡ acting_in layout cows own → IsCommandOf layout cpu.0 acting
+begins-fits layout cpu list cows n own acting are there is =
+    subst (IsCommandOf layout cpu.0) (sym is) (acting-fits layout are.twins cpu.0 cows own (at-least (IsCommandOf layout cpu.0) list n own are.named there))
+
+pub begins-copies : (layout : Layout) (cpu : Cpu) (list : List Command) (cows : List Cow) (n : ℕ) (own acting : Command) (copies : Option VSlot) → AreCommands layout cpu list → slice_get list n ≡ Some own → acting ≡ acting_in layout cows own → copies ≡ copied_in cows own
+    → CanCopy layout cpu.0 acting copies
+begins-copies layout cpu list cows n own acting copies are there is from =
+    subst (λ (c : Command). CanCopy layout cpu.0 c copies) (sym is) (subst (CanCopy layout cpu.0 (acting_in layout cows own)) (sym from) (copied-fits layout cpu.0 cows own (at-least (IsCommandOf layout cpu.0) list n own are.named there)))

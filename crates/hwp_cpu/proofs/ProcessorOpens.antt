@@ -69,13 +69,13 @@ module _ (layout : Layout) (cpu : Cpu) (list : List Command) (are : AreCommands 
   listed : (n : ℕ) → IsListed view cpu n
   listed n = record { marked = λ i m at. absurd (none-some m at); set = λ i s at. absurd (none-some s at) }
 
-  -- no thread has set a policy
-  unset : (thread : Thread) → policies_in thread view ≡ settings layout thread (answers_by list [])
-  unset thread = ap (settings layout thread) (none-yet list)
-
   none-yet : (l : List Command) → [] ≡ answers_by l []
   none-yet [] = refl
   none-yet (c ∷ cs) = refl
+
+  -- no thread has set a policy
+  unset : (thread : Thread) → policies_in thread view ≡ settings layout thread (answers_by list [])
+  unset thread = ap (settings layout thread) (none-yet list)
 
   -- nothing is frozen
   remembers : Remembers layout list [] at-first.cows
@@ -152,7 +152,7 @@ module _ (layout : Layout) (cpu : Cpu) (list : List Command) (are : AreCommands 
       paid = refl;
       made = refl;
       unmarked = refl;
-      left = setting-left layout list [] view unset (let within : 0 < length list = slice_get_within list 0 command there in omega (arith, few, within));
+      left = setting-left layout list [] view unset (let within : 0 < length list = slice_get_within list 0 own there in omega (arith, are.few, within));
       revivals = revival-left layout view cpu list [] empty_banks (serves empty_banks refl).rows_are tt (omega arith);
     }) (handle-known layout view cpu list [] at-first.handles c.own (numbers-begin layout view cpu list) numbered (omega arith) begins.handle) forks-so
 
@@ -202,7 +202,7 @@ module _ (layout : Layout) (cpu : Cpu) (list : List Command) (are : AreCommands 
   begun x begins = which (slice_get list 0) refl x begins
     where
       which : (o : Option Command) → slice_get list 0 ≡ o → (y : Option Course) → BeginsAt layout (at_number cpu 0) o at-first y → FitsAt layout view cpu list [] (left_of y at-first) y
-      which (Some command) there (Some c) at = running command c there at
+      which (Some own) there (Some c) at = running own c there at
       which None there None at = done there
-      which (Some command) there None at = absurd at
+      which (Some own) there None at = absurd at
       which None there (Some c) at = absurd at
