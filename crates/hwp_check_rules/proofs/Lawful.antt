@@ -202,7 +202,7 @@ module _ (script : Script) (report : Report) where
   lawful-holds one_each law = by
     where
       all : (rule : Rule) → Fits rule acted copied report
-      all = fits acted copied report (acted-many script report ∙ one_each) (record { shape = law.shape; histories = law.histories; answers = law.answers; frames = law.frames; losses = losses-acted script report law.losses })
+      all = fits acted copied report (acted-many script report ∙ one_each) (record { shape = record { version = law.shape.version; frames = law.shape.frames; pages = law.shape.pages; cpus = law.shape.cpus }; histories = law.histories; answers = law.answers; frames = law.frames; losses = losses-acted script report law.losses })
 
       by : (rule : Rule) → Holds rule script report
       by Shape = all Shape
@@ -216,7 +216,7 @@ module _ (script : Script) (report : Report) where
       by Frames = all Frames
 
   pub holds-lawful : ((rule : Rule) → Holds rule script report) → IsLawful script report
-  holds-lawful holds = record { shape = law.shape; histories = law.histories; answers = law.answers; frames = law.frames; losses = acted-losses script report law.losses; private = (holds Answers).1 }
+  holds-lawful holds = record { shape = record { version = law.shape.version; frames = law.shape.frames; pages = law.shape.pages; cpus = law.shape.cpus }; histories = law.histories; answers = law.answers; frames = law.frames; losses = acted-losses script report law.losses; private = (holds Answers).1 }
     where
       each : (rule : Rule) → Fits rule acted copied report
       each Shape = holds Shape

@@ -1,4 +1,4 @@
-use Rattle.std.proofs.Common.{◌≡◌, ◌≤◌, ◌+◌, ℕ, length, sym, subst, arith}
+use Rattle.std.proofs.Common.{◌≡◌, ◌≤◌, ◌+◌, [], ◌∷◌, ◌++◌, ℕ, length, sym, subst, arith}
 use Rattle.hwp_check_rules.specs.Pasts.{AreCounts}
 use Rattle.hwp_check_rules.proofs.SettingLaws.{count-more, counts-more, counts-none}
 use Rattle.hwp_check_rules.proofs.pasts.counts_of.Goals as goal
@@ -18,5 +18,5 @@ pub returns : goal.returns
 returns c =
     let all : c.loop-number.number ≡ length c.args.commands.now = let past = c.loop-number-test.false in omega arith in
     subst (AreCounts c.args.layout.now c.args.thread c.args.commands.now c.args.done.now (length c.args.commands.now + 1)) (sym c.in_ok-push-2.ensures)
-    (subst (λ (n : ℕ). AreCounts c.args.layout.now c.args.thread c.args.commands.now c.args.done.now (n + 1) _) all
+    (subst (λ (n : ℕ). AreCounts c.args.layout.now c.args.thread c.args.commands.now c.args.done.now (n + 1) (c.loop-number.list ++ c.loop-number.count ∷ [])) all
     (counts-more c.args.layout.now c.args.commands.now c.args.done.now c.requires.each c.args.thread c.loop-number.number c.loop-number.count c.loop-number.list c.loop-number.invariant.1 c.loop-number.invariant.2))

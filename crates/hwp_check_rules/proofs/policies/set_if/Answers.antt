@@ -9,7 +9,7 @@ returns-in-Stays c =
 
 pub returns-in-Set : goal.returns-in-Set
 returns-in-Set c =
-    set-found c.args.layout.now c.args.commands.now c.args.done.now c.requires.each c.args.thread c.args.number _ c.index-commands-number.result _ _ c.step_of.result _ (Some c.in-Set.field-0) c.requires.within
+    set-found c.args.layout.now c.args.commands.now c.args.done.now c.requires.each c.args.thread c.args.number _ c.index-commands-number.result _ _ c.step_of.result _ (Some c.in-Set.policy) c.requires.within
     c.index-commands-number.is refl c.step_of.ensures c.in-Set.is refl
 
 pub returns-in-From : goal.returns-in-From
