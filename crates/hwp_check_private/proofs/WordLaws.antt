@@ -73,13 +73,14 @@ freeze-never layout slot pairs n past so_far = ap (freeze_from layout slot n) (s
     drop-past (x ∷ xs) zero less = absurd (omega (arith, less))
     drop-past (x ∷ xs) (suc k) less = drop-past xs k (omega (arith, less))
 
+pub rest_is : {X : Type 0} (xs : List X) (n : ℕ) → take (length xs - n) (drop n xs) ≡ drop n xs
+rest_is xs n = take_all (length xs - n) (drop n xs) (let l : length (drop n xs) ≡ length xs - n = length-drop n xs in omega (arith, l))
+
 -- what a full copy would hold, by the words stored since
 pub private-is : (layout : Layout) (report : Report) (cpu : Cpu) (fork : ℕ) (slot : VSlot) (line first : ℕ) (earlier behind : List (Command × Answer)) → first ≡ word_at_fork layout report cpu fork slot line
-    → behind ≡ take (length earlier - (fork + 1)) (drop (fork + 1) earlier) → last_stored slot line first behind ≡ private_word layout report cpu fork slot line earlier
+    → behind ≡ drop (fork + 1) earlier → last_stored slot line first behind ≡ private_word layout report cpu fork slot line earlier
 private-is layout report cpu fork slot line first earlier behind first_is behind_is =
-    ap (λ (n : ℕ). last_stored slot line n behind) first_is
-    ∙ ap (last_stored slot line (word_at_fork layout report cpu fork slot line)) (behind_is ∙ take_all {A = Command × Answer} (length earlier - (fork + 1)) (drop (fork + 1) earlier)
-    (let l : length (drop (fork + 1) earlier) ≡ length earlier - (fork + 1) = length-drop (fork + 1) earlier in omega (arith, l)))
+    ap (λ (n : ℕ). last_stored slot line n behind) first_is ∙ ap (last_stored slot line (word_at_fork layout report cpu fork slot line)) behind_is
 
 -- ---- the word that is expected
 

@@ -21,7 +21,7 @@ fn expected(
         return None;
     };
     match frozen_at(layout, earlier, spot.slot) {
-        Some(fork) => Some(private_word(layout, report, cpu, fork, spot, earlier)),
+        Some(fork) => Some(private_word(layout, report, cpu, fork, &spot, earlier)),
         None => None,
     }
 }

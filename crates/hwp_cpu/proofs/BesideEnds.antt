@@ -1,4 +1,6 @@
 -- A turn of the frame that is taken out of use beside a command, and what is so when that is done.
+use Rattle.hwp_cpu_course.specs.hwp_cpu_command.hwp_cpu_copy.declared.Copying.{Copying}
+use Rattle.hwp_cpu_course.specs.hwp_cpu_command.hwp_cpu_copy.Copyings as copyings
 use Rattle.hwp_cpu_course.specs.hwp_cpu_command.hwp_cpu_copy.Fits as copying_fits
 use Rattle.hwp_cpu_course.proofs.of_hwp_cpu_command.of_hwp_cpu_copy.CopyResting as copy-resting
 use Rattle.hwp_cpu_course.specs.hwp_cpu_row.hwp_geom.declared.VSlot.{VSlot}
@@ -96,7 +98,7 @@ said-so soft_answers.NoFrame foreign = refl
 said-so (soft_answers.TakenFree cycle) foreign = refl
 said-so (soft_answers.Moved to at cycle) foreign = refl
 
--- the entry by which a page leaves a frame
+-- an entry by which a page left its frame beside the command
 soft-so : (what : What) → is_soft what ≡ true → what ≡ entries.Soft
 soft-so entries.Soft is = refl
 soft-so what is = absurd (true≢false (sym is))
@@ -175,6 +177,9 @@ module _ (layout : Layout) (old new : View) (cpu : Cpu) (list : List Command) (r
     })
   ]
     where
+      own-request : (paused : IsPaused layout old at command c.own) → paused.instruction.request.who ≡ at
+      own-request paused = sym (ap jobs.who paused.is) ∙ runs-who layout at command copies c.own way.runs
+
       -- of a copy the entry by which the page left is one of its own
       copy-on : (paused : HasCopyPaused layout old c.own) → HasCopyPaused layout new c.own
       copy-on paused = record { copying = paused.copying; is = paused.is; pause = paused.pause; paused = paused.paused; rests = by adds.adds }
@@ -186,9 +191,6 @@ module _ (layout : Layout) (old new : View) (cpu : Cpu) (list : List Command) (r
           by (inl same) = copy-resting.resting-stays paused.copying paused.pause paused.rests (made-by paused.copying.store.who own-copy) [] (subst (λ (w : Who). deeds w new ≡ deeds w old ++ []) (sym own-copy) (same ∙ sym (append-nil (deeds at old)))) (λ i m there. absurd (none-some m there))
           by (inr (m, more, beside)) = copy-resting.resting-stays paused.copying paused.pause paused.rests (made-by paused.copying.store.who own-copy) (m ∷ []) (subst (λ (w : Who). deeds w new ≡ deeds w old ++ m ∷ []) (sym own-copy) more)
               (each-push (λ (x : Made). x.entry.what ≡ entries.Soft) [] m (soft-so m.entry.what beside) (λ i x there. absurd (none-some x there)))
-
-      own-request : (paused : IsPaused layout old at command c.own) → paused.instruction.request.who ≡ at
-      own-request paused = sym (ap jobs.who paused.is) ∙ runs-who layout at command copies c.own way.runs
 
       pauses-on : Pauses layout old at command c.own → Pauses layout new at command c.own
       pauses-on (inl paused) = inl (record {
@@ -205,7 +207,8 @@ module _ (layout : Layout) (old new : View) (cpu : Cpu) (list : List Command) (r
 
   pub beside-on : IsRunning layout new cpu list rows local later
   beside-on = record {
-    command = command; copies = copies;
+    command = command;
+    copies = copies;
     way = way-later;
     on = record {
       base = run.base;

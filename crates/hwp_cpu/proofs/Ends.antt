@@ -27,6 +27,7 @@ use Rattle.hwp_cpu.proofs.ProcessorOpens.{begun}
 use Rattle.hwp_cpu.proofs.ProcessorServes.{served}
 use Rattle.hwp_cpu.proofs.ProcessorLaws.{own-cpu}
 use Rattle.hwp_cpu_course.specs.declared.Course.{Course}
+use Rattle.hwp_cpu_causes.specs.hwp_law_served.hwp_soft.declared.soft.SoftAt.TheVariants as at
 use Rattle.hwp_cpu_course.specs.Courses as courses
 
 -- ---- the beginning

@@ -2,7 +2,7 @@
 use Rattle.std.specs.Prelude.{IsSomeAnd}
 use Rattle.hwp_cpu_course.specs.hwp_cpu_command.hwp_kill.Prctl.{policy_set}
 use Rattle.hwp_cpu_course.specs.hwp_cpu_row.hwp_law_commands.Settings.{arguments, last_policy, set_after, set_behind, setting_of, settings, unset}
-use Rattle.std.proofs.Common.{◌≡◌, ◌≢◌, ℕ, zero, suc, ◌+◌, ◌≤◌, ◌==◌, ◌&&◌, ◌||◌, not, Bool, true, false, cond, true≢false, List, [], ◌∷◌, ◌++◌, Option, Some, None, length, map, slice_get, take, count_by, append-nil, refl, sym, ap, ◌∙◌, subst, arith}
+use Rattle.std.proofs.Common.{◌≡◌, ◌≢◌, ℕ, zero, suc, ◌+◌, ◌<◌, ◌≤◌, ◌==◌, ◌&&◌, ◌||◌, not, Bool, true, false, cond, true≢false, List, [], ◌∷◌, ◌++◌, Option, Some, None, length, map, slice_get, take, count_by, append-nil, refl, sym, ap, ◌∙◌, subst, arith}
 use Rattle.std.specs.List.{cons_option, list_any, zip}
 use Rattle.std.specs.Option.{option_map_or}
 use Rattle.std.proofs.lemmas.Bool.{eq-eqb, eqb-true, not-false}
@@ -14,6 +14,7 @@ use Rattle.hwp_cpu_course.specs.hwp_cpu_row.hwp_geom.declared.Layout.{Layout}
 use Rattle.hwp_cpu_course.specs.hwp_cpu_row.hwp_geom.declared.Proc.{Proc}
 use Rattle.hwp_cpu_course.specs.hwp_cpu_row.hwp_geom.declared.Thread.{Thread}
 use Rattle.hwp_cpu_course.specs.hwp_cpu_row.hwp_geom.declared.ThreadDecl.{ThreadDecl}
+use Rattle.hwp_cpu_course.specs.hwp_cpu_row.hwp_geom.declared.Who.{Who}
 use Rattle.hwp_cpu_course.specs.hwp_cpu_command.hwp_kill.declared.Policy.{Policy}
 use Rattle.hwp_cpu_course.specs.hwp_cpu_row.hwp_script_lines.declared.Command.{Command}
 use Rattle.hwp_cpu_course.specs.hwp_cpu_row.hwp_script_lines.declared.Command.TheVariants as commands
@@ -168,7 +169,7 @@ module _ (layout : Layout) (cpu : Cpu) (list : List Command) (rows : List Row) (
         none-set : settings_of t view.settings ≡ []
         none-set = nil_from_length (settings_of t view.settings) (
             let set : settings layout t (answers_by list rows) ≡ [] = ap (λ (l : List (Command × Answer)). set_behind layout unset l t.0) (zip-front list given ∙ ap (λ (m : ℕ). zip (take m list) given) (length-map rows (λ (r : Row). r.answer)))
-                ∙ unset-zip layout child t.0 own unset (take n list) given parts.1 unforked in
+            ∙ unset-zip layout child t.0 own unset (take n list) given parts.1 unforked in
             let same : length (policies_in t view) ≡ 0 = ap length (all t ∙ set) in
             let many : length (policies_in t view) ≡ length (settings_of t view.settings) = length-map (settings_of t view.settings) (λ (s : Setting). s.policy) in
             omega (arith, same, many))

@@ -13,7 +13,7 @@ use Rattle.hwp_cpu_course.specs.Dues.{next_due}
 use Rattle.hwp_cpu_course.specs.hwp_cpu_command.Jobs.{told_of}
 use Rattle.hwp_cpu.proofs.OwnRests.{HoldsNone, answer-known, AnswerKnown}
 use Rattle.std.proofs.lemmas.List.{take_all, length-map}
-use Rattle.hwp_cpu.specs.Serving.{Pauses, KeepsWatch, noting, IsUnderWay, HasAnswered, noted_by, IsRunning, GivesUp, OwnGoesOn, Rests}
+use Rattle.hwp_cpu.specs.Serving.{Pauses, KeepsWatch, noting, IsUnderWay, HasAnswered, noted_by, IsRunning, IsPaused, GivesUp, OwnGoesOn, Rests}
 use Rattle.hwp_cpu_course.specs.hwp_cpu_row.declared.Offlining.{Offlining}
 use Rattle.hwp_cpu_causes.specs.hwp_law_served.Offlinings.{watched_at, left_beside}
 use Rattle.hwp_cpu_causes.specs.hwp_law_served.Causes.{IsAnswerCaused}
@@ -146,7 +146,8 @@ module _ (layout : Layout) (view : View) (cpu : Cpu) (list : List Command) (rows
       by : (o : Option Answer) → jobs.answer (jobs.resume c.own) ≡ o → Turned layout view cpu list rows local (going_on c None) o
       by None is = inl running
       by (Some a) is = record {
-        command = command; copies = copies;
+        command = command;
+        copies = copies;
         way = way-now;
         known = answer-known layout view cpu list rows local command copies (going_on c None) way-now own.base own.fits own.prior own.left a is;
         none = refl;

@@ -116,10 +116,6 @@ free-told y e stored (Some evict_answers.Stopped) = refl
 free-told y e stored (Some (evict_answers.Done place)) = refl
 free-told y e stored (Some (evict_answers.Refused refusal place)) = refl
 
--- with its access after a step
-abbrev accessed : Copying → Instruction → Copying
-accessed y i = record (copyings.bare_at y copying_at.Access) { instruction = i }
-
 module _ {base : List Made} (layout : Layout) (old new : View) (y : Copying) (k : Job) (fits : copying_fits.FitsFrom base layout old y) (made : Stepped layout old new (kinds.Copying y) k) where
   abbrev went : Copying
   went = made.follows.0
@@ -149,11 +145,14 @@ module _ {base : List Made} (layout : Layout) (old new : View) (y : Copying) (k 
           who-is : y.instruction.request.who ≡ y.store.who
           who-is = (request-who y.store y.page (cows.sub_of y.cow) has.request_is).0
 
+          then : Copying
+          then = record (copyings.bare_at y copying_at.Access) { instruction = next.instruction }
+
           same-told : went.instruction.lines.told ≡ next.instruction.lines.told
-          same-told = ap (λ (x : Copying). x.instruction.lines.told) next.next_is ∙ access-told (accessed y next.instruction) (instructions.answer next.instruction)
+          same-told = ap (λ (x : Copying). x.instruction.lines.told) next.next_is ∙ access-told then (instructions.answer next.instruction)
 
           -- where the access pauses the copy does
-          paused-so : (o : Option InstructionAnswer) → instructions.answer next.instruction ≡ o → is_some (instructions.pause next.instruction) ≡ true → is_some (copyings.pause (copyings.after_access (accessed y next.instruction) o)) ≡ true
+          paused-so : (o : Option InstructionAnswer) → instructions.answer next.instruction ≡ o → is_some (instructions.pause next.instruction) ≡ true → is_some (copyings.pause (copyings.after_access then o)) ≡ true
           paused-so (Some x) is pauses = absurd (both-none next.instruction.at is pauses)
             where
               both-none : (z : InstructionAt) → instructions.answer_at z ≡ Some x → is_some (instructions.pause_at z) ≡ true → ⊥
@@ -187,7 +186,7 @@ module _ {base : List Made} (layout : Layout) (old new : View) (y : Copying) (k 
               none on goes (inl pauses) = absurd (true≢false (sym (ap (λ (x : Copying). is_some (copyings.pause x)) next.next_is ∙ paused-so (instructions.answer next.instruction) refl pauses) ∙ goes))
               none on goes (inr why) = answered-unnoted y.instruction has.instruction tells.more tells.of_check (halted-or why on)
       by (copying_at.Free e stored) own has planned moved next = untold (ap (λ (x : Copying). x.instruction.lines.told) next.next_is ∙ free-told (copyings.bare_at y (copying_at.Free e stored)) next.evict stored (evicts.answer next.evict))
-      by (copying_at.Over answer) own has planned moved _ = absurd (none-some made.step planned)
+      by (copying_at.Over answer) own has planned moved follows = absurd (none-some made.step planned)
 
   pub copy-notes : told_notes layout (told_of k) ≡ told_notes layout y.instruction.lines.told ++ told_notes layout (drop (length y.instruction.lines.told) (told_of k))
   copy-notes = subst (λ (j : Job). told_notes layout (told_of j) ≡ told_notes layout y.instruction.lines.told ++ told_notes layout (drop (length y.instruction.lines.told) (told_of j))) (sym made.follows.1)

@@ -12,6 +12,7 @@ use Rattle.hwp_cpu.specs.declared.processor.Processor.{Processor}
 use Rattle.hwp_cpu.specs.Processors.{claims, claims_of, class, class_of, plan, plan_of}
 use Rattle.hwp_cpu.specs.Serving.{Fits, FitsAt, task}
 use Rattle.hwp_cpu_course.specs.declared.Course.{Course}
+use Rattle.hwp_cpu_causes.specs.hwp_law_served.hwp_soft.declared.soft.SoftAt.TheVariants as at
 
 pub tells : TellsClass task
 tells = record { frame = frame; page = page; claim = claim }

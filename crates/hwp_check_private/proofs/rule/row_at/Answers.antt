@@ -13,3 +13,8 @@ pub overflow_add-result : goal.overflow_add-result
 overflow_add-result c =
     let most : cpu_line c.args.report.now c.args.cpu.0 + 1 + c.args.row < last_line c.args.report.now = row-room c.args.report.now c.args.cpu.0 c.args.row c.args.rows.now c.requires.of_report c.requires.inside in
     omega (arith, most, c.requires.room)
+
+pub overflow_add-result-2 : goal.overflow_add-result-2
+overflow_add-result-2 c =
+    let most : cpu_line c.args.report.now c.args.cpu.0 + 1 + c.args.row < last_line c.args.report.now = row-room c.args.report.now c.args.cpu.0 c.args.row c.args.rows.now c.requires.of_report c.requires.inside in
+    omega (arith, most, c.requires.room)
