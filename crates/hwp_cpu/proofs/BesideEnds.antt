@@ -205,8 +205,7 @@ module _ (layout : Layout) (old new : View) (cpu : Cpu) (list : List Command) (r
 
   pub beside-on : IsRunning layout new cpu list rows local later
   beside-on = record {
-    command = command;
-    copies = copies;
+    command = command; copies = copies;
     way = way-later;
     on = record {
       base = run.base;

@@ -120,8 +120,7 @@ module _ (layout : Layout) (view : View) (cpu : Cpu) (list : List Command) (rows
 
     pub begins-beside : IsRunning layout view cpu list rows local taking
     begins-beside = record {
-      command = command;
-      copies = copies;
+      command = command; copies = copies;
       way = way-taking;
       on = record {
         base = deeds at view;

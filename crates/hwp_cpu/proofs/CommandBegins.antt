@@ -352,7 +352,7 @@ module _ (layout : Layout) (new : View) (cpu : Cpu) (list : List Command) (rows 
   settled b begins = which (slice_get list (n + 1)) refl b begins
     where
       which : (o : Option Command) → slice_get list (n + 1) ≡ o → (x : Option Course) → BeginsAt layout (at_number cpu (n + 1)) o after x → FitsAt layout new cpu list longer (left_of x after) x
-      which (Some coming) there (Some x) is = begun coming x there is
+      which (Some next) there (Some x) is = begun next x there is
       which None there None is = done there
       which (Some _) there None is = absurd is
       which None there (Some x) is = absurd is

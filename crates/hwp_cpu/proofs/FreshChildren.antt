@@ -168,7 +168,7 @@ module _ (layout : Layout) (cpu : Cpu) (list : List Command) (rows : List Row) (
         none-set : settings_of t view.settings ≡ []
         none-set = nil_from_length (settings_of t view.settings) (
             let set : settings layout t (answers_by list rows) ≡ [] = ap (λ (l : List (Command × Answer)). set_behind layout unset l t.0) (zip-front list given ∙ ap (λ (m : ℕ). zip (take m list) given) (length-map rows (λ (r : Row). r.answer)))
-            ∙ unset-zip layout child t.0 own unset (take n list) given parts.1 unforked in
+                ∙ unset-zip layout child t.0 own unset (take n list) given parts.1 unforked in
             let same : length (policies_in t view) ≡ 0 = ap length (all t ∙ set) in
             let many : length (policies_in t view) ≡ length (settings_of t view.settings) = length-map (settings_of t view.settings) (λ (s : Setting). s.policy) in
             omega (arith, same, many))

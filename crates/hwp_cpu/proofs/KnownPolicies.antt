@@ -102,7 +102,7 @@ given-one thread policy process n (t ∷ ts) zero is = which (t.process.0 == pro
     which false = rest
 given-one thread policy process n (t ∷ ts) (suc m) is =
     of-other thread policy (t.process.0 == process.0) (record { 0 = n }) (threads_of process (n + 1) ts) (cons_option (cond (is_of process (slice_get ts m)) (Some policy) None) []) (ne_eqb n thread.0 (λ same. absurd (omega (arith, is, same))))
-    (given-one thread policy process (n + 1) ts m (omega (arith, is)))
+        (given-one thread policy process (n + 1) ts m (omega (arith, is)))
 
 -- what a command has set for the thread is what its answer says
 by-answer : (layout : Layout) (earlier : List (Command × Answer)) (thread : Thread) (command : Command) (answer : Answer)

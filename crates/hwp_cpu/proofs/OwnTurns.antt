@@ -142,8 +142,7 @@ module _ (layout : Layout) (old new : View) (cpu : Cpu) (list : List Command) (r
         by : (o : Option Answer) → jobs.answer k ≡ o → Turned layout new cpu list rows local past o
         by None is = inl (record { command = command; copies = copies; way = way-past; on = subst (GoesOn layout new cpu list rows local command copies past) (sym beside_is) (own-on layout old new command copies c k on made base_is noted told) })
         by (Some a) is = record {
-          command = command;
-          copies = copies;
+          command = command; copies = copies;
           way = way-past;
           known = answer-known layout new cpu list rows local command copies past way-past on.base fits-next on.prior left-next a is;
           none = beside_is;
@@ -334,8 +333,7 @@ module _ (layout : Layout) (old new : View) (cpu : Cpu) (list : List Command) (r
         refused more (after_is, turn_is) = subst (λ (x : Course). Turned layout new cpu list rows local x (answer x)) (sym after_is)
             (subst (λ (o : Option Soft). Turned layout new cpu list rows local (record next { own = jobs.give_up k }) (answer_of o (jobs.give_up k))) (sym beside_is)
             (subst (λ (o : Option Answer). Turned layout new cpu list rows local (record next { own = jobs.give_up k }) o) (sym (given-up-unanswered (jobs.give_up k) up)) (inr (record {
-              command = command;
-              copies = copies;
+              command = command; copies = copies;
               next = way-next.next;
               runs = runs-alike layout at command copies k (jobs.give_up k) (give-up-goes k) way-next.runs;
               up = up;

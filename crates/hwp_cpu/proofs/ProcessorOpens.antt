@@ -203,7 +203,7 @@ module _ (layout : Layout) (cpu : Cpu) (list : List Command) (are : AreCommands 
   begun x begins = which (slice_get list 0) refl x begins
     where
       which : (o : Option Command) → slice_get list 0 ≡ o → (y : Option Course) → BeginsAt layout (at_number cpu 0) o at-first y → FitsAt layout view cpu list [] (left_of y at-first) y
-      which (Some own) there (Some c) at = running own c there at
+      which (Some command) there (Some c) at = running command c there at
       which None there None at = done there
       which (Some _) there None at = absurd at
       which None there (Some c) at = absurd at
