@@ -1,7 +1,6 @@
 use Rattle.std.proofs.Common.{◌+◌, Bool, List, ap, length, subst, ◌∙◌}
 use Rattle.hwp_check_rules.specs.Pasts.{AreCounts, settings_by}
 use Rattle.hwp_check_rules.proofs.SettingLaws.{past_is}
-use Rattle.hwp_check_rules.proofs.Lawful.{lawful-holds, holds-lawful}
 use Rattle.hwp_check_rules.proofs.pasts.past_of.Goals as goal
 
 pub returns : goal.returns
