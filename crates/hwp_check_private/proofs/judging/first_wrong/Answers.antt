@@ -1,4 +1,4 @@
-use Rattle.std.proofs.Common.{◌≤◌, arith}
+use Rattle.std.proofs.Common.{arith}
 use Rattle.std.proofs.lemmas.Option.{slice_get-get_or}
 use Rattle.hwp_check_private.proofs.JudgeLaws.{kept-none, kept_all, kept_next, wrong_first}
 use Rattle.hwp_check_private.proofs.judging.first_wrong.Goals as goal

@@ -1,4 +1,4 @@
-use Rattle.std.proofs.Common.{◌≡◌, ◌<◌, ◌∙◌}
+use Rattle.std.proofs.Common.{◌∙◌}
 use Rattle.std.proofs.lemmas.Option.{slice_get_within}
 use Rattle.hwp_check_private.proofs.RuleLaws.{first-on, read-at}
 use Rattle.hwp_check_private.proofs.rule.fault_on.Goals as goal

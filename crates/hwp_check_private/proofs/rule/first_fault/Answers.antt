@@ -1,4 +1,4 @@
-use Rattle.std.proofs.Common.{◌≤◌, arith}
+use Rattle.std.proofs.Common.{arith}
 use Rattle.hwp_check_private.proofs.RuleLaws.{all-private, fault-is, none-under, under-next}
 use Rattle.hwp_check_private.proofs.rule.first_fault.Goals as goal
 
