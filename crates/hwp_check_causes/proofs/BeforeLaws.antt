@@ -1,16 +1,14 @@
 -- The policies that stand before commands are those that the threads had.
-use Rattle.std.proofs.Common.{◌≡◌, inl, inr, ℕ, ◌+◌, ◌<◌, Bool, List, [], ◌∷◌, ◌++◌, Some, length, refl, sym, ap, ◌∙◌, subst, arith}
+use Rattle.std.proofs.Common.{◌≡◌, inl, inr, ℕ, ◌+◌, ◌<◌, Bool, List, [], ◌∷◌, ◌++◌, Some, length, sym, ap, ◌∙◌, subst, arith}
 use Rattle.std.specs.Option.{option_map_or}
 use Rattle.std.proofs.lemmas.Bool.{cases_lt}
 use Rattle.std.proofs.lemmas.List.{get_or_append_left, get_or_push, length_push}
 use Rattle.std.proofs.lemmas.Option.{slice_get-get_or, slice_get_within}
 use Rattle.hwp_check_evidence.specs.hwp_geom.declared.Layout.{Layout}
-use Rattle.hwp_check_evidence.specs.hwp_geom.declared.Thread.{Thread}
 use Rattle.hwp_check_evidence.specs.hwp_kill.declared.Policy.{Policy}
 use Rattle.hwp_check_evidence.specs.hwp_kill.declared.Policy.TheVariants.{Default}
 use Rattle.hwp_check_evidence.specs.hwp_script_read.declared.Command.{Command}
 use Rattle.hwp_check_evidence.specs.hwp_script_read.declared.Command.TheVariants as commands
-use Rattle.hwp_check_evidence.specs.hwp_script_read.declared.PrctlArgs.{PrctlArgs}
 use Rattle.hwp_check_evidence.specs.hwp_report_text.declared.CpuLine.{CpuLine}
 use Rattle.hwp_check_evidence.specs.hwp_law_commands.Settings.{last_policy}
 use Rattle.hwp_check_rules.specs.Pasts.{AreDoneInOrder}

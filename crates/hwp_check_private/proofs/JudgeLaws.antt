@@ -1,5 +1,5 @@
 -- Whether a line answers a load by another word, by what was found.
-use Rattle.std.proofs.Common.{◌≡◌, ◌⊎◌, inl, inr, ℕ, ◌+◌, ◌<◌, ◌≤◌, ◌==◌, Bool, true, false, List, Option, Some, None, IsTrue, MatchBool, length, not, slice_get, take, refl, sym, ap, subst, ◌∙◌, true≢false, arith, cond, ◌↔◌}
+use Rattle.std.proofs.Common.{◌≡◌, inl, inr, ℕ, ◌+◌, ◌≤◌, ◌==◌, Bool, true, false, List, Some, None, IsTrue, MatchBool, length, not, slice_get, take, refl, sym, ap, subst, ◌∙◌, true≢false, arith, cond, ◌↔◌}
 use Rattle.std.proofs.lemmas.Bool.{cases_lt, eqb-false, eqb-true}
 use Rattle.std.proofs.lemmas.Option.{none-some, same_Some}
 use Rattle.hwp_check_rules.specs.hwp_geom.declared.Cpu.{Cpu}

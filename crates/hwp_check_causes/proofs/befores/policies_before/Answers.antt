@@ -1,6 +1,5 @@
 use Rattle.std.proofs.Common.{Bool, List, length, subst}
 use Rattle.std.proofs.lemmas.Result.{IfOk-weaker}
-use Rattle.hwp_check_evidence.specs.hwp_kill.declared.Policy.{Policy}
 use Rattle.hwp_check_causes.specs.Befores.{AreBeforeBy}
 use Rattle.hwp_check_causes.proofs.BeforeLaws.{before_is}
 use Rattle.hwp_check_causes.proofs.befores.policies_before.Goals as goal

@@ -1,4 +1,4 @@
-use Rattle.std.proofs.Common.{◌≤◌, get_or, arith}
+use Rattle.std.proofs.Common.{arith}
 use Rattle.std.proofs.lemmas.Option.{slice_get-get_or}
 use Rattle.hwp_check_private.proofs.JudgeLaws.{kept-none, kept_all, kept_next, wrong_first}
 use Rattle.hwp_check_private.proofs.judging.first_wrong.Goals as goal
@@ -8,12 +8,12 @@ loop-number-init c = kept-none c.args.layout.now c.args.report.now c.args.cpu c.
 
 pub loop-number-preserved : goal.loop-number-preserved
 loop-number-preserved c =
-    kept_next c.args.layout.now c.args.report.now c.args.cpu c.args.commands.now c.args.rows.now c.args.pairs.now c.loop-number.number (get_or c.args.rows.now c.loop-number.number _) (slice_get-get_or c.args.rows.now c.loop-number.number _ c.loop-number-test.true)
+    kept_next c.args.layout.now c.args.report.now c.args.cpu c.args.commands.now c.args.rows.now c.args.pairs.now c.loop-number.number _ (slice_get-get_or c.args.rows.now c.loop-number.number _ c.loop-number-test.true)
     c.if-is_wrong.ensures c.loop-number.invariant
 
 pub returns-then-is_wrong : goal.returns-then-is_wrong
 returns-then-is_wrong c =
-    wrong_first c.args.layout.now c.args.report.now c.args.cpu c.args.commands.now c.args.rows.now c.args.pairs.now c.loop-number.number (get_or c.args.rows.now c.loop-number.number _) (slice_get-get_or c.args.rows.now c.loop-number.number _ c.loop-number-test.true)
+    wrong_first c.args.layout.now c.args.report.now c.args.cpu c.args.commands.now c.args.rows.now c.args.pairs.now c.loop-number.number _ (slice_get-get_or c.args.rows.now c.loop-number.number _ c.loop-number-test.true)
     c.if-is_wrong.ensures c.loop-number.invariant
 
 pub returns : goal.returns

@@ -1,4 +1,4 @@
-use Rattle.std.proofs.Common.{◌≡◌, ◌<◌, ◌≤◌, ◌+◌, length, ap, ◌∙◌, arith}
+use Rattle.std.proofs.Common.{◌≡◌, ◌<◌, ◌+◌, length, ap, ◌∙◌, arith}
 use Rattle.std.proofs.lemmas.Option.{slice_get_within}
 use Rattle.hwp_check_rules.specs.Standing.{cpu_line, last_line}
 use Rattle.hwp_check_private.proofs.RuleLaws.{row-room}
@@ -11,12 +11,12 @@ cpu_at-requires-clause-within c =
 
 pub overflow_add-result : goal.overflow_add-result
 overflow_add-result c =
-    let most : cpu_line c.args.report.now c.args.cpu.0 + 1 + c.args.row < last_line c.args.report.now = row-room c.args.report.now c.args.cpu.0 c.args.row c.args.rows.now c.requires.of_report c.requires.inside in
     let at : c.cpu_at.result ≡ cpu_line c.args.report.now c.args.cpu.0 = c.cpu_at.ensures ∙ ap (cpu_line c.args.report.now) c.from.ensures in
-    omega (arith, most, at, c.requires.room)
+    let most : cpu_line c.args.report.now c.args.cpu.0 + 1 + c.args.row < last_line c.args.report.now = row-room c.args.report.now c.args.cpu.0 c.args.row c.args.rows.now c.requires.of_report c.requires.inside in
+    omega (arith, at, most, c.requires.room)
 
 pub overflow_add-result-2 : goal.overflow_add-result-2
 overflow_add-result-2 c =
-    let most : cpu_line c.args.report.now c.args.cpu.0 + 1 + c.args.row < last_line c.args.report.now = row-room c.args.report.now c.args.cpu.0 c.args.row c.args.rows.now c.requires.of_report c.requires.inside in
     let at : c.cpu_at.result ≡ cpu_line c.args.report.now c.args.cpu.0 = c.cpu_at.ensures ∙ ap (cpu_line c.args.report.now) c.from.ensures in
-    omega (arith, most, at, c.requires.room)
+    let most : cpu_line c.args.report.now c.args.cpu.0 + 1 + c.args.row < last_line c.args.report.now = row-room c.args.report.now c.args.cpu.0 c.args.row c.args.rows.now c.requires.of_report c.requires.inside in
+    omega (arith, at, most, c.requires.room)

@@ -1,4 +1,4 @@
-use Rattle.std.proofs.Common.{◌≤◌, arith}
+use Rattle.std.proofs.Common.{arith}
 use Rattle.hwp_check_private.proofs.WordLaws.{freeze-here, freeze-later, freeze-never}
 use Rattle.hwp_check_private.proofs.words.frozen_at.Goals as goal
 

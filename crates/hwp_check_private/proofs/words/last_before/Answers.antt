@@ -1,4 +1,4 @@
-use Rattle.std.proofs.Common.{◌≤◌, ℕ, Option, unwrap_or, ap, ◌∙◌, arith}
+use Rattle.std.proofs.Common.{ℕ, Option, unwrap_or, ap, ◌∙◌, arith}
 use Rattle.hwp_check_rules.specs.hwp_law.Private.{word_before}
 use Rattle.hwp_check_private.proofs.WordLaws.{word-all, word_more}
 use Rattle.hwp_check_private.proofs.words.last_before.Goals as goal

@@ -1,4 +1,4 @@
-use Rattle.std.proofs.Common.{◌≤◌, ℕ, Option, unwrap_or, ap, ◌∙◌, arith}
+use Rattle.std.proofs.Common.{ℕ, Option, unwrap_or, ap, ◌∙◌, arith}
 use Rattle.hwp_check_rules.specs.hwp_law.Private.{word_stored}
 use Rattle.hwp_check_rules.specs.hwp_report_text.declared.Answer.{Answer}
 use Rattle.hwp_check_rules.specs.hwp_script_read.declared.Command.{Command}
