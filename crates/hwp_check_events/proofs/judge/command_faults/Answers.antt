@@ -17,12 +17,12 @@ returns-in-Load c = elim c.in-Load-1.branch [
 ]
 
 pub judge_store-requires-clause-copied : goal.judge_store-requires-clause-copied
-judge_store-requires-clause-copied c = c.requires.copied ∙ ap (copied_by c.args.script.now.layout (copies_in c.args.copies.now) c.args.report.now c.args.who) c.in-Store.is.2
+judge_store-requires-clause-copied c = c.requires.copied ∙ ap (copied_by c.args.script.now.layout (copies_in c.args.copies.now) c.args.report.now c.args.who) c.in-Store.is
 
 pub returns-in-Store : goal.returns-in-Store
 returns-in-Store c =
     store-judged c.args.script.now (copies_in c.args.copies.now) c.args.report.now c.args.who c.args.command.now c.args.raw.now c.judge_store.new.raw (shown_lines c.args.lines.now) c.judge_store.result c.arrival_of-how.result c.arrival_of-how.ensures
-    c.in-Store.is.0 c.in-Store.slot c.in-Store.line c.in-Store.is.1 c.in-Store.is.2 c.judge_store.ensures
+    c.in-Store.thread c.in-Store.slot c.in-Store.line c.in-Store.word c.in-Store.is c.judge_store.ensures
 
 pub returns-in-Scrub : goal.returns-in-Scrub
 returns-in-Scrub c =
