@@ -2,7 +2,7 @@
 use Rattle.std.proofs.Common.{◌≡◌, ℕ, zero, suc, ◌+◌, ◌-◌, ◌<◌, ◌≤◌, ◌==◌, Bool, true, false, List, [], ◌∷◌, ◌++◌, Option, Some, None, cond, drop, filter, get_or, length, map, replicate, slice_get, unwrap_or, inl, inr, refl, sym, ap, ◌∙◌, arith}
 use Rattle.std.specs.Option.{option_map_or}
 use Rattle.std.proofs.lemmas.Bool.{cases_lt}
-use Rattle.std.proofs.lemmas.List.{append-nil, drop_all, drop_more, get_or_append_left, get_or_push, length-replicate, length-append, get_or-append-add, get_or-replicate, append_assoc}
+use Rattle.std.proofs.lemmas.List.{append-nil, drop_all, drop_more, get_or_append_left, get_or_push, append_assoc}
 use Rattle.std.proofs.lemmas.Option.{same_Some}
 use Rattle.hwp_banks.specs.hwp_geom.declared.Cpu.{Cpu}
 use Rattle.hwp_banks.specs.hwp_geom.declared.VSlot.{VSlot}
@@ -39,31 +39,7 @@ met-copied checks copied count_is =
     let none : checks.count - length copied ≡ 0 = omega (arith, count_is) in
     ap (λ (n : ℕ). copied ++ replicate n checks.at) none ∙ append-nil copied
 
-pub met-length : (checks : Checks) (copied : List ℕ) → length copied ≤ checks.count → length (lines_met checks copied) ≡ checks.count
-met-length checks copied within =
-    let all : length (lines_met checks copied) ≡ length copied + length (replicate (checks.count - length copied) checks.at) = length-append copied (replicate (checks.count - length copied) checks.at) in
-    let rest : length (replicate (checks.count - length copied) checks.at) ≡ checks.count - length copied = length-replicate {A = ℕ} (checks.count - length copied) checks.at in
-    omega (arith, all, rest, within)
-
-pub met-at-copied : (checks : Checks) (copied : List ℕ) (n : ℕ) (d : ℕ) → n < length copied → get_or copied n d ≡ get_or (lines_met checks copied) n 0
-met-at-copied checks copied n d within =
-    sym (get_or_append_left copied (replicate (checks.count - length copied) checks.at) 0 n within ∙ any-default copied n 0 d within)
-  where
-    any-default : (xs : List ℕ) (k a b : ℕ) → k < length xs → get_or xs k a ≡ get_or xs k b
-    any-default [] k a b less = absurd (omega (arith, less))
-    any-default (x ∷ xs) zero a b less = refl
-    any-default (x ∷ xs) (suc k) a b less = any-default xs k a b (omega (arith, less))
-
-pub met-at-plain : (checks : Checks) (copied : List ℕ) (n : ℕ) → n < checks.count → length copied ≤ n → checks.at ≡ get_or (lines_met checks copied) n 0
-met-at-plain checks copied n within past =
-    let place : n ≡ length copied + (n - length copied) = omega (arith, past) in
-    sym (ap (λ (k : ℕ). get_or (lines_met checks copied) k 0) place ∙ get_or-append-add copied (replicate (checks.count - length copied) checks.at) (n - length copied) 0
-    ∙ get_or-replicate {A = ℕ} (checks.count - length copied) (n - length copied) checks.at 0 (omega (arith, within, past)))
-
 -- ---- a store's lines
-
-pub store-plain : (layout : Layout) (report : Report) (who : Who) (from : Option VSlot) (slot : VSlot) (at n : ℕ) → from ≡ None → store_lines layout report who from slot at ≡ store_lines layout report who None slot at
-store-plain layout report who from slot at n is = ap (λ (o : Option VSlot). store_lines layout report who o slot at) is
 
 pub store-copied : (layout : Layout) (report : Report) (who : Who) (from : Option VSlot) (v slot : VSlot) (at : ℕ) (copied : List ℕ) → from ≡ Some v → copied ≡ copied_from layout report who from slot → copied ≡ store_lines layout report who from slot at
 store-copied layout report who from v slot at copied is are =

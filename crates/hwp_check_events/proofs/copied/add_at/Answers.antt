@@ -1,4 +1,4 @@
-use Rattle.std.proofs.Common.{◌≤◌, [], ◌∷◌, ◌++◌, map, ap, ◌∙◌, arith}
+use Rattle.std.proofs.Common.{[], ◌∷◌, ◌++◌, map, ap, ◌∙◌, arith}
 use Rattle.hwp_law.specs.Copies.{lines_at}
 use Rattle.hwp_check_events.specs.Copied.{pair_of}
 use Rattle.hwp_check_events.specs.declared.copied.CopyCheck.{CopyCheck}

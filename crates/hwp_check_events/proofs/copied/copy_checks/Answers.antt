@@ -1,7 +1,7 @@
-use Rattle.std.proofs.Common.{◌≡◌, ◌≤◌, ◌+◌, ◌++◌, ℕ, List, length, map, ap, ◌∙◌, arith}
+use Rattle.std.proofs.Common.{◌++◌, ℕ, List, length, map, ap, ◌∙◌, arith}
 use Rattle.hwp_law.specs.Copies.{checks_by, is_load, is_store, lines_at}
 use Rattle.hwp_check_events.specs.declared.copied.CopyCheck.{CopyCheck}
-use Rattle.hwp_check_events.specs.Copied.{entries_through, own_whats, pair_of}
+use Rattle.hwp_check_events.specs.Copied.{own_whats, pair_of}
 use Rattle.hwp_check_events.proofs.CopyLaws.{copy-is, lines-more}
 use Rattle.hwp_check_events.proofs.copied.copy_checks.Goals as goal
 

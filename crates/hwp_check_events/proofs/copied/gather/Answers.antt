@@ -1,4 +1,4 @@
-use Rattle.std.proofs.Common.{◌≡◌, ◌≤◌, ◌+◌, [], ◌++◌, ℕ, cond, false, drop, map, sym, ap, subst, ◌∙◌, arith}
+use Rattle.std.proofs.Common.{◌≤◌, ◌+◌, [], ◌++◌, ℕ, cond, false, drop, map, sym, ap, subst, ◌∙◌, arith}
 use Rattle.hwp_law.specs.Copies.{checks_by}
 use Rattle.hwp_law.specs.Lines.{is_same_command}
 use Rattle.hwp_law.specs.hwp_page.declared.Entry.{Entry}
