@@ -1,5 +1,5 @@
 -- A store of a command behind a place in a page's history.
-use Rattle.std.proofs.Common.{◌≡◌, ℕ, zero, suc, ◌+◌, ◌-◌, ◌<◌, ◌≤◌, ◌&&◌, Bool, true, false, List, [], ◌∷◌, Option, Some, None, drop, length, slice_get, refl, sym, ap, subst, ◌∙◌, true≢false, arith, ◌==◌, ◌||◌}
+use Rattle.std.proofs.Common.{◌≡◌, ℕ, zero, suc, ◌+◌, ◌<◌, ◌≤◌, ◌&&◌, Bool, true, false, List, [], ◌∷◌, Option, Some, None, drop, length, slice_get, refl, sym, ap, subst, ◌∙◌, true≢false, arith, ◌==◌, ◌||◌}
 use Rattle.std.specs.List.{list_any}
 use Rattle.std.proofs.lemmas.Bool.{eq-eqb, eqb-true}
 use Rattle.std.proofs.lemmas.List.{drop_all}
@@ -40,11 +40,13 @@ who-same a b same = and-true (a.cpu.0 == b.cpu.0) (a.seq == b.seq) (eq-eqb a.cpu
 any-at : (who : Who) (list : List Entry) (n : ℕ) → list_any (is_own_store who) (drop n list) ≡ true → (k : ℕ) × (e : Entry) × (n ≤ k) × (slice_get list k ≡ Some e) × (is_own_store who e ≡ true)
 any-at who [] zero is = absurd (true≢false (sym is))
 any-at who [] (suc n) is = absurd (true≢false (sym is))
-any-at who (e ∷ es) zero is = by (is_own_store who e) refl is
+any-at who (e ∷ es) zero is = by (is_own_store who e) refl is (λ any. any-at who es 0 any)
   where
-    by : (b : Bool) → is_own_store who e ≡ b → (b || list_any (is_own_store who) es) ≡ true → (k : ℕ) × (f : Entry) × (0 ≤ k) × (slice_get (e ∷ es) k ≡ Some f) × (is_own_store who f ≡ true)
-    by true here any = (0, e, omega arith, refl, here)
-    by false here any = let r = any-at who es 0 any in (suc r.0, r.1, omega arith, r.3, r.4)
+    by : (b : Bool) → is_own_store who e ≡ b → (b || list_any (is_own_store who) es) ≡ true
+        → (list_any (is_own_store who) es ≡ true → (k : ℕ) × (f : Entry) × (0 ≤ k) × (slice_get es k ≡ Some f) × (is_own_store who f ≡ true))
+        → (k : ℕ) × (f : Entry) × (0 ≤ k) × (slice_get (e ∷ es) k ≡ Some f) × (is_own_store who f ≡ true)
+    by true here any rest = (0, e, omega arith, refl, here)
+    by false here any rest = let r = rest any in (suc r.0, r.1, omega arith, r.3, r.4)
 any-at who (e ∷ es) (suc n) is = let r = any-at who es n is in (suc r.0, r.1, (let l : n ≤ r.0 = r.2 in omega (arith, l)), r.3, r.4)
 
 at-any : (who : Who) (list : List Entry) (n k : ℕ) (e : Entry) → n ≤ k → slice_get list k ≡ Some e → is_own_store who e ≡ true → list_any (is_own_store who) (drop n list) ≡ true

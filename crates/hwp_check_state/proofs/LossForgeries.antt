@@ -38,6 +38,7 @@ script_with list = record {
     threads = [];
     pages = File file 9 ∷ [];
     trans = [];
+    twins = [];
     locked = false ∷ [];
   };
   lists = (commands.Inject (record { 0 = 0 }) ∷ commands.Fsync file ∷ commands.Fsync file ∷ []) ∷ list ∷ [];

@@ -5,7 +5,6 @@ use Rattle.hwp_check_rules.specs.Firsts.{soonest, IsFirstFault}
 use Rattle.hwp_check_state.specs.Frames.{AreDoneOf, AreRight, cached_after, ends_of, is_right_frame, is_unsaid_from}
 use Rattle.hwp_check_rules.specs.Rules.{FramesFit}
 use Rattle.hwp_check_rules.specs.Standing.{frame_line}
-use Rattle.hwp_check_rules.specs.declared.Rule.TheVariants.{Frames}
 use Rattle.hwp_check_state.proofs.FrameRule.{frames-is}
 use Rattle.hwp_check_state.proofs.frames.frames_fault.Goals as goal
 
