@@ -1,5 +1,5 @@
 -- What a rule came to by the script that was acted on, as what it came to for the script and the report.
-use Rattle.std.proofs.Common.{◌≡◌, ◌+◌, ◌<◌, ℕ, List, Option, MatchOption, refl, subst, sym, arith}
+use Rattle.std.proofs.Common.{◌<◌, ℕ, List, Option, MatchOption, refl, subst, sym, arith}
 use Rattle.hwp_check_rules.specs.hwp_geom.declared.VSlot.{VSlot}
 use Rattle.hwp_check_rules.specs.hwp_geom.declared.Who.{Who}
 use Rattle.hwp_check_rules.specs.hwp_law.Acting.{acting_script, copied_at}

@@ -1,5 +1,5 @@
 -- A store of a command behind a place in a page's history.
-use Rattle.std.proofs.Common.{◌≡◌, ℕ, zero, suc, ◌+◌, ◌-◌, ◌<◌, ◌≤◌, ◌&&◌, Bool, true, false, List, [], ◌∷◌, Option, Some, None, drop, length, slice_get, refl, sym, ap, subst, ◌∙◌, true≢false, arith, ◌==◌, ◌||◌}
+use Rattle.std.proofs.Common.{◌≡◌, ℕ, zero, suc, ◌+◌, ◌<◌, ◌≤◌, ◌&&◌, Bool, true, false, List, [], ◌∷◌, Option, Some, None, drop, length, slice_get, refl, sym, ap, subst, ◌∙◌, true≢false, arith, ◌==◌, ◌||◌}
 use Rattle.std.specs.List.{list_any}
 use Rattle.std.proofs.lemmas.Bool.{eq-eqb, eqb-true}
 use Rattle.std.proofs.lemmas.List.{drop_all}
@@ -37,15 +37,26 @@ who-same : (a b : Who) → a ≡ b → is_same_command a b ≡ true
 who-same a b same = and-true (a.cpu.0 == b.cpu.0) (a.seq == b.seq) (eq-eqb a.cpu.0 b.cpu.0 (ap (λ (w : Who). w.cpu.0) same)) (eq-eqb a.seq b.seq (ap (λ (w : Who). w.seq) same))
 
 -- one of the entries behind so many is such
-any-at : (who : Who) (list : List Entry) (n : ℕ) → list_any (is_own_store who) (drop n list) ≡ true → (k : ℕ) × (e : Entry) × (n ≤ k) × (slice_get list k ≡ Some e) × (is_own_store who e ≡ true)
+record FoundAt (who : Who) (list : List Entry) (n : ℕ) : Type 0 where
+  place : ℕ
+  entry : Entry
+  past : n ≤ place
+  there : slice_get list place ≡ Some entry
+  own : is_own_store who entry ≡ true
+
+found-head : (who : Who) (e : Entry) (es : List Entry) (b : Bool) → is_own_store who e ≡ b → (b || list_any (is_own_store who) es) ≡ true → (list_any (is_own_store who) es ≡ true → FoundAt who es 0)
+    → FoundAt who (e ∷ es) 0
+found-head who e es true here any rest = record { place = 0; entry = e; past = omega arith; there = refl; own = here }
+found-head who e es false here any rest = let r = rest any in record { place = suc r.place; entry = r.entry; past = omega arith; there = r.there; own = r.own }
+
+any-at : (who : Who) (list : List Entry) (n : ℕ) → list_any (is_own_store who) (drop n list) ≡ true → FoundAt who list n
 any-at who [] zero is = absurd (true≢false (sym is))
 any-at who [] (suc n) is = absurd (true≢false (sym is))
-any-at who (e ∷ es) zero is = by (is_own_store who e) refl is
-  where
-    by : (b : Bool) → is_own_store who e ≡ b → (b || list_any (is_own_store who) es) ≡ true → (k : ℕ) × (f : Entry) × (0 ≤ k) × (slice_get (e ∷ es) k ≡ Some f) × (is_own_store who f ≡ true)
-    by true here any = (0, e, omega arith, refl, here)
-    by false here any = let r = any-at who es 0 any in (suc r.0, r.1, omega arith, r.3, r.4)
-any-at who (e ∷ es) (suc n) is = let r = any-at who es n is in (suc r.0, r.1, (let l : n ≤ r.0 = r.2 in omega (arith, l)), r.3, r.4)
+any-at who (e ∷ es) zero is = found-head who e es (is_own_store who e) refl is (λ any. any-at who es 0 any)
+any-at who (e ∷ es) (suc n) is =
+    let r = any-at who es n is in
+    let l : n ≤ r.place = r.past in
+    record { place = suc r.place; entry = r.entry; past = omega (arith, l); there = r.there; own = r.own }
 
 at-any : (who : Who) (list : List Entry) (n k : ℕ) (e : Entry) → n ≤ k → slice_get list k ≡ Some e → is_own_store who e ≡ true → list_any (is_own_store who) (drop n list) ≡ true
 at-any who [] n k e low there is = absurd (none-some e there)
@@ -65,14 +76,14 @@ module _ (report : Report) (who : Who) (at : At) where
   pub behind_has : (list : List Entry) → slice_get report.pages at.page.0 ≡ Some list → list_any (is_own_store who) (drop (at.entry + 1) list) ≡ true → HasStoreBehind report who at
   behind_has list page any =
       let r = any-at who list (at.entry + 1) any in
-      let p = both (is_same_command r.1.who who) (is_store r.1.what) r.4 in
+      let p = both (is_same_command r.entry.who who) (is_store r.entry.what) r.own in
       record {
-        later = record { page = at.page; entry = r.0 };
-        entry = r.1;
-        there = entry-is report.pages at.page r.0 list r.1 page r.3;
-        own = same-who r.1.who who p.0;
+        later = record { page = at.page; entry = r.place };
+        entry = r.entry;
+        there = entry-is report.pages at.page r.place list r.entry page r.there;
+        own = same-who r.entry.who who p.0;
         same_page = refl;
-        behind = let l : at.entry + 1 ≤ r.0 = r.2 in omega (arith, l);
+        behind = let l : at.entry + 1 ≤ r.place = r.past in omega (arith, l);
         stores = p.1;
       }
 

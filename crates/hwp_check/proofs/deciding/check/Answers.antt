@@ -1,4 +1,4 @@
-use Rattle.std.proofs.Common.{refl, sym}
+use Rattle.std.proofs.Common.{sym}
 use Rattle.hwp_check.proofs.ActedWhole.{acted-whole, unforked-whole}
 use Rattle.hwp_check.proofs.deciding.check.Goals as goal
 
