@@ -4,6 +4,7 @@ ghost use Rattle.hwp_check_evidence.specs.hwp_law.Endings.{IsOver};
 ghost use Rattle.hwp_check_evidence.specs.hwp_law.States.{IsInWindow, state_named};
 ghost use Rattle.hwp_check_evidence.specs.Ends.{HadEnded};
 ghost use Rattle.hwp_check_rules.specs.AnswerFaults.{IsNotLast, IsOutside, IsRevived, IsUnnamed};
+ghost use Rattle.hwp_check_rules.specs.hwp_check_acting.ActedOn.{copies_in};
 ghost use Rattle.hwp_check_answers.specs.Judging.{HadGone, HasStoreBehind, StoresPast, is_own_store};
 ghost use Rattle.std.specs.List.{list_any};
 ghost use Rattle.hwp_check_answers.specs.Walk.{IsRightlyGiven, IsWronglyGiven};
@@ -111,7 +112,7 @@ fn is_outside(given: &GivenAnswer<'_>) -> bool
 
 /// Whether the command has an entry that a line of it has to name, and none does.
 fn is_unnamed(given: &GivenAnswer<'_>) -> bool
-    ensures { IsTrue result ↔ IsUnnamed given.now.copies given.now.report given.now.who given.now.answer }
+    ensures { IsTrue result ↔ IsUnnamed (copies_in given.now.copies) given.now.report given.now.who given.now.answer }
 {
     let pages = given.case.report().pages.as_slice();
     is_elsewhere(
@@ -166,7 +167,7 @@ fn stores_past(given: &GivenAnswer<'_>) -> bool
 
 /// The translation that the command copied from, if it copied.
 fn copied_from(given: &GivenAnswer<'_>) -> Option<VSlot>
-    ensures { result ≡ given.now.copies given.now.who }
+    ensures { result ≡ copies_in given.now.copies given.now.who }
 {
     copy_of(given.copies, given.case.who())
 }
@@ -174,7 +175,7 @@ fn copied_from(given: &GivenAnswer<'_>) -> Option<VSlot>
 /// Whether the command copied a page, and stores behind the place that its answer names.
 #[tactic(auto, using(crate::proofs::LastLaws::past_last, crate::proofs::LastLaws::last_past, crate::proofs::LastLaws::none_copied))]
 fn is_not_last(given: &GivenAnswer<'_>) -> bool
-    ensures { IsTrue result ↔ IsNotLast given.now.copies given.now.report given.now.who given.now.answer }
+    ensures { IsTrue result ↔ IsNotLast (copies_in given.now.copies) given.now.report given.now.who given.now.answer }
 {
     match copied_from(given) {
         Some(_) => stores_past(given),
