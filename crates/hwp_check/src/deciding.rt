@@ -70,5 +70,11 @@ pub fn check(alloc: Global, script: &Script, report: &Report) -> Result<Verdict,
         return check_by(alloc, script, script, &[], report);
     }
     let acted = acted_on(alloc, script, report)?;
-    check_by(alloc, script, &acted.script, acted.copies.as_slice(), report)
+    check_by(
+        alloc,
+        script,
+        &acted.script,
+        acted.copies.as_slice(),
+        report,
+    )
 }

@@ -21,9 +21,9 @@ before_is layout list rows flags policies each are before seq thread args small 
     let within : seq < length list = slice_get_within list seq (commands.Prctl thread args) is in
     slice_get-get_or policies seq Default (subst (λ (n : ℕ). seq < n) (sym before.many) within)
     ∙ ap Some (
-        before.each seq within
-        ∙ ap (λ o. option_map_or (policy_at layout list flags seq) o Default) is
-        ∙ ap last_policy (sym (settings-flags layout thread list rows flags seq each are))
+    before.each seq within
+    ∙ ap (λ o. option_map_or (policy_at layout list flags seq) o Default) is
+    ∙ ap last_policy (sym (settings-flags layout thread list rows flags seq each are))
     )
 
 -- and they are found one after the other

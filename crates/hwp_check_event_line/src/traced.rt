@@ -5,7 +5,10 @@ ghost use Rattle.hwp_check_poison.specs.Nears.{IsPast};
 ghost use Rattle.hwp_check_poison.specs.Results.{AreResults, has_result as has_told};
 
 use crate::records::{has_result, was_poisoned};
-use hwp_check_poison::{Acted, Cpu, MarkIndex, MarkLine, Report, Results, Who, has_result as has_result_by, was_poisoned as was_poisoned_by};
+use hwp_check_poison::{
+    Acted, Cpu, MarkIndex, MarkLine, Report, Results, Who, has_result as has_result_by,
+    was_poisoned as was_poisoned_by,
+};
 use std::marker::Model;
 
 /// A report, and what is kept of its frames' records for the commands of one processor.

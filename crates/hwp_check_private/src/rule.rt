@@ -37,18 +37,21 @@ fn fault_on(
     let commands = commands_of(script, cpu);
     let rows = rows_on(report, cpu);
     let pairs = pairs_of(alloc, commands, rows)?;
-    match first_wrong(&script.layout, report, cpu, commands, rows, pairs.as_slice()) {
+    match first_wrong(
+        &script.layout,
+        report,
+        cpu,
+        commands,
+        rows,
+        pairs.as_slice(),
+    ) {
         Some(row) => Ok(Some(row_at(report, cpu, rows, row))),
         None => Ok(None),
     }
 }
 
 /// The first line of a report that answers a load by a word that isn't private, if one does.
-fn first_fault(
-    alloc: Global,
-    script: &Script,
-    report: &Report,
-) -> Result<Option<u64>, OutOfMemory>
+fn first_fault(alloc: Global, script: &Script, report: &Report) -> Result<Option<u64>, OutOfMemory>
     requires few { length script.now.lists ≤ 256 }
     requires room { last_line report.now < 2 ^ 64 }
     ensures { IfOk result (λ found. MatchOption found (ArePrivate script.now report.now) (IsLeast (IsPrivateFault script.now report.now))) }

@@ -26,11 +26,7 @@ pub(crate) fn loaded(command: &Command) -> Option<Spot>
 }
 
 /// The number of the first command that froze the translation, if one did.
-pub(crate) fn frozen_at(
-    layout: &Layout,
-    pairs: &[(Command, Answer)],
-    slot: VSlot,
-) -> Option<usize>
+pub(crate) fn frozen_at(layout: &Layout, pairs: &[(Command, Answer)], slot: VSlot) -> Option<usize>
     ensures at { result ≡ freeze_from layout.now slot 0 pairs.now }
     ensures within { MatchOption result (Unit {0}) (λ n. n < length pairs.now) }
 {
@@ -76,7 +72,10 @@ fn word_stored(spot: &Spot, command: Command, answer: Answer) -> Option<u64>
 {
     match command {
         Command::Store {
-            slot, line, word, ..
+            slot,
+            line,
+            word,
+            ..
         } => word_if(spot, slot, line, word, answer),
         _ => None,
     }
@@ -102,7 +101,11 @@ fn word_in(line: Line, what: &What) -> Option<u64>
             line: at,
             met: Met::Word { word, .. },
             ..
-        } => if at.get() == line.get() { Some(*word) } else { None },
+        } => if at.get() == line.get() {
+            Some(*word)
+        } else {
+            None
+        },
         _ => None,
     }
 }
@@ -147,7 +150,12 @@ fn entries_through<'a>(layout: &Layout, report: &'a Report, slot: VSlot) -> &'a 
 fn word_at_fork(layout: &Layout, report: &Report, cpu: Cpu, fork: u64, spot: &Spot) -> u64
     ensures { result ≡ word_at_fork layout.now report.now cpu fork spot.now.slot spot.now.line }
 {
-    last_before(cpu, fork, spot.line, entries_through(layout, report, spot.slot))
+    last_before(
+        cpu,
+        fork,
+        spot.line,
+        entries_through(layout, report, spot.slot),
+    )
 }
 
 /// The pairs behind the one with the number.

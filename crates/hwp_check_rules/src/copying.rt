@@ -52,8 +52,11 @@ fn makes_copy(layout: &Layout, from: VSlot, command: &Command, page: Page, what:
 {
     match *command {
         Command::Store {
-            thread, slot: to, ..
-        } => fits_copy(thread, from, to, what) && is_copy_page(layout, from, to, page, slot_in(what)),
+            thread,
+            slot: to,
+            ..
+        } => fits_copy(thread, from, to, what)
+            && is_copy_page(layout, from, to, page, slot_in(what)),
         _ => false,
     }
 }

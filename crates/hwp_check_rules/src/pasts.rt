@@ -119,13 +119,7 @@ fn policies_of(
 }
 
 /// Whether the command with the number was done and set the thread's policy, as 1 or 0.
-fn sets(
-    layout: &Layout,
-    commands: &[Command],
-    done: &[bool],
-    number: usize,
-    thread: Thread,
-) -> u64
+fn sets(layout: &Layout, commands: &[Command], done: &[bool], number: usize, thread: Thread) -> u64
     requires each { length done.now ≡ length commands.now }
     requires within { number < length commands.now }
     ensures sets { result ≡ from_bool (is_some (set_if layout.now thread commands.now done.now number)) }

@@ -24,8 +24,8 @@ ghost use Rattle.hwp_cpu_command.specs.Jobs.{left_in};
 ghost use Rattle.hwp_cpu_command.specs.declared.job.Job.TheVariants as jobs;
 
 use crate::job::Job;
-use hwp_cpu_copy::{AccessKind, Copying, Instruction, Request};
 use hwp_cpu_control::{Fork, Nested, Prctl, Spoil, Targets};
+use hwp_cpu_copy::{AccessKind, Copying, Instruction, Request};
 use hwp_cpu_raise::{LocalChange, Log, Raise, Raiser};
 use hwp_cpu_row::{
     BANKS, Bank, Command, Event, Handles, Inject, Local, McgBits, Origin, PrctlArgs, Status,

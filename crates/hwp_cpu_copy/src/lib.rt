@@ -3,5 +3,5 @@
 
 mod copying;
 
-pub use hwp_cpu_access::{AccessKind, Instruction, InstructionAnswer, Request};
 pub use copying::Copying;
+pub use hwp_cpu_access::{AccessKind, Instruction, InstructionAnswer, Request};

@@ -8,5 +8,5 @@ pub returns : goal.returns
 returns c =
     IfOk-weaker c.policies.result _ _ (λ policies are.
     before_is c.args.layout.now c.args.list.now c.args.rows.now c.in_ok-done.done.items policies.items c.in_ok-done.ensures.count c.in_ok-done.ensures.done
-        (subst (λ (flags : List Bool). AreBeforeBy c.args.layout.now c.args.list.now flags (length c.args.list.now) policies.items) c.as_slice.ensures.value are))
+    (subst (λ (flags : List Bool). AreBeforeBy c.args.layout.now c.args.list.now flags (length c.args.list.now) policies.items) c.as_slice.ensures.value are))
     c.policies.ensures
