@@ -7,5 +7,4 @@ returns-in-Some c = shape_broken c.args.script.now c.args.report.now c.args.acte
 pub returns-in-Some-histories_fault : goal.returns-in-Some-histories_fault
 returns-in-Some-histories_fault c =
     histories_broken c.args.script.now c.args.report.now c.args.acted.now c.args.copies.now c.requires.acts c.in-Some-histories_fault.line
-    (shape_holds c.args.script.now c.args.report.now c.args.acted.now c.args.copies.now c.requires.acts (none_below c.args.script.now c.args.report.now c.args.acted.now c.args.copies.now c.requires.acts) (rw c.in_default.is at c.shape_fault.ensures))
-    (rw c.in-Some-histories_fault.is at c.histories_fault.ensures)
+    (shape_holds c.args.script.now c.args.report.now c.args.acted.now c.args.copies.now c.requires.acts (none_below c.args.script.now c.args.report.now c.args.acted.now c.args.copies.now c.requires.acts) (rw c.in_default.is at c.shape_fault.ensures)) (rw c.in-Some-histories_fault.is at c.histories_fault.ensures)

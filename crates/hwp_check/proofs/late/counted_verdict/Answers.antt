@@ -11,5 +11,4 @@ losses_fault-requires-clause-shape c = shape_held c.args.script.now c.args.repor
 pub returns-in-Some-2 : goal.returns-in-Some-2
 returns-in-Some-2 c =
     losses_broken c.args.script.now c.args.report.now c.args.acted.now c.args.copies.now c.requires.acts c.in-Some-2.line
-    (count_holds c.args.script.now c.args.report.now c.args.acted.now c.args.copies.now c.requires.acts c.requires.below (rw c.in_default.is at c.count_fault.ensures))
-    (rw c.in-Some-2.is at c.in_ok-line.ensures)
+    (count_holds c.args.script.now c.args.report.now c.args.acted.now c.args.copies.now c.requires.acts c.requires.below (rw c.in_default.is at c.count_fault.ensures)) (rw c.in-Some-2.is at c.in_ok-line.ensures)

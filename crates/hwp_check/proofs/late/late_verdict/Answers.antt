@@ -12,7 +12,4 @@ pub frames_fault-requires-clause-legal : goal.frames_fault-requires-clause-legal
 frames_fault-requires-clause-legal c = legal_held c.args.script.now c.args.report.now c.args.acted.now c.args.copies.now c.requires.acts (omega arith) c.requires.below
 
 pub returns-in-Some-3 : goal.returns-in-Some-3
-returns-in-Some-3 c =
-    frames_broken c.args.script.now c.args.report.now c.args.acted.now c.args.copies.now c.requires.acts c.in-Some-3.line
-    (rw c.in_default-2.is at c.in_ok-verdict-2.ensures)
-    (rw c.in-Some-3.is at c.in_ok-line.ensures)
+returns-in-Some-3 c = frames_broken c.args.script.now c.args.report.now c.args.acted.now c.args.copies.now c.requires.acts c.in-Some-3.line (rw c.in_default-2.is at c.in_ok-verdict-2.ensures) (rw c.in-Some-3.is at c.in_ok-line.ensures)

@@ -11,5 +11,4 @@ returns-in-Some c = seen_broken c.args.script.now c.args.report.now c.args.acted
 pub returns-in-Some-2 : goal.returns-in-Some-2
 returns-in-Some-2 c =
     marks_broken c.args.script.now c.args.report.now c.args.acted.now c.args.copies.now c.requires.acts c.in-Some-2.line
-    (seen_holds c.args.script.now c.args.report.now c.args.acted.now c.args.copies.now c.requires.acts c.requires.below (rw c.in_default.is at c.in_ok-line.ensures))
-    (rw c.in-Some-2.is at c.in_ok-line-2.ensures)
+    (seen_holds c.args.script.now c.args.report.now c.args.acted.now c.args.copies.now c.requires.acts c.requires.below (rw c.in_default.is at c.in_ok-line.ensures)) (rw c.in-Some-2.is at c.in_ok-line-2.ensures)
