@@ -30,7 +30,8 @@ def _step_of(page: int, entry: Entry) -> tuple[str, str]:
 
 def _touched(turns: list[Turn]) -> dict[int, str]:
     """The word that each of a command's turns is about: of a look at bad lines the translation that its access went through."""
-    words, through = {}, ""
+    words: dict[int, str] = {}
+    through = ""
     for turn in turns:
         through = turn.place if turn.kind == "load_pte" else through
         words[turn.number] = through if turn.kind == "load_bad" else turn.place

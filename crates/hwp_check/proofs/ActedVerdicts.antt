@@ -1,16 +1,16 @@
 -- What a rule came to by the script that was acted on, as what it came to for the script and the report.
-use Rattle.std.proofs.Common.{◌≡◌, ◌+◌, ◌<◌, ℕ, List, Option, MatchOption, refl, subst, sym, arith}
+use Rattle.std.proofs.Common.{◌<◌, ℕ, List, Option, MatchOption, refl, subst, sym, arith}
 use Rattle.hwp_check_rules.specs.hwp_geom.declared.VSlot.{VSlot}
 use Rattle.hwp_check_rules.specs.hwp_geom.declared.Who.{Who}
 use Rattle.hwp_check_rules.specs.hwp_law.Acting.{acting_script, copied_at}
 use Rattle.hwp_check_rules.specs.hwp_report_text.declared.Report.{Report}
 use Rattle.hwp_check_rules.specs.hwp_script_read.declared.Script.{Script}
-use Rattle.hwp_check_rules.specs.AnswerFaults.{IsAnswerFault, IsPrivateFault}
+use Rattle.hwp_check_rules.specs.AnswerFaults.{IsAnswerFault}
 use Rattle.hwp_check_rules.specs.Faults.{IsCountFault, IsFrameFault, IsHistoryFault, IsLossFault, IsSeenFault, IsShapeFault, IsStopFault}
 use Rattle.hwp_check_rules.specs.Firsts.{IsClear, IsFirstFault}
 use Rattle.hwp_check_rules.specs.MarkFaults.{IsMarkFault}
 use Rattle.hwp_check_rules.specs.Rules.{AnswersFit, AreAllAnswered, AreLegal, CountFits, FramesFit, HistoriesFit, LossesFit, MarksFit, SeenFit, ShapeFits, StopFits}
-use Rattle.hwp_check_rules.specs.Verdicts.{HoldBelow, Holds, IsBroken, IsVerdict}
+use Rattle.hwp_check_rules.specs.Verdicts.{HoldBelow, IsVerdict}
 use Rattle.hwp_check_rules.specs.declared.Rule.TheVariants.{Shape, Histories, Answers, Seen, Marks, Count, Losses, Stop, Frames}
 use Rattle.hwp_check_rules.specs.declared.Verdict.TheVariants as verdicts
 use Rattle.hwp_check_rules.specs.hwp_check_acting.ActedOn.{copies_in}

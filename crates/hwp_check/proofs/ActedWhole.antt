@@ -1,5 +1,5 @@
 -- What a report is judged by: the script itself where it forks no process, or else what its processors acted on.
-use Rattle.std.proofs.Common.{◌≡◌, false, List, [], Option, None, ap, subst, sym, ◌∙◌}
+use Rattle.std.proofs.Common.{◌≡◌, false, List, [], Option, ap, subst, sym, ◌∙◌}
 use Rattle.std.proofs.Math.Path.{fun_ext}
 use Rattle.hwp_check_rules.specs.hwp_geom.declared.VSlot.{VSlot}
 use Rattle.hwp_check_rules.specs.hwp_law.Acting.{acting_script, copied_at}
@@ -19,6 +19,9 @@ unforked-whole script report valid none = record {
   copies_are = fun_ext (λ who. sym (copied-at-unforked script report who none));
   declared = valid-declared script valid;
 }
+
+pub valid_is_declared : (script : Script) → IsValid script → IsDeclared script
+valid_is_declared script valid = valid-declared script valid
 
 pub acted-whole : (script : Script) (report : Report) → IsValid script → (acted : Script) (copies : List (List (Option VSlot))) → acted ≡ acting_script script report → (told : List (List (Option VSlot))) → copies ≡ told
     → copies_in told ≡ copied_at script report → IsActedOn script report acted copies

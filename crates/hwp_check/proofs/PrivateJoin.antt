@@ -1,5 +1,5 @@
 -- The rule of answers is broken by the lower of two lines: the first by the script that was acted on, and the first by a word that isn't private.
-use Rattle.std.proofs.Common.{◌≡◌, ◌⊎◌, inl, inr, ℕ, ◌≤◌, min, Option, Some, None, MatchOption, subst, arith}
+use Rattle.std.proofs.Common.{◌≡◌, ◌⊎◌, inl, inr, ℕ, ◌<◌, ◌≤◌, min, Option, Some, None, MatchOption, subst, arith}
 use Rattle.std.proofs.lemmas.Bool.{cases_lt}
 use Rattle.hwp_check_rules.specs.hwp_law.Acting.{acting_script, copied_at}
 use Rattle.hwp_check_rules.specs.hwp_law.Private.{ArePrivate}

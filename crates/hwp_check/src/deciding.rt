@@ -16,7 +16,7 @@ use hwp_report::Report;
 use std::alloc::Global;
 
 /// The first line that breaks the rule of answers: one of those that the script acted on asks for, or one by a word that isn't private.
-#[tactic(auto, using(crate::proofs::ActedVerdicts::shape_held, crate::proofs::ActedVerdicts::histories_held, crate::proofs::ActedVerdicts::answers_to_law, crate::proofs::PrivateJoin::answers_joined))]
+#[tactic(auto, using(crate::proofs::ActedVerdicts::shape_held, crate::proofs::ActedVerdicts::histories_held, crate::proofs::ActedVerdicts::answers_to_law, crate::proofs::PrivateJoin::answers_joined, crate::proofs::ActedWhole::valid_is_declared))]
 fn answers_line(
     alloc: Global,
     script: &Script,
@@ -70,5 +70,11 @@ pub fn check(alloc: Global, script: &Script, report: &Report) -> Result<Verdict,
         return check_by(alloc, script, script, &[], report);
     }
     let acted = acted_on(alloc, script, report)?;
-    check_by(alloc, script, &acted.script, acted.copies.as_slice(), report)
+    check_by(
+        alloc,
+        script,
+        &acted.script,
+        acted.copies.as_slice(),
+        report,
+    )
 }

@@ -83,11 +83,11 @@ fn acting_list(
 ) -> Result<List<Command>, OutOfMemory>
     ensures { IfOk result (AreActed layout.now pairs.now commands.now (length commands.now)) }
 {
-    let mut list = List::new(alloc);
+    let mut list = Vec::new(alloc);
     for number in 0..commands.len() {
-        add(&mut list, acting(layout, before(pairs, number), &commands[number]))?;
+        list.push(acting(layout, before(pairs, number), &commands[number]))?;
     }
-    Ok(list)
+    Ok(List::from_vec(list))
 }
 
 /// The translations that a processor with these commands and answers copied from.
@@ -99,11 +99,11 @@ fn copies_list(
 ) -> Result<List<Option<VSlot>>, OutOfMemory>
     ensures { IfOk result (AreCopied layout.now pairs.now commands.now (length commands.now)) }
 {
-    let mut list = List::new(alloc);
+    let mut list = Vec::new(alloc);
     for number in 0..commands.len() {
-        add(&mut list, copied_from(layout, before(pairs, number), &commands[number]))?;
+        list.push(copied_from(layout, before(pairs, number), &commands[number]))?;
     }
-    Ok(list)
+    Ok(List::from_vec(list))
 }
 
 /// The lines of a processor with the number.

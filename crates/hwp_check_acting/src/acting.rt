@@ -37,11 +37,7 @@ fn written_through(layout: &Layout, earlier: &[(Command, Answer)], slot: VSlot) 
 }
 
 /// The command that a processor acts on, behind these commands of its own with their answers.
-pub(crate) fn acting(
-    layout: &Layout,
-    earlier: &[(Command, Answer)],
-    command: &Command,
-) -> Command
+pub(crate) fn acting(layout: &Layout, earlier: &[(Command, Answer)], command: &Command) -> Command
     ensures { result ≡ acting layout.now earlier.now command.now }
 {
     match *command {

@@ -1,4 +1,4 @@
-ghost use Rattle.std.specs.Prelude.{◌≡◌, ◌++◌, map, filter_map, option_to_list, option_map, IfOk, OnOk};
+ghost use Rattle.std.specs.Prelude.{◌≡◌, ◌++◌, option_to_list, option_map, IfOk, OnOk};
 ghost use Rattle.hwp_law.specs.Lines.{answer_in, answered, answers_in};
 
 use hwp_law::{Answer, Command, CpuLine, OutOfMemory};

@@ -1,5 +1,5 @@
 -- A line that is out of place, or a wrong answer, breaks the rule of answers.
-use Rattle.std.proofs.Common.{◌≡◌, inl, inr, ℕ, ◌<◌, List, [], Option, Some, IsSomeAnd, count_by, option_and_then, slice_get, take, unwrap_or, refl, sym, ap, ◌∙◌, subst, arith, true≢false}
+use Rattle.std.proofs.Common.{◌≡◌, IsTrue, inl, inr, ℕ, ◌<◌, List, [], Option, Some, IsSomeAnd, count_by, option_and_then, slice_get, take, unwrap_or, refl, sym, ap, ◌∙◌, subst, arith, true≢false}
 use Rattle.std.proofs.lemmas.Bool.{cases_lt}
 use Rattle.std.proofs.lemmas.Option.{none-some, same_Some}
 use Rattle.hwp_check_evidence.specs.hwp_geom.declared.Cpu.{Cpu}
@@ -12,6 +12,7 @@ use Rattle.hwp_check_evidence.specs.hwp_report_text.declared.CpuLine.{CpuLine}
 use Rattle.hwp_check_evidence.specs.hwp_report_text.declared.CpuLine.TheVariants as lines
 use Rattle.hwp_check_evidence.specs.hwp_report_text.declared.Report.{Report}
 use Rattle.hwp_check_evidence.specs.hwp_law.Answers.{named_in}
+use Rattle.hwp_check_evidence.specs.hwp_law.Copies.{must_be_named}
 use Rattle.hwp_check_evidence.specs.hwp_law.Lines.{answer_among, answer_of, rows_of, seq_of}
 use Rattle.hwp_check_evidence.specs.hwp_law.States.{entry_named}
 use Rattle.hwp_check_evidence.proofs.ListItems.{item_of_take, none_of_take}
@@ -85,7 +86,7 @@ module _ (script : Script) (copies : Who → Option VSlot) (report : Report) (fi
       named : (shown : CpuLine) × (i : ℕ) × IsSomeAnd (slice_get report.cpus w.cpu.0) (λ (rows : List CpuLine). slice_get rows i ≡ Some shown) × (seq_of shown ≡ w.seq) × (named_in shown ≡ Some u.at)
       named = subst
           (λ (who : Who). (shown : CpuLine) × (i : ℕ) × IsSomeAnd (slice_get report.cpus who.cpu.0) (λ (rows : List CpuLine). slice_get rows i ≡ Some shown) × (seq_of shown ≡ who.seq) × (named_in shown ≡ Some u.at))
-          u.own (fit.named u.at u.entry u.there u.answering)
+          u.own (fit.named u.at u.entry u.there (subst (λ (who : Who). IsTrue (must_be_named (copies who) u.entry.what)) (sym u.own) u.answering))
 
       there : slice_get w.rows named.1 ≡ Some named.0
       there = subst (λ (o : Option (List CpuLine)). IsSomeAnd o (λ (rows : List CpuLine). slice_get rows named.1 ≡ Some named.0)) w.of_report named.2

@@ -24,7 +24,7 @@ module _ (script : Script) (copies : Who → Option VSlot) (report : Report) whe
   pub no_answer_line : AreAllRight script copies report → (line : ℕ) → IsAnswerLine script copies report line → ⊥
   no_answer_line all line (inl disorder) = no_disorder all.orderly line disorder
   no_answer_line all line (inr w) =
-      good-not-wrong script report w.cpu (take w.row w.rows) w.command w.shown (all.good w.cpu w.commands w.rows w.of_script w.of_report w.row w.shown (slice_get_within w.rows w.row w.shown w.there) w.there w.command w.made) w.wrong
+      good-not-wrong script copies report w.cpu (take w.row w.rows) w.command w.shown (all.good w.cpu w.commands w.rows w.of_script w.of_report w.row w.shown (slice_get_within w.rows w.row w.shown w.there) w.there w.command w.made) w.wrong
 
   -- where all lines are in place, nothing is wrong about any answer of a sound processor
   whole : (cpu : Cpu) (commands : List Command) (rows : List CpuLine) → AreOrderly commands rows → AreSound script copies report cpu commands rows → AreGoodRows script copies report cpu commands rows (length rows)

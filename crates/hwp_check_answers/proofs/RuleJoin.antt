@@ -13,7 +13,6 @@ use Rattle.hwp_check_rules.specs.Answered.{is_event}
 use Rattle.hwp_check_rules.specs.hwp_law.Lines.{seq_of}
 use Rattle.hwp_check_rules.specs.Firsts.{IsLeast, soonest, IsFirstFault, IsClear}
 use Rattle.hwp_check_rules.specs.Rules.{AnswersFit, ShapeFits, HistoriesFit}
-use Rattle.hwp_check_rules.specs.declared.Rule.TheVariants.{Answers}
 use Rattle.hwp_check_answers.specs.Facts.{IsBadOf, at_number}
 use Rattle.hwp_check_answers.specs.Joining.{BreakEvents, IsEventLine, IsWrongEvent}
 use Rattle.hwp_check_answers.specs.Offlining.{AreAllOfflined, IsOfflinedLine}

@@ -22,15 +22,15 @@ use Rattle.hwp_check_evidence.specs.hwp_geom.declared.VSlot.{VSlot}
 use Rattle.hwp_check_evidence.specs.hwp_geom.declared.Who.{Who}
 
 -- what is good isn't wrong
-pub good-not-wrong : {copies : Who → Option VSlot} (script : Script) (report : Report) (cpu : Cpu) (before : List CpuLine) (command : Command) (shown : CpuLine) → IsGoodOf script copies report cpu before command shown → IsBadOf script copies report cpu before command shown → ⊥
-good-not-wrong script report cpu before command (lines.Answer seq answer) good (inl wrong) = wrong good.right
-good-not-wrong script report cpu before command (lines.Answer seq answer) good (inr (inl wrong)) = good.named wrong
-good-not-wrong script report cpu before command (lines.Answer seq answer) good (inr (inr (inl wrong))) = good.last wrong
-good-not-wrong script report cpu before command (lines.Answer seq answer) good (inr (inr (inr (inl wrong)))) = good.within wrong
-good-not-wrong script report cpu before command (lines.Answer seq answer) good (inr (inr (inr (inr wrong)))) = good.stays wrong
-good-not-wrong script report cpu before command (lines.Offlined line) good wrong = wrong good
-good-not-wrong script report cpu before command (lines.Event event) good wrong = wrong
-good-not-wrong script report cpu before command (lines.Guest guest) good wrong = wrong
+pub good-not-wrong : (script : Script) (copies : Who → Option VSlot) (report : Report) (cpu : Cpu) (before : List CpuLine) (command : Command) (shown : CpuLine) → IsGoodOf script copies report cpu before command shown → IsBadOf script copies report cpu before command shown → ⊥
+good-not-wrong script copies report cpu before command (lines.Answer seq answer) good (inl wrong) = wrong good.right
+good-not-wrong script copies report cpu before command (lines.Answer seq answer) good (inr (inl wrong)) = good.named wrong
+good-not-wrong script copies report cpu before command (lines.Answer seq answer) good (inr (inr (inl wrong))) = good.last wrong
+good-not-wrong script copies report cpu before command (lines.Answer seq answer) good (inr (inr (inr (inl wrong)))) = good.within wrong
+good-not-wrong script copies report cpu before command (lines.Answer seq answer) good (inr (inr (inr (inr wrong)))) = good.stays wrong
+good-not-wrong script copies report cpu before command (lines.Offlined line) good wrong = wrong good
+good-not-wrong script copies report cpu before command (lines.Event event) good wrong = wrong
+good-not-wrong script copies report cpu before command (lines.Guest guest) good wrong = wrong
 
 same-cpu : (a b : Cpu) → a.0 ≡ b.0 → a ≡ b
 same-cpu a b is = λ i. record { 0 = is i }
@@ -71,7 +71,7 @@ module _ (script : Script) (copies : Who → Option VSlot) (report : Report) whe
   -- a wrong answer of a sound processor stands behind a line that is out of place
   pub behind : (w : ℕ) (wrong : IsWrongLine script copies report w) → AreSound script copies report wrong.cpu wrong.commands wrong.rows → IsBehind script report w
   behind w wrong sound = elim (cases_lt wrong.row sound.end) [
-    | inl low ↦ absurd (good-not-wrong script report wrong.cpu (take wrong.row wrong.rows) wrong.command wrong.shown (sound.good wrong.row wrong.shown low wrong.there wrong.command wrong.made) wrong.wrong)
+    | inl low ↦ absurd (good-not-wrong script copies report wrong.cpu (take wrong.row wrong.rows) wrong.command wrong.shown (sound.good wrong.row wrong.shown low wrong.there wrong.command wrong.made) wrong.wrong)
     | inr high ↦ elim sound.cut.whole [
       | inl whole ↦ absurd (let inside : wrong.row < length wrong.rows = slice_get_within wrong.rows wrong.row wrong.shown wrong.there in let e : sound.end ≡ length wrong.rows = whole in omega (arith, high, inside, e))
       | inr out ↦ record {
@@ -136,7 +136,7 @@ module _ (script : Script) (copies : Who → Option VSlot) (report : Report) whe
               let there : slice_get rows w.row ≡ Some w.shown = subst (λ (r : List CpuLine). slice_get r w.row ≡ Some w.shown) rows_are w.there in
               let made : slice_get commands (seq_of w.shown) ≡ Some w.command = subst (λ (c : List Command). slice_get c (seq_of w.shown) ≡ Some w.command) commands_are w.made in
               let good : IsGoodOf script copies report here (take w.row rows) w.command w.shown = v.bad.before w.row w.shown low there w.command made in
-              absurd (good-not-wrong script report w.cpu (take w.row w.rows) w.command w.shown
+              absurd (good-not-wrong script copies report w.cpu (take w.row w.rows) w.command w.shown
               (subst (λ (c : Cpu). IsGoodOf script copies report c (take w.row w.rows) w.command w.shown) cpu_is
               (subst (λ (r : List CpuLine). IsGoodOf script copies report here (take w.row r) w.command w.shown) (sym rows_are) good)) w.wrong)
           | inr high ↦

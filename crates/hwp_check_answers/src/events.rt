@@ -47,9 +47,7 @@ pub(crate) fn event_lines(
     for cpu in 0..script.lists.len().min(report.cpus.len()) {
         let rows = report.cpus.as_slice()[cpu].as_slice();
         let commands = script.lists.as_slice()[cpu].as_slice();
-        let found = processor_faults(
-            alloc, script, copies, report, Cpu(cpu as u8), commands, all,
-        )?;
+        let found = processor_faults(alloc, script, copies, report, Cpu(cpu as u8), commands, all)?;
         let at = line_of(found, line);
         if at.is_some() {
             return Ok(at);

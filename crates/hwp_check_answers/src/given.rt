@@ -22,7 +22,7 @@ impl<'a> Model for GivenAnswer<'a> {
 
     ghost Value = { AnswerValue };
 
-    ghost view = { λ g. record { script = g.case.script; copies = copies_in g.copies.now; report = g.case.report; who = g.case.who; command = g.case.command; before = g.before.now; answer = g.answer.now } };
+    ghost view = { λ g. record { script = g.case.script; copies = g.copies.now; report = g.case.report; who = g.case.who; command = g.case.command; before = g.before.now; answer = g.answer.now } };
 
     ghost invariant = { λ g. IsKnownAnswer g.case.script (copies_in g.copies.now) g.case.report g.before.now g.case.who g.answer.now g.so_far.now g.naming.now };
 }

@@ -1,9 +1,10 @@
-ghost use Rattle.std.specs.Prelude.{◌≡◌, ◌⊎◌, ◌↔◌, ◌<◌, IsTrue, MatchBool, Some, drop, length, slice_index_or, false};
+ghost use Rattle.std.specs.Prelude.{◌≡◌, ◌⊎◌, ◌↔◌, ◌<◌, ◌+◌, IsTrue, MatchBool, Some, [], drop, length, slice_get, slice_index_or, unwrap_or, false};
 ghost use Rattle.hwp_check_evidence.specs.hwp_law_commands.Commands.{process_at};
 ghost use Rattle.hwp_check_evidence.specs.hwp_law.Endings.{IsOver};
 ghost use Rattle.hwp_check_evidence.specs.hwp_law.States.{IsInWindow, state_named};
 ghost use Rattle.hwp_check_evidence.specs.Ends.{HadEnded};
 ghost use Rattle.hwp_check_rules.specs.AnswerFaults.{IsNotLast, IsOutside, IsRevived, IsUnnamed};
+ghost use Rattle.hwp_check_rules.specs.hwp_check_acting.ActedOn.{copies_in};
 ghost use Rattle.hwp_check_answers.specs.Judging.{HadGone, HasStoreBehind, StoresPast, is_own_store};
 ghost use Rattle.std.specs.List.{list_any};
 ghost use Rattle.hwp_check_answers.specs.Walk.{IsRightlyGiven, IsWronglyGiven};
@@ -11,7 +12,7 @@ ghost use Rattle.hwp_check_answers.specs.Walk.{IsRightlyGiven, IsWronglyGiven};
 use crate::given::GivenAnswer;
 use hwp_check_causes::{is_right, named_state, process_at};
 use hwp_check_evidence::{Names, had_ended, is_elsewhere, is_in_span, is_not_below};
-use hwp_check_rules::{Answer, At, Entry, Proc, Report, What, Who, copy_of};
+use hwp_check_rules::{Answer, At, Entry, Page, Proc, Report, VSlot, What, Who, copy_of};
 
 /// What the lines before an answer tell.
 #[derive(Drop)]
@@ -111,7 +112,7 @@ fn is_outside(given: &GivenAnswer<'_>) -> bool
 
 /// Whether the command has an entry that a line of it has to name, and none does.
 fn is_unnamed(given: &GivenAnswer<'_>) -> bool
-    ensures { IsTrue result ↔ IsUnnamed given.now.copies given.now.report given.now.who given.now.answer }
+    ensures { IsTrue result ↔ IsUnnamed (copies_in given.now.copies) given.now.report given.now.who given.now.answer }
 {
     let pages = given.case.report().pages.as_slice();
     is_elsewhere(
@@ -127,30 +128,53 @@ fn is_unnamed(given: &GivenAnswer<'_>) -> bool
 fn is_own_store(who: Who, entry: &Entry) -> bool
     ensures { result ≡ is_own_store who entry.now }
 {
-    entry.who.cpu.0 == who.cpu.0 && entry.who.seq == who.seq && matches!(entry.what, What::Store { .. })
+    entry.who.cpu.0 == who.cpu.0
+        && entry.who.seq == who.seq
+        && matches!(entry.what, What::Store { .. })
 }
 
-/// Whether the command has a store among the entries behind so many.
-fn stores_behind(who: Who, entries: &[Entry], many: u64) -> bool
-    ensures { result ≡ list_any (is_own_store who) (drop many entries.now) }
+/// Whether the command has a store among the entries.
+fn has_own_store(who: Who, entries: &[Entry]) -> bool
+    ensures { result ≡ list_any (is_own_store who) entries.now }
 {
-    if many >= entries.len() as u64 {
+    entries.iter().any(|entry| is_own_store(who, entry))
+}
+
+/// The entries behind the place.
+#[tactic(auto, using(crate::proofs::LastLaws::rest_is))]
+fn entries_behind(entries: &[Entry], place: u64) -> &[Entry]
+    requires { place < length entries.now }
+    ensures { result.now ≡ drop (place + 1) entries.now }
+{
+    &entries[place as usize + 1..]
+}
+
+/// Whether the command has a store among the entries behind the place.
+#[tactic(auto, using(crate::proofs::LastLaws::none_past))]
+fn stores_behind(who: Who, entries: &[Entry], place: u64) -> bool
+    ensures { result ≡ list_any (is_own_store who) (drop (place + 1) entries.now) }
+{
+    if place >= entries.len() as u64 {
         return false;
     }
-    entries[many as usize..]
-        .iter()
-        .any(|entry| is_own_store(who, entry))
+    has_own_store(who, entries_behind(entries, place))
+}
+
+/// The entries of a page; none where the report has no such page.
+fn entries_on(report: &Report, page: Page) -> &[Entry]
+    ensures { result.now ≡ unwrap_or (slice_get report.now.pages page.0) [] }
+{
+    match report.pages.as_slice().get(usize::from(page.0)) {
+        Some(entries) => entries.as_slice(),
+        None => &[],
+    }
 }
 
 /// Whether the command has a store in the page behind the place.
-#[tactic(auto, using(crate::proofs::LastLaws::behind_has, crate::proofs::LastLaws::has_behind))]
 fn has_store_behind(report: &Report, who: Who, at: At) -> bool
     ensures { IsTrue result ↔ HasStoreBehind report.now who at }
 {
-    match report.pages.as_slice().get(usize::from(at.page.0)) {
-        Some(entries) => stores_behind(who, entries.as_slice(), at.entry + 1),
-        None => false,
-    }
+    stores_behind(who, entries_on(report, at.page), at.entry)
 }
 
 /// Whether the command stores behind the place that its answer names by `stored`.
@@ -163,12 +187,19 @@ fn stores_past(given: &GivenAnswer<'_>) -> bool
     }
 }
 
-/// Whether the command copied a page, and stores behind the place that its answer names.
-#[tactic(auto, using(crate::proofs::LastLaws::not_last, crate::proofs::LastLaws::last_not))]
-fn is_not_last(given: &GivenAnswer<'_>) -> bool
-    ensures { IsTrue result ↔ IsNotLast given.now.copies given.now.report given.now.who given.now.answer }
+/// The translation that the command copied from, if it copied.
+fn copied_from(given: &GivenAnswer<'_>) -> Option<VSlot>
+    ensures { result ≡ copies_in given.now.copies given.now.who }
 {
-    match copy_of(given.copies, given.case.who()) {
+    copy_of(given.copies, given.case.who())
+}
+
+/// Whether the command copied a page, and stores behind the place that its answer names.
+#[tactic(auto, using(crate::proofs::LastLaws::past_last, crate::proofs::LastLaws::last_past, crate::proofs::LastLaws::none_copied))]
+fn is_not_last(given: &GivenAnswer<'_>) -> bool
+    ensures { IsTrue result ↔ IsNotLast (copies_in given.now.copies) given.now.report given.now.who given.now.answer }
+{
+    match copied_from(given) {
         Some(_) => stores_past(given),
         None => false,
     }

@@ -1,7 +1,6 @@
 ghost use Rattle.std.specs.Prelude.{◌≡◌, ◌≤◌, ◌<◌, IfOk, Some, length, slice_get};
 ghost use Rattle.std.specs.Option.{option_copied};
 ghost use Rattle.hwp_check_evidence.specs.hwp_geom.Limits.{page_limit};
-ghost use Rattle.hwp_check_rules.specs.hwp_check_acting.ActedOn.{copies_in};
 ghost use Rattle.hwp_check_answers.specs.Facts.{at_number};
 ghost use Rattle.hwp_check_causes.specs.Knowing.{IsKnown};
 
@@ -35,7 +34,7 @@ impl<'a> Model for JudgedProcessor<'a> {
 
     ghost Value = { ProcessorValue };
 
-    ghost view = { λ p. record { script = p.script.now; copies = copies_in p.copies.now; report = p.report.now; cpu = p.cpu; commands = p.commands.now; rows = p.rows.now } };
+    ghost view = { λ p. record { script = p.script.now; copies = p.copies.now; report = p.report.now; cpu = p.cpu; commands = p.commands.now; rows = p.rows.now } };
 
     ghost invariant = { λ p. IsReady p.script.now (copies_in p.copies.now) p.report.now p.cpu p.commands.now p.rows.now p.known.now p.own p.facts p.naming };
 }
@@ -56,7 +55,7 @@ impl<'a> JudgedProcessor<'a> {
         requires known { IsKnown script.now report.now known.now }
         requires of_script { slice_get script.now.lists cpu.0 ≡ Some commands.now }
         requires of_report { slice_get report.now.cpus cpu.0 ≡ Some rows.now }
-        ensures { IfOk result (λ processor. processor ≡ record { script = script.now; copies = copies_in copies.now; report = report.now; cpu = cpu; commands = commands.now; rows = rows.now }) }
+        ensures { IfOk result (λ processor. processor ≡ record { script = script.now; copies = copies.now; report = report.now; cpu = cpu; commands = commands.now; rows = rows.now }) }
     {
         let (own, naming) = own_and_naming(alloc, script, copies, report, cpu, commands, rows)?;
         let facts = facts_of(alloc, &script.layout, commands, rows)?;

@@ -17,6 +17,7 @@ fn policy_of(layout: &Layout, list: &[Command], done: &[bool], number: usize) ->
 }
 
 /// The policies of the commands' threads, each before its command, of which these were done.
+#[tactic(auto, using(crate::proofs::BeforeLaws::before_none))]
 fn policies(
     alloc: Global,
     layout: &Layout,

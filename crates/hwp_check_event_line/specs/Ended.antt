@@ -1,8 +1,8 @@
 -- Whether a frame's record may have ended in a poisoning, or not, while a command ran, mark by mark.
 use Rattle.std.specs.Prelude.{◌==◌, nat_lt, ◌&&◌, ◌||◌, not, Bool, true, false, List, [], ◌∷◌}
 use Rattle.hwp_banks.specs.hwp_geom.declared.Who.{Who}
-use Rattle.hwp_law.specs.hwp_report_text.declared.MarkLine.{MarkLine}
-use Rattle.hwp_law.specs.Records.{is_poisoning, who_in}
+use Rattle.hwp_check_poison.specs.hwp_law.hwp_report_text.declared.MarkLine.{MarkLine}
+use Rattle.hwp_check_poison.specs.hwp_law.Records.{is_poisoning, who_in}
 
 -- the one is of an earlier command of the same processor
 abbrev pub is_earlier : Who → Who → Bool

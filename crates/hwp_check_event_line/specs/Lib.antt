@@ -2,3 +2,4 @@ pub mod Ended
 pub mod Firsts
 pub mod Found
 pub mod Lines
+pub use Rattle.hwp_check_poison.specs.hwp_law as hwp_law

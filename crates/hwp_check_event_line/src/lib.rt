@@ -11,6 +11,7 @@ mod traced;
 
 pub use acts::{has_stopper, is_line_of, is_raw_line, may_stop};
 pub use faults::Faults;
+pub use hwp_check_poison::{Arrival, EventLine, Frame, Line, Script, Who, past_of, results_of};
 pub use lines::{bad_lines_of, has_line, is_bad_at};
 pub use shown::Shown;
 pub use traced::Traced;

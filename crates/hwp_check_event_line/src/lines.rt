@@ -1,9 +1,9 @@
 ghost use Rattle.std.specs.Prelude.{◌≡◌, ◌↔◌, ◌<◌, IsBitSet, IsTrue};
-ghost use Rattle.hwp_law.specs.Lines.{bad_lines_of};
+ghost use Rattle.hwp_check_poison.specs.hwp_law.Lines.{bad_lines_of};
 ghost use Rattle.hwp_check_event_line.specs.Lines.{has_line};
 
 use crate::traced::Traced;
-use hwp_law::Line;
+use hwp_check_poison::Line;
 
 /// The bad lines of a frame.
 pub fn bad_lines_of(report: &Traced<'_>, frame: u64) -> u64

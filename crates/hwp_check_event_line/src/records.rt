@@ -1,10 +1,10 @@
 ghost use Rattle.std.specs.Prelude.{◌≡◌, ◌↔◌, false, not, IsTrue};
-ghost use Rattle.hwp_law.specs.Lines.{is_same_command};
-ghost use Rattle.hwp_law.specs.Records.{WasPoisoned, is_poisoning, who_in};
+ghost use Rattle.hwp_check_poison.specs.hwp_law.Lines.{is_same_command};
+ghost use Rattle.hwp_check_poison.specs.hwp_law.Records.{WasPoisoned, is_poisoning, who_in};
 ghost use Rattle.hwp_check_poison.specs.Results.{has_result, tells, tells_mark};
 ghost use Rattle.hwp_check_event_line.specs.Ended.{is_earlier, may_end, says};
 
-use hwp_law::{Acted, How, MarkLine, Outcome, Who};
+use hwp_check_poison::{Acted, How, MarkLine, Outcome, Who};
 
 /// Whether the one is of an earlier command of the same processor.
 fn is_earlier(a: Who, b: Who) -> bool

@@ -1,14 +1,14 @@
 ghost use Rattle.std.specs.Prelude.{◌≡◌, ◌↔◌, IsTrue, true};
-ghost use Rattle.hwp_law.specs.Lines.{marks_of as marks_of_frame};
-ghost use Rattle.hwp_law.specs.Records.{WasPoisoned};
+ghost use Rattle.hwp_check_poison.specs.hwp_law.Lines.{marks_of as marks_of_frame};
+ghost use Rattle.hwp_check_poison.specs.hwp_law.Records.{WasPoisoned};
 ghost use Rattle.hwp_check_poison.specs.Nears.{IsPast};
 ghost use Rattle.hwp_check_poison.specs.Results.{AreResults, has_result as has_told};
 
 use crate::records::{has_result, was_poisoned};
 use hwp_check_poison::{
-    MarkIndex, Results, has_result as has_result_by, was_poisoned as was_poisoned_by,
+    Acted, Cpu, MarkIndex, MarkLine, Report, Results, Who, has_result as has_result_by,
+    was_poisoned as was_poisoned_by,
 };
-use hwp_law::{Acted, Cpu, MarkLine, Report, Who};
 use std::marker::Model;
 
 /// A report, and what is kept of its frames' records for the commands of one processor.
@@ -21,7 +21,7 @@ pub struct Traced<'a> {
 }
 
 impl<'a> Model for Traced<'a> {
-    ghost use Rattle.hwp_law.specs.hwp_report_text.declared.Report.{Report as Told};
+    ghost use Rattle.hwp_check_poison.specs.hwp_law.hwp_report_text.declared.Report.{Report as Told};
     ghost use Rattle.hwp_check_poison.specs.Nears.{IsPast as IsKept};
     ghost use Rattle.hwp_check_poison.specs.Results.{AreResults as AreKept};
 

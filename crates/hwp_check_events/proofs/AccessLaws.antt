@@ -269,9 +269,16 @@ module _ (script : Script) (report : Report) (who : Who) (how : Arrival) (origin
         one : (at : ℕ) (rest : List ℕ) (ls : List EventLine) → ats ≡ at ∷ rest → beside origin raw ≡ None → length ls ≡ length rest + 1 → AreRight (Right ls) ls → Checked (at ∷ rest) ls (resting None)
         one at rest [] is none count all = absurd (omega (arith, count))
         one at rest (l ∷ later) is none count all =
-            let check = check-back at raw (l ∷ []) (subst (λ (o : Option Event). Firsts at raw o (l ∷ [])) (sym none) (l, refl, subst (λ (k : ℕ). Own k raw l) (first at rest is) (of-first (l ∷ later) 0 l refl (all 0 l refl)))) in
-            (check.0, l ∷ [], later, refl, check.1, check.2, rest-back rest later (omega (arith, count)) (λ n x there. subst (λ (k : ℕ). Own k None x) (behind-one at rest n is none)
-                (of-later (l ∷ later) (suc n) x (omega arith) (and_right (suc n == 1) (is_some (beside origin raw)) (ap is_some none)) (all (suc n) x there))))
+            let check = check-back at raw (l ∷ []) (subst (λ (o : Option Event). Firsts at raw o (l ∷ [])) (sym none) (l, refl, subst (λ (k : ℕ). Own k raw l) (first at rest is) (of-first (l ∷ later) 0 l refl (all 0 l refl)))) in (
+              check.0,
+              l ∷ [],
+              later,
+              refl,
+              check.1,
+              check.2,
+              rest-back rest later (omega (arith, count)) (λ n x there. subst (λ (k : ℕ). Own k None x) (behind-one at rest n is none)
+                  (of-later (l ∷ later) (suc n) x (omega arith) (and_right (suc n == 1) (is_some (beside origin raw)) (ap is_some none)) (all (suc n) x there))),
+            )
 
         two : (at : ℕ) (rest : List ℕ) (ls : List EventLine) (event : Event) → ats ≡ at ∷ rest → beside origin raw ≡ Some event → length ls ≡ length rest + 2 → AreRight (Right ls) ls → Checked (at ∷ rest) ls (resting None)
         two at rest [] event is some count all = absurd (omega (arith, count))

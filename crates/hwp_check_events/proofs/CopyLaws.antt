@@ -1,9 +1,9 @@
 -- The lines that the machine checks of an access meet: one so often, or those of a copy; and how those of a copy are gathered.
-use Rattle.std.proofs.Common.{◌≡◌, ℕ, zero, suc, ◌+◌, ◌-◌, ◌<◌, ◌≤◌, ◌==◌, Bool, true, false, List, [], ◌∷◌, ◌++◌, Option, Some, None, cond, drop, filter, get_or, length, map, option_and_then, replicate, slice_get, unwrap_or, IfOk, inl, inr, refl, sym, ap, subst, ◌∙◌, arith}
+use Rattle.std.proofs.Common.{◌≡◌, ℕ, zero, suc, ◌+◌, ◌-◌, ◌<◌, ◌≤◌, ◌==◌, Bool, true, false, List, [], ◌∷◌, ◌++◌, Option, Some, None, cond, drop, filter, get_or, length, map, replicate, slice_get, unwrap_or, inl, inr, refl, sym, ap, ◌∙◌, arith}
 use Rattle.std.specs.Option.{option_map_or}
 use Rattle.std.proofs.lemmas.Bool.{cases_lt}
-use Rattle.std.proofs.lemmas.List.{append-nil, drop_all, drop_more, get_or_append_left, get_or_past, get_or_push, length-replicate, length_push, length-append, get_or-append-add, get_or-replicate, append_assoc}
-use Rattle.std.proofs.lemmas.Option.{none-some, same_Some}
+use Rattle.std.proofs.lemmas.List.{append-nil, drop_all, drop_more, get_or_append_left, get_or_push, append_assoc}
+use Rattle.std.proofs.lemmas.Option.{same_Some}
 use Rattle.hwp_banks.specs.hwp_geom.declared.Cpu.{Cpu}
 use Rattle.hwp_banks.specs.hwp_geom.declared.VSlot.{VSlot}
 use Rattle.hwp_banks.specs.hwp_geom.declared.Who.{Who}
@@ -17,6 +17,7 @@ use Rattle.hwp_law.specs.hwp_script_read.declared.Command.{Command}
 use Rattle.hwp_law.specs.hwp_script_read.declared.Command.TheVariants as commands
 use Rattle.hwp_law.specs.Copies.{copy_checks, own_in, checks_by, is_load, is_store, lines_at}
 use Rattle.hwp_law.specs.Events.{store_lines}
+use Rattle.hwp_law.specs.Lines.{is_same_command}
 use Rattle.hwp_check_acting.specs.ActedOn.{copies_in}
 use Rattle.hwp_check_events.specs.Accesses.{lines_met}
 use Rattle.hwp_check_events.specs.Copied.{AreCopied, checks_in, copied_by, copied_from, entries_through, is_counted, own_whats, pair_of}
@@ -38,31 +39,7 @@ met-copied checks copied count_is =
     let none : checks.count - length copied ≡ 0 = omega (arith, count_is) in
     ap (λ (n : ℕ). copied ++ replicate n checks.at) none ∙ append-nil copied
 
-pub met-length : (checks : Checks) (copied : List ℕ) → length copied ≤ checks.count → length (lines_met checks copied) ≡ checks.count
-met-length checks copied within =
-    let all : length (lines_met checks copied) ≡ length copied + length (replicate (checks.count - length copied) checks.at) = length-append copied (replicate (checks.count - length copied) checks.at) in
-    let rest : length (replicate (checks.count - length copied) checks.at) ≡ checks.count - length copied = length-replicate {A = ℕ} (checks.count - length copied) checks.at in
-    omega (arith, all, rest, within)
-
-pub met-at-copied : (checks : Checks) (copied : List ℕ) (n : ℕ) (d : ℕ) → n < length copied → get_or copied n d ≡ get_or (lines_met checks copied) n 0
-met-at-copied checks copied n d within =
-    sym (get_or_append_left copied (replicate (checks.count - length copied) checks.at) 0 n within ∙ any-default copied n 0 d within)
-  where
-    any-default : (xs : List ℕ) (k a b : ℕ) → k < length xs → get_or xs k a ≡ get_or xs k b
-    any-default [] k a b less = absurd (omega (arith, less))
-    any-default (x ∷ xs) zero a b less = refl
-    any-default (x ∷ xs) (suc k) a b less = any-default xs k a b (omega (arith, less))
-
-pub met-at-plain : (checks : Checks) (copied : List ℕ) (n : ℕ) → n < checks.count → length copied ≤ n → checks.at ≡ get_or (lines_met checks copied) n 0
-met-at-plain checks copied n within past =
-    let place : n ≡ length copied + (n - length copied) = omega (arith, past) in
-    sym (ap (λ (k : ℕ). get_or (lines_met checks copied) k 0) place ∙ get_or-append-add copied (replicate (checks.count - length copied) checks.at) (n - length copied) 0
-    ∙ get_or-replicate {A = ℕ} (checks.count - length copied) (n - length copied) checks.at 0 (omega (arith, within, past)))
-
 -- ---- a store's lines
-
-pub store-plain : (layout : Layout) (report : Report) (who : Who) (from : Option VSlot) (slot : VSlot) (at n : ℕ) → from ≡ None → store_lines layout report who from slot at ≡ store_lines layout report who None slot at
-store-plain layout report who from slot at n is = ap (λ (o : Option VSlot). store_lines layout report who o slot at) is
 
 pub store-copied : (layout : Layout) (report : Report) (who : Who) (from : Option VSlot) (v slot : VSlot) (at : ℕ) (copied : List ℕ) → from ≡ Some v → copied ≡ copied_from layout report who from slot → copied ≡ store_lines layout report who from slot at
 store-copied layout report who from v slot at copied is are =
@@ -80,14 +57,18 @@ copied-more layout copies report cpu list n lists c new many are there is = λ s
       ∙ ap (copied_by layout copies report (record { cpu = cpu; seq = seq })) (same_Some c d (sym there ∙ ap (slice_get list) (sym same) ∙ other))
 ]
 
+pub none_yet : (layout : Layout) (copies : Who → Option VSlot) (report : Report) (cpu : Cpu) (list : List Command) (lists : List (List ℕ)) → lists ≡ [] → (length lists ≡ 0) × AreCopied layout copies report cpu list 0 lists
+none_yet layout copies report cpu list lists none = (ap (λ (l : List (List ℕ)). length l) none, λ seq d within other. absurd (omega (arith, within)))
+
 -- where no processor copied, no command did
-pub none-copied : (layout : Layout) (report : Report) (cpu : Cpu) (list : List Command) (n : ℕ) (copies : List (List (Option VSlot))) → copies ≡ [] → AreCopied layout (copies_in copies) report cpu list n []
-none-copied layout report cpu list n copies empty = λ seq d within other.
-    sym (ap (λ (l : List (List (Option VSlot))). copied_by layout (copies_in l) report (record { cpu = cpu; seq = seq }) d) empty ∙ none d)
+pub none_copied : (layout : Layout) (report : Report) (cpu : Cpu) (list : List Command) (n : ℕ) (copies : List (List (Option VSlot))) (lists : List (List ℕ)) → copies ≡ [] → lists ≡ [] → AreCopied layout (copies_in copies) report cpu list n lists
+none_copied layout report cpu list n copies lists empty none = λ seq d within other.
+    ap (λ (l : List (List ℕ)). get_or l seq []) none
+    ∙ sym (ap (λ (l : List (List (Option VSlot))). copied_by layout (copies_in l) report (record { cpu = cpu; seq = seq }) d) empty ∙ no-copy (record { cpu = cpu; seq = seq }) d)
   where
-    none : {who : Who} (d : Command) → copied_by layout (copies_in []) report who d ≡ []
-    none (commands.Store thread slot at word) = refl
-    none d = refl
+    no-copy : (who : Who) (d : Command) → copied_by layout (copies_in []) report who d ≡ []
+    no-copy who (commands.Store thread slot at word) = refl
+    no-copy who d = refl
 
 -- ---- a command's own entries in the page of a translation
 
@@ -103,7 +84,10 @@ own-through layout report who slot = by (slice_get layout.trans slot.0)
 
 range-more : (a n : ℕ) → range_with_len a (n + 1) ≡ range_with_len a n ++ (a + n) ∷ []
 range-more a zero = let same : a ≡ a + 0 = omega arith in ap (λ (k : ℕ). k ∷ []) same
-range-more a (suc n) = let same : a + 1 + n ≡ a + suc n = omega arith in ap (λ (l : List ℕ). a ∷ l) (range-more (a + 1) n) ∙ ap (λ (k : ℕ). a ∷ range_with_len (a + 1) n ++ k ∷ []) same
+range-more a (suc n) =
+    let next : suc n + 1 ≡ suc (n + 1) = omega arith in
+    let same : a + 1 + n ≡ a + suc n = omega arith in
+    ap (range_with_len a) next ∙ ap (λ (l : List ℕ). a ∷ l) (range-more (a + 1) n) ∙ ap (λ (k : ℕ). a ∷ range_with_len (a + 1) n ++ k ∷ []) same
 
 module _ (f g : ℕ → List ℕ) where
   abbrev both : ℕ → List ℕ
@@ -133,6 +117,10 @@ copy-is layout report who from to loads stores a b bound lines loads_are stores_
         omega (arith, f, t, a_is, b_is, bound_is)
 
 -- ---- one entry more
+
+pub bool_few : (b : Bool) → from_bool b ≤ 1
+bool_few true = omega arith
+bool_few false = omega arith
 
 checks-split : (test : What → Bool) (n : ℕ) (what : What) (rest : List What) → checks_by test n (what ∷ rest) ≡ checks_in n what ++ checks_by test (n + from_bool (is_counted test what)) rest
 checks-split test n (entries.Mce slot line mask) rest = let same : n ≡ n + 0 = omega arith in ap (λ (k : ℕ). (n, line) ∷ checks_by test k rest) same

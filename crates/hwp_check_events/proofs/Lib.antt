@@ -1,6 +1,7 @@
 mod CopyLaws
 mod AccessLaws
 mod AccessScans
+mod AskedLaws
 mod RaiseLaws
 mod OwnLaws
 pub mod LowestMarks

@@ -1,5 +1,5 @@
 -- The machine checks of stores that copied a page, gathered from the histories.
-use Rattle.std.specs.Prelude.{◌≡◌, ℕ, ◌<◌, Bool, false, List, [], ◌∷◌, Option, Some, filter, get_or, length, map, slice_get, unwrap_or}
+use Rattle.std.specs.Prelude.{◌≡◌, ℕ, ◌<◌, Bool, false, List, [], ◌∷◌, Option, Some, filter, get_or, map, slice_get, unwrap_or}
 use Rattle.std.specs.Option.{option_map_or}
 use Rattle.hwp_banks.specs.hwp_geom.declared.Cpu.{Cpu}
 use Rattle.hwp_banks.specs.hwp_geom.declared.Who.{Who}

@@ -8,7 +8,6 @@ use Rattle.hwp_banks.specs.hwp_geom.declared.VSlot.{VSlot}
 use Rattle.hwp_banks.specs.hwp_geom.declared.Who.{Who}
 use Rattle.hwp_banks.specs.Logged.{logged}
 use Rattle.hwp_banks.specs.declared.Event.{Event}
-use Rattle.hwp_banks.specs.declared.Origin.{Origin}
 use Rattle.hwp_banks.specs.declared.Origin.TheVariants as origins
 use Rattle.hwp_law.specs.hwp_script_read.declared.Command.{Command}
 use Rattle.hwp_law.specs.hwp_script_read.declared.Command.TheVariants as commands

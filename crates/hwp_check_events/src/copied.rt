@@ -1,4 +1,4 @@
-ghost use Rattle.std.specs.Prelude.{◌≡◌, ◌<◌, ◌≤◌, ◌^◌, ◌++◌, ◌∷◌, [], false, IfOk, OnOk, get_or, length, map};
+ghost use Rattle.std.specs.Prelude.{◌≡◌, ◌<◌, ◌≤◌, ◌^◌, ◌++◌, ◌∷◌, [], cond, false, IfOk, OnOk, get_or, length, map};
 ghost use Rattle.hwp_law.specs.Copies.{checks_by, copy_checks, lines_at};
 ghost use Rattle.hwp_law.specs.Lines.{is_same_command};
 ghost use Rattle.hwp_check_acting.specs.ActedOn.{copies_in};
@@ -71,8 +71,8 @@ fn note(
     before: u64,
     entry: &Entry,
 ) -> Result<bool, OutOfMemory>
-    ensures checks { OnOk result (map pair_of checks.new.items ≡ map pair_of checks.old.items ++ (if is_same_command who entry.now.who then checks_in before entry.now.what else [])) }
-    ensures counted { IfOk result (λ is. is ≡ (if is_same_command who entry.now.who then is_counted (test_of counted) entry.now.what else false)) }
+    ensures checks { OnOk result (map pair_of checks.new.items ≡ map pair_of checks.old.items ++ cond (is_same_command who entry.now.who) (checks_in before entry.now.what) []) }
+    ensures counted { IfOk result (λ is. is ≡ cond (is_same_command who entry.now.who) (is_counted (test_of counted) entry.now.what) false) }
 {
     if is_same_command(who, entry.who) {
         note_own(checks, counted, before, &entry.what)
@@ -187,7 +187,30 @@ fn copied_by(
     }
 }
 
+/// The same for each command of a processor.
+#[tactic(auto, using(crate::proofs::CopyLaws::none_yet))]
+fn copied_each(
+    alloc: Global,
+    layout: &Layout,
+    copies: &[List<Option<VSlot>>],
+    report: &Report,
+    cpu: Cpu,
+    commands: &[Command],
+) -> Result<List<List<Line>>, OutOfMemory>
+    requires few { length commands.now < 2 ^ 32 }
+    ensures { IfOk result (AreCopied layout.now (copies_in copies.now) report.now cpu commands.now (length commands.now)) }
+{
+    let mut lists = Vec::new(alloc);
+    for number in 0..commands.len() {
+        let seq = number as u32;
+        let who = Who { cpu, seq };
+        lists.push(copied_by(alloc, layout, copies, report, who, &commands[number])?)?;
+    }
+    Ok(List::from_vec(lists))
+}
+
 /// The same for each command of a processor, or no lists where no processor copied.
+#[tactic(auto, using(crate::proofs::CopyLaws::none_copied))]
 pub(crate) fn copied_of(
     alloc: Global,
     layout: &Layout,
@@ -200,18 +223,10 @@ pub(crate) fn copied_of(
     ensures { IfOk result (AreCopied layout.now (copies_in copies.now) report.now cpu commands.now (length commands.now)) }
 {
     if copies.is_empty() {
-        return Ok(List::new(alloc));
+        Ok(List::new(alloc))
+    } else {
+        copied_each(alloc, layout, copies, report, cpu, commands)
     }
-    let mut lists = Vec::new(alloc);
-    for number in 0..commands.len() {
-        let who = Who {
-            cpu,
-            seq: number as u32,
-        };
-        let command = &commands[number];
-        lists.push(copied_by(alloc, layout, copies, report, who, command)?)?;
-    }
-    Ok(List::from_vec(lists))
 }
 
 /// The list with the number, or an empty one.

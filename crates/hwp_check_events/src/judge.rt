@@ -14,12 +14,10 @@ ghost use Rattle.hwp_check_events.specs.Misfits.{IsFit, is_scrubbed, logged_if};
 use crate::faults::{access_faults, any, raise_faults};
 use crate::known::{Checks, Known};
 use hwp_banks::{Bank, Event, Origin, Status};
+use hwp_check_acting::copy_of;
 use hwp_check_event_line::{Faults, Shown, Traced};
 use hwp_check_scrub::scrub_faults;
-use hwp_check_acting::copy_of;
-use hwp_law::{
-    Answer, Arrival, Command, Frame, Line, List, McgBits, Mode, Script, VSlot, Who,
-};
+use hwp_law::{Answer, Arrival, Command, Frame, Line, List, McgBits, Mode, Script, VSlot, Who};
 
 /// How the machine checks of a command arrive.
 fn arrival_of(command: &Command) -> Arrival

@@ -60,13 +60,7 @@ pub(crate) fn named_at(named: &[Option<At>], seq: u32) -> Option<At>
 }
 
 /// Whether the entry is one of the processor that a line of its command has to name, and none does.
-fn is_other(
-    names: &Names,
-    copies: &[List<Option<VSlot>>],
-    cpu: Cpu,
-    at: At,
-    entry: &Entry,
-) -> bool
+fn is_other(names: &Names, copies: &[List<Option<VSlot>>], cpu: Cpu, at: At, entry: &Entry) -> bool
     ensures { result ≡ is_other (is_named names.now) (copies_in copies.now) cpu at entry.now }
 {
     entry.who.cpu.0 == cpu.0

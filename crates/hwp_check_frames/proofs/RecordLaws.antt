@@ -23,7 +23,6 @@ use Rattle.hwp_check_rules.specs.MarkFaults.{HasNoEvent, IsEventBeyond, IsMisfou
 use Rattle.hwp_check_frames.specs.MarkScans.{AreRightMarks, FindsRight, FrameFits, HasEvent, IsFrameFaultAt, IsRecordFault, IsRecordWrong, IsRightMark, IsWrongMark, NoneBeyond, RecordFits, RecordsFit, results_in}
 use Rattle.hwp_check_rules.specs.Rules.{ShapeFits}
 use Rattle.hwp_check_rules.specs.Standing.{frame_height, frame_line, last_line}
-use Rattle.hwp_check_rules.specs.declared.Rule.TheVariants.{Shape}
 use Rattle.hwp_check_frames.proofs.Results.{act-at, acts-many, agree, none-beyond, own, results-are, results-many, some-beyond}
 use Rattle.hwp_check_frames.proofs.SoftLaws.{all-said, not-said, said-all, said-not}
 use Rattle.hwp_check_frames.proofs.FramePlaces.{and-both, and-left, and-right, frame-next, frame-rises, marks-are, same-self, same-who, shown-in}

@@ -25,7 +25,6 @@ use Rattle.hwp_check_rules.specs.Firsts.{sooner, soonest, IsFirstFault, IsClear}
 use Rattle.hwp_check_rules.specs.MarkFaults.{HasNoEvent, IsMarkFault, IsMarkLacking, IsMisfound, IsMisrequired, IsSoftBeyond, IsUnsaid, LacksMarks, home_of}
 use Rattle.hwp_check_rules.specs.Rules.{MarksFit}
 use Rattle.hwp_check_rules.specs.Standing.{entry_line, frame_line}
-use Rattle.hwp_check_rules.specs.declared.Rule.TheVariants.{Marks}
 use Rattle.hwp_check_frames.specs.MarkScans.{IsRecordFault, RecordsFit}
 use Rattle.hwp_check_marks.specs.Unpaired.{AllFew, IsExtra, IsTooMany}
 use Rattle.hwp_check_marks.specs.Walks.{IsLowest}

@@ -8,6 +8,10 @@ mod nears;
 mod results;
 mod windows;
 
+pub use hwp_law::{
+    Acted, Arrival, Cpu, EventLine, Frame, How, Line, MarkLine, Outcome, Report, Script, Severity,
+    Who, grade,
+};
 pub use marked::{came_to, was_moved, was_taken_back, was_taken_free};
 pub use nears::{MarkIndex, Nears, past_of};
 pub use results::{Results, has_result, results_of};

@@ -1,6 +1,6 @@
 -- Whether a line answers a load by another word, by what was found.
-use Rattle.std.proofs.Common.{◌≡◌, ◌⊎◌, inl, inr, ℕ, ◌+◌, ◌<◌, ◌≤◌, ◌==◌, Bool, true, false, List, Option, Some, None, IsTrue, MatchBool, length, not, slice_get, take, refl, sym, ap, subst, ◌∙◌, true≢false, arith, cond, ◌↔◌}
-use Rattle.std.proofs.lemmas.Bool.{cases_lt, eq-eqb, eqb-false, eqb-true, ne_eqb}
+use Rattle.std.proofs.Common.{◌≡◌, inl, inr, ℕ, ◌+◌, ◌≤◌, ◌==◌, Bool, true, false, List, Some, None, IsTrue, MatchBool, length, not, slice_get, take, refl, sym, ap, subst, ◌∙◌, true≢false, arith, cond, ◌↔◌}
+use Rattle.std.proofs.lemmas.Bool.{cases_lt, eqb-false, eqb-true}
 use Rattle.std.proofs.lemmas.Option.{none-some, same_Some}
 use Rattle.hwp_check_rules.specs.hwp_geom.declared.Cpu.{Cpu}
 use Rattle.hwp_check_rules.specs.hwp_geom.declared.Layout.{Layout}
@@ -77,3 +77,43 @@ module _ (layout : Layout) (report : Report) (cpu : Cpu) (list : List Command) (
         let here : row ≡ n = omega (arith, less, high) in
         subst (λ (l : CpuLine). WrongRow l → ⊥) (same_Some line other (sym there ∙ ap (slice_get rows) (sym here) ∙ is)) fine
   ]
+
+  pub kept-none : AreKept layout report cpu list rows pairs 0
+  kept-none = λ row line less is. absurd (omega (arith, less))
+
+  pub kept_all : (n : ℕ) → length rows ≤ n → AreKept layout report cpu list rows pairs n → AreKept layout report cpu list rows pairs (length rows)
+  kept_all n past kept = λ row line less is. kept row line (omega (arith, less, past)) is
+
+  pub wrong_first : (n : ℕ) (line : CpuLine) → slice_get rows n ≡ Some line → WrongRow line → AreKept layout report cpu list rows pairs n → IsFirstWrong layout report cpu list rows pairs n
+  wrong_first n line there wrong before = record { line = line; there = there; wrong = wrong; before = before }
+
+-- ---- the answer that was found
+
+abbrev is_word : Answer → Bool
+is_word (answers.Value word at) = true
+is_word answer = false
+
+abbrev word_told : Answer → ℕ
+word_told (answers.Value word at) = word
+word_told answer = 0
+
+abbrev page_told : Answer → ℕ
+page_told (answers.Value word at) = at.page.0
+page_told answer = 0
+
+abbrev entry_told : Answer → ℕ
+entry_told (answers.Value word at) = at.entry
+entry_told answer = 0
+
+pub other_answer : (answer : Answer) (word : ℕ) (at : At) → is_word answer ≡ false → IsTrue false ↔ (answer ≡ answers.Value word at)
+other_answer answer word at other = (λ t. absurd (true≢false (sym t)), λ is. absurd (true≢false (sym (ap is_word is) ∙ other)))
+
+pub same_answer : (told : ℕ) (place : At) (word : ℕ) (at : At) (a b c : Bool) → a ≡ (told == word) → b ≡ (place.page.0 == at.page.0) → c ≡ (place.entry == at.entry)
+    → IsTrue (cond a (cond b c false) false) ↔ (answers.Value told place ≡ answers.Value word at)
+same_answer told place word at true true true a_is b_is c_is = (
+  λ t. λ i. answers.Value (eqb-true told word (sym a_is) i) (record { page = record { 0 = eqb-true place.page.0 at.page.0 (sym b_is) i }; entry = eqb-true place.entry at.entry (sym c_is) i }),
+  λ is. refl,
+)
+same_answer told place word at true true false a_is b_is c_is = (λ t. absurd (true≢false (sym t)), λ is. absurd (eqb-false place.entry at.entry (sym c_is) (ap entry_told is)))
+same_answer told place word at true false c a_is b_is c_is = (λ t. absurd (true≢false (sym t)), λ is. absurd (eqb-false place.page.0 at.page.0 (sym b_is) (ap page_told is)))
+same_answer told place word at false b c a_is b_is c_is = (λ t. absurd (true≢false (sym t)), λ is. absurd (eqb-false told word (sym a_is) (ap word_told is)))

@@ -1,14 +1,13 @@
 -- The processors one after another: the first line that answers a load by another word, or none does.
-use Rattle.std.proofs.Common.{◌≡◌, ◌⊎◌, inl, inr, ℕ, zero, suc, ◌+◌, ◌<◌, ◌≤◌, ◌==◌, min, Bool, true, false, cond, List, [], ◌∷◌, Option, Some, None, length, option_and_then, option_map, slice_get, take, unwrap_or, refl, sym, ap, subst, ◌∙◌, true≢false, arith}
+use Rattle.std.proofs.Common.{◌≡◌, ◌⊎◌, inl, inr, ℕ, suc, ◌+◌, ◌<◌, ◌≤◌, ◌==◌, min, Bool, true, false, cond, List, [], ◌∷◌, Option, Some, None, length, option_and_then, option_map, slice_get, take, unwrap_or, refl, sym, ap, subst, ◌∙◌, arith}
 use Rattle.std.specs.List.{filter_map, find, sum_by}
 use Rattle.std.proofs.lemmas.Bool.{cases_eq, cases_lt, eqb-true}
-use Rattle.std.proofs.lemmas.List.{sum_by_more, take-take}
-use Rattle.std.proofs.lemmas.List.Sums.{sum_by-take-le}
-use Rattle.std.proofs.lemmas.Option.{get_or_from_slice_get, none-some, same_Some, slice_get_within}
+use Rattle.std.proofs.lemmas.List.{take-take}
+use Rattle.std.proofs.lemmas.List.Sums.{sum_by-take-le, sum_by_more}
+use Rattle.std.proofs.lemmas.Option.{get_or_from_slice_get, none-some, same_Some, slice_get-get_or, slice_get_within, unwrap_or-slice_get}
 use Rattle.hwp_check_rules.specs.hwp_geom.declared.Cpu.{Cpu}
 use Rattle.hwp_check_rules.specs.hwp_geom.declared.VSlot.{VSlot}
 use Rattle.hwp_check_rules.specs.hwp_geom.declared.Who.{Who}
-use Rattle.hwp_check_rules.specs.hwp_page.declared.At.{At}
 use Rattle.hwp_check_rules.specs.hwp_report_text.declared.Answer.{Answer}
 use Rattle.hwp_check_rules.specs.hwp_report_text.declared.Answer.TheVariants as answers
 use Rattle.hwp_check_rules.specs.hwp_report_text.declared.CpuLine.{CpuLine}
@@ -22,8 +21,8 @@ use Rattle.hwp_check_rules.specs.hwp_law.Private.{ArePrivate, freeze_from, loade
 use Rattle.hwp_check_rules.specs.hwp_law_commands.Commands.{command_at}
 use Rattle.hwp_check_rules.specs.AnswerFaults.{IsPrivateFault}
 use Rattle.hwp_check_rules.specs.Firsts.{IsLeast}
-use Rattle.hwp_check_rules.specs.Standing.{cpu_height, cpu_line, row_line}
-use Rattle.hwp_check_private.specs.Judging.{AreKept, IsFirstWrong, IsWordWrong, IsWrongRow, expected, word_expected}
+use Rattle.hwp_check_rules.specs.Standing.{cpu_height, cpu_line, last_line, row_line}
+use Rattle.hwp_check_private.specs.Judging.{AreKept, AreKeptOn, IsFirstOn, IsFirstWrong, IsWordWrong, IsWrongRow, expected, word_expected}
 
 -- the answer of a command stands in some line
 answer-line : (rows : List CpuLine) (seq : ℕ) (answer : Answer) → answer_among rows seq ≡ Some answer → (row : ℕ) × (slice_get rows row ≡ Some (lines.Answer seq answer))
@@ -58,16 +57,6 @@ module _ (script : Script) (report : Report) where
   -- the processors below this number are right
   abbrev pub KeptUnder : ℕ → Type 0
   KeptUnder n = (cpu : Cpu) (list : List Command) (rows : List CpuLine) → cpu.0 < n → slice_get script.lists cpu.0 ≡ Some list → slice_get report.cpus cpu.0 ≡ Some rows → Kept cpu list rows
-
-  pub kept-more : (n : ℕ) (list : List Command) (rows : List CpuLine) → slice_get script.lists n ≡ Some list → slice_get report.cpus n ≡ Some rows → Kept (record { 0 = n }) list rows → KeptUnder n → KeptUnder (n + 1)
-  kept-more n list rows of_script of_report own under = λ cpu cs rs less one other. elim (cases_lt cpu.0 n) [
-    | inl low ↦ under cpu cs rs low one other
-    | inr high ↦
-        let here : n ≡ cpu.0 = omega (arith, less, high) in
-        let lists : list ≡ cs = same_Some _ _ (sym of_script ∙ ap (slice_get script.lists) here ∙ one) in
-        let rows_are : rows ≡ rs = same_Some _ _ (sym of_report ∙ ap (slice_get report.cpus) here ∙ other) in
-        subst (λ (c : Cpu). Kept c cs rs) (λ i. record { 0 = here i }) (subst (λ (l : List Command). Kept (record { 0 = n }) l rs) lists (subst (Kept (record { 0 = n }) list) rows_are own))
-  ]
 
   -- the list and the lines of a command that was answered
   pub record Stands (who : Who) (command : Command) (answer : Answer) : Type 0 where
@@ -256,6 +245,47 @@ module _ (script : Script) (report : Report) where
               wrong : WrongAt (record { 0 = n }) list rows r.shown
               wrong = subst (λ (c : Cpu). WrongAt c list rows r.shown) (λ i. record { 0 = sym here i }) (subst (λ (l : List Command). WrongAt r.cpu l rows r.shown) lists (subst (λ (x : List CpuLine). WrongAt r.cpu r.list x r.shown) rows_are r.wrong))
 
-  -- the place of a line behind a processor's heading
-  pub heading-next : (n heading : ℕ) (rows : List CpuLine) → slice_get report.cpus n ≡ Some rows → heading ≡ cpu_line report n → heading + (1 + length rows) ≡ cpu_line report (n + 1)
-  heading-next n heading rows is at = let next : cpu_line report (n + 1) ≡ cpu_line report n + 1 + length rows = next-line report n rows is in omega (arith, next, at)
+  -- ---- as the processors are judged one after another
+
+  pub kept-on : (cpu : Cpu) (list : List Command) (rows : List CpuLine) (pairs : List (Command × Answer)) → slice_get script.lists cpu.0 ≡ Some list → slice_get report.cpus cpu.0 ≡ Some rows → pairs ≡ answered list rows
+      → AreKept script.layout report cpu list rows pairs (length rows) → AreKeptOn script report cpu
+  kept-on cpu list rows pairs of_script of_report are kept = λ cs rs one other.
+      let lists : list ≡ cs = same_Some _ _ (sym of_script ∙ one) in
+      let rows_are : rows ≡ rs = same_Some _ _ (sym of_report ∙ other) in
+      subst (λ (l : List Command). Kept cpu l rs) lists (subst (Kept cpu list) rows_are (subst (λ (p : List (Command × Answer)). AreKept script.layout report cpu list rows p (length rows)) are kept))
+
+  pub first-on : (cpu : Cpu) (list : List Command) (rows : List CpuLine) (pairs : List (Command × Answer)) (row line : ℕ) → slice_get script.lists cpu.0 ≡ Some list → slice_get report.cpus cpu.0 ≡ Some rows → pairs ≡ answered list rows
+      → IsFirstWrong script.layout report cpu list rows pairs row → line ≡ row_line report cpu.0 row → IsFirstOn script report cpu line
+  first-on cpu list rows pairs row line of_script of_report are wrong line_is = record {
+    list = list;
+    rows = rows;
+    row = row;
+    of_script = of_script;
+    of_report = of_report;
+    wrong = subst (λ (p : List (Command × Answer)). IsFirstWrong script.layout report cpu list rows p row) are wrong;
+    line_is = line_is;
+  }
+
+  pub none-under : KeptUnder 0
+  none-under = λ cpu cs rs low one other. absurd (omega (arith, low))
+
+  pub under-next : (n : ℕ) → AreKeptOn script report (record { 0 = n }) → KeptUnder n → KeptUnder (n + 1)
+  under-next n on under = λ cpu cs rs less one other. elim (cases_lt cpu.0 n) [
+    | inl low ↦ under cpu cs rs low one other
+    | inr high ↦ let here : n ≡ cpu.0 = omega (arith, less, high) in subst (AreKeptOn script report) (λ i. record { 0 = here i }) on cs rs one other
+  ]
+
+  pub fault-is : (n line : ℕ) → KeptUnder n → IsFirstOn script report (record { 0 = n }) line → IsLeast (IsPrivateFault script report) line
+  fault-is n line under f = subst (IsLeast (IsPrivateFault script report)) (sym f.line_is) (first-fault n (cpu_line report n) f.row f.list f.rows f.of_script f.of_report refl under f.wrong)
+
+-- a list that was read where it is
+pub read-at : {X : Type 0} (xs : List (List X)) (n : ℕ) (l : List X) → n < length xs → l ≡ unwrap_or (slice_get xs n) [] → slice_get xs n ≡ Some l
+read-at xs n l within is = slice_get-get_or xs n [] within ∙ ap Some (sym (is ∙ unwrap_or-slice_get xs n []))
+
+-- the lines of a report are no more than its last
+pub row-room : (report : Report) (n row : ℕ) (rows : List CpuLine) → slice_get report.cpus n ≡ Some rows → row < length rows → cpu_line report n + 1 + row < last_line report
+row-room report n row rows is inside =
+    let next : cpu_line report (n + 1) ≡ cpu_line report n + 1 + length rows = next-line report n rows is in
+    let within : n < length report.cpus = slice_get_within report.cpus n rows is in
+    let most : cpu_line report (n + 1) ≤ cpu_line report (length report.cpus) = later-line report (n + 1) (length report.cpus) (omega (arith, within)) in
+    omega (arith, next, most, inside)

@@ -1,5 +1,5 @@
 -- Which lines of a processor answer a load through a frozen translation by another word than that of a full copy.
-use Rattle.std.specs.Prelude.{◌≡◌, ◌≢◌, ℕ, ◌<◌, List, Option, Some, None, length, option_and_then, option_map, slice_get, take}
+use Rattle.std.specs.Prelude.{◌≡◌, ◌≢◌, ℕ, ◌<◌, List, Option, Some, length, option_and_then, option_map, slice_get, take}
 use Rattle.hwp_check_rules.specs.hwp_geom.declared.Cpu.{Cpu}
 use Rattle.hwp_check_rules.specs.hwp_geom.declared.Layout.{Layout}
 use Rattle.hwp_check_rules.specs.hwp_geom.declared.VSlot.{VSlot}
@@ -10,8 +10,10 @@ use Rattle.hwp_check_rules.specs.hwp_report_text.declared.CpuLine.{CpuLine}
 use Rattle.hwp_check_rules.specs.hwp_report_text.declared.CpuLine.TheVariants as lines
 use Rattle.hwp_check_rules.specs.hwp_report_text.declared.Report.{Report}
 use Rattle.hwp_check_rules.specs.hwp_script_read.declared.Command.{Command}
-use Rattle.hwp_check_rules.specs.hwp_law.Lines.{answer_among}
+use Rattle.hwp_check_rules.specs.hwp_script_read.declared.Script.{Script}
+use Rattle.hwp_check_rules.specs.hwp_law.Lines.{answer_among, answered}
 use Rattle.hwp_check_rules.specs.hwp_law.Private.{freeze_from, loaded, private_word}
+use Rattle.hwp_check_rules.specs.Standing.{row_line}
 
 -- the word by which a load of this line is to be answered, if its translation is frozen, behind these commands of its processor
 abbrev pub word_expected : Layout → Report → Cpu → List (Command × Answer) → VSlot × ℕ → Option ℕ
@@ -46,3 +48,17 @@ pub record IsFirstWrong (layout : Layout) (report : Report) (cpu : Cpu) (list : 
   pub there : slice_get rows row ≡ Some line
   pub wrong : IsWrongRow layout report cpu list rows pairs line
   pub before : AreKept layout report cpu list rows pairs row
+
+-- no line of a processor does; or this line of the report is the first of the processor that does
+abbrev pub AreKeptOn : Script → Report → Cpu → Type 0
+AreKeptOn script report cpu =
+    (list : List Command) (rows : List CpuLine) → slice_get script.lists cpu.0 ≡ Some list → slice_get report.cpus cpu.0 ≡ Some rows → AreKept script.layout report cpu list rows (answered list rows) (length rows)
+
+pub record IsFirstOn (script : Script) (report : Report) (cpu : Cpu) (line : ℕ) : Type 0 where
+  pub list : List Command
+  pub rows : List CpuLine
+  pub row : ℕ
+  pub of_script : slice_get script.lists cpu.0 ≡ Some list
+  pub of_report : slice_get report.cpus cpu.0 ≡ Some rows
+  pub wrong : IsFirstWrong script.layout report cpu list rows (answered list rows) row
+  pub line_is : line ≡ row_line report cpu.0 row

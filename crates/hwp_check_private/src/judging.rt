@@ -7,6 +7,7 @@ use crate::words::{frozen_at, loaded, private_word};
 use hwp_check_rules::{Answer, At, Command, Cpu, CpuLine, Layout, Report, answer_among};
 
 /// The word that the command has to be answered by, if it loads through a frozen translation, behind these commands.
+#[tactic(auto, using(crate::proofs::WordLaws::expected_no_load, crate::proofs::WordLaws::expected_unfrozen, crate::proofs::WordLaws::expected_frozen))]
 fn expected(
     layout: &Layout,
     report: &Report,
@@ -20,7 +21,7 @@ fn expected(
         return None;
     };
     match frozen_at(layout, earlier, spot.slot) {
-        Some(fork) => Some(private_word(layout, report, cpu, fork, spot, earlier)),
+        Some(fork) => Some(private_word(layout, report, cpu, fork, &spot, earlier)),
         None => None,
     }
 }
@@ -37,6 +38,7 @@ fn before(pairs: &[(Command, Answer)], number: usize) -> &[(Command, Answer)]
 }
 
 /// Whether the command with the number has to be answered by another word.
+#[tactic(auto, using(crate::proofs::JudgeLaws::none_there, crate::proofs::JudgeLaws::expects_none, crate::proofs::JudgeLaws::expects_some))]
 fn is_word_wrong(
     layout: &Layout,
     report: &Report,
@@ -58,19 +60,32 @@ fn is_word_wrong(
     }
 }
 
-/// Whether the answer of the command with the number is this word, at this place.
-fn is_answered(rows: &[CpuLine], seq: u32, word: u64, at: At) -> bool
-    ensures { IsTrue result ↔ (answer_among rows.now seq ≡ Some (answers.Value word at)) }
+/// Whether the answer is this word, at this place.
+#[tactic(auto, using(crate::proofs::JudgeLaws::same_answer, crate::proofs::JudgeLaws::other_answer))]
+fn is_value(answer: Answer, word: u64, at: At) -> bool
+    ensures { IsTrue result ↔ (answer ≡ answers.Value word at) }
 {
-    match answer_among(rows, seq) {
-        Some(Answer::Value { word: told, at: place }) => {
-            told == word && place.page.0 == at.page.0 && place.entry == at.entry
-        }
+    match answer {
+        Answer::Value {
+            word: told,
+            at: place,
+        } => told == word && place.page.0 == at.page.0 && place.entry == at.entry,
         _ => false,
     }
 }
 
+/// Whether that of the command with the number is.
+fn is_answered(rows: &[CpuLine], seq: u32, word: u64, at: At) -> bool
+    ensures { IsTrue result ↔ (answer_among rows.now seq ≡ Some (answers.Value word at)) }
+{
+    match answer_among(rows, seq) {
+        Some(answer) => is_value(answer, word, at),
+        None => false,
+    }
+}
+
 /// Whether the line answers a load by a word that isn't private.
+#[tactic(auto, using(crate::proofs::JudgeLaws::value_wrong, crate::proofs::JudgeLaws::other_line))]
 fn is_wrong(
     layout: &Layout,
     report: &Report,

@@ -1,13 +1,69 @@
-ghost use Rattle.std.specs.Prelude.{◌<◌, ◌^◌, IfOk, MatchOption};
+ghost use Rattle.std.specs.Prelude.{◌≡◌, ◌<◌, ◌≤◌, ◌^◌, Some, IfOk, MatchOption, length, slice_get};
 ghost use Rattle.hwp_check_rules.specs.hwp_check_acting.Scripts.{IsDeclared};
 ghost use Rattle.hwp_check_rules.specs.hwp_law.Private.{ArePrivate};
 ghost use Rattle.hwp_check_rules.specs.AnswerFaults.{IsPrivateFault};
 ghost use Rattle.hwp_check_rules.specs.Firsts.{IsLeast};
-ghost use Rattle.hwp_check_rules.specs.Standing.{last_line};
+ghost use Rattle.hwp_check_rules.specs.Standing.{last_line, row_line};
+ghost use Rattle.hwp_check_private.specs.Judging.{AreKeptOn, IsFirstOn};
 
 use crate::judging::first_wrong;
-use hwp_check_rules::{Cpu, OutOfMemory, Report, Script, cpu_at, has_fork, pairs_of};
+use hwp_check_rules::{
+    Cpu, CpuLine, OutOfMemory, Report, Script, commands_of, cpu_at, has_fork, pairs_of, rows_on,
+};
 use std::alloc::Global;
+
+/// Where a line of a processor stands in the report.
+fn row_at(report: &Report, cpu: Cpu, rows: &[CpuLine], row: usize) -> u64
+    requires room { last_line report.now < 2 ^ 64 }
+    requires of_report { slice_get report.now.cpus cpu.0 ≡ Some rows.now }
+    requires inside { row < length rows.now }
+    ensures { result ≡ row_line report.now cpu.0 row }
+{
+    cpu_at(report, usize::from(cpu.0)) + 1 + row as u64
+}
+
+/// The first line of a processor that answers a load by a word that isn't private.
+fn fault_on(
+    alloc: Global,
+    script: &Script,
+    report: &Report,
+    cpu: Cpu,
+) -> Result<Option<u64>, OutOfMemory>
+    requires room { last_line report.now < 2 ^ 64 }
+    requires of_script { cpu.0 < length script.now.lists }
+    requires of_report { cpu.0 < length report.now.cpus }
+    ensures { IfOk result (λ found. MatchOption found (AreKeptOn script.now report.now cpu) (IsFirstOn script.now report.now cpu)) }
+{
+    let commands = commands_of(script, cpu);
+    let rows = rows_on(report, cpu);
+    let pairs = pairs_of(alloc, commands, rows)?;
+    match first_wrong(
+        &script.layout,
+        report,
+        cpu,
+        commands,
+        rows,
+        pairs.as_slice(),
+    ) {
+        Some(row) => Ok(Some(row_at(report, cpu, rows, row))),
+        None => Ok(None),
+    }
+}
+
+/// The first line of a report that answers a load by a word that isn't private, if one does.
+fn first_fault(alloc: Global, script: &Script, report: &Report) -> Result<Option<u64>, OutOfMemory>
+    requires few { length script.now.lists ≤ 256 }
+    requires room { last_line report.now < 2 ^ 64 }
+    ensures { IfOk result (λ found. MatchOption found (ArePrivate script.now report.now) (IsLeast (IsPrivateFault script.now report.now))) }
+{
+    for number in 0..script.lists.len().min(report.cpus.len()) {
+        let found = fault_on(alloc, script, report, Cpu(number as u8))?;
+        if let Some(line) = found {
+            return Ok(Some(line));
+        }
+    }
+    Ok(None)
+}
 
 /// Whether each load through a frozen translation was answered by the word of a full copy at the fork; else the first line of a report
 /// that answers one by another. It takes no memory where no process forks.
@@ -20,20 +76,9 @@ pub fn private_fault(
     requires room { last_line report.now < 2 ^ 64 }
     ensures { IfOk result (λ found. MatchOption found (ArePrivate script.now report.now) (IsLeast (IsPrivateFault script.now report.now))) }
 {
-    if !has_fork(script) {
-        return Ok(None);
+    if has_fork(script) {
+        first_fault(alloc, script, report)
+    } else {
+        Ok(None)
     }
-    let layout = &script.layout;
-    let mut line = cpu_at(report, 0);
-    for number in 0..script.lists.len().min(report.cpus.len()) {
-        let rows = report.cpus.as_slice()[number].as_slice();
-        let commands = script.lists.as_slice()[number].as_slice();
-        let pairs = pairs_of(alloc, commands, rows)?;
-        let cpu = Cpu(number as u8);
-        if let Some(row) = first_wrong(layout, report, cpu, commands, rows, pairs.as_slice()) {
-            return Ok(Some(line + 1 + row as u64));
-        }
-        line += 1 + rows.len() as u64;
-    }
-    Ok(None)
 }

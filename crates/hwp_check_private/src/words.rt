@@ -1,4 +1,4 @@
-ghost use Rattle.std.specs.Prelude.{◌≡◌, ◌<◌, length, option_map, unwrap_or};
+ghost use Rattle.std.specs.Prelude.{◌≡◌, ◌<◌, ◌+◌, MatchOption, drop, length, option_map, unwrap_or};
 ghost use Rattle.hwp_check_rules.specs.hwp_law.Private.{freeze_from, loaded, private_word, word_at_fork, word_before, word_in, word_stored};
 ghost use Rattle.hwp_check_private.specs.Words.{entries_through, last_before, last_stored, pair_in, word_if};
 
@@ -26,12 +26,9 @@ pub(crate) fn loaded(command: &Command) -> Option<Spot>
 }
 
 /// The number of the first command that froze the translation, if one did.
-pub(crate) fn frozen_at(
-    layout: &Layout,
-    pairs: &[(Command, Answer)],
-    slot: VSlot,
-) -> Option<usize>
-    ensures { result ≡ freeze_from layout.now slot 0 pairs.now }
+pub(crate) fn frozen_at(layout: &Layout, pairs: &[(Command, Answer)], slot: VSlot) -> Option<usize>
+    ensures at { result ≡ freeze_from layout.now slot 0 pairs.now }
+    ensures within { MatchOption result (Unit {0}) (λ n. n < length pairs.now) }
 {
     for number in 0..pairs.len() {
         let pair = &pairs[number];
@@ -53,8 +50,8 @@ fn word_or(word: Option<u64>, last: u64) -> u64
 }
 
 /// The word, if it was stored through the translation on the line, and the answer says so.
-fn word_if(spot: Spot, slot: VSlot, line: Line, word: u64, answer: Answer) -> Option<u64>
-    ensures { result ≡ word_if spot.slot spot.line slot line word answer }
+fn word_if(spot: &Spot, slot: VSlot, line: Line, word: u64, answer: Answer) -> Option<u64>
+    ensures { result ≡ word_if spot.now.slot spot.now.line slot line word answer }
 {
     match answer {
         Answer::Stored(_) => {
@@ -70,20 +67,23 @@ fn word_if(spot: Spot, slot: VSlot, line: Line, word: u64, answer: Answer) -> Op
 
 /// The word that a command with this answer stored there, if it stored one.
 #[tactic(auto, using(crate::proofs::WordLaws::stored_if))]
-fn word_stored(spot: Spot, command: Command, answer: Answer) -> Option<u64>
-    ensures { result ≡ word_stored spot.slot spot.line (command, answer) }
+fn word_stored(spot: &Spot, command: Command, answer: Answer) -> Option<u64>
+    ensures { result ≡ word_stored spot.now.slot spot.now.line (command, answer) }
 {
     match command {
         Command::Store {
-            slot, line, word, ..
+            slot,
+            line,
+            word,
+            ..
         } => word_if(spot, slot, line, word, answer),
         _ => None,
     }
 }
 
 /// The word that the last of some commands stored there, or this one where none did.
-fn last_stored(spot: Spot, first: u64, pairs: &[(Command, Answer)]) -> u64
-    ensures { result ≡ last_stored spot.slot spot.line first pairs.now }
+fn last_stored(spot: &Spot, first: u64, pairs: &[(Command, Answer)]) -> u64
+    ensures { result ≡ last_stored spot.now.slot spot.now.line first pairs.now }
 {
     let mut last = first;
     for pair in pairs {
@@ -101,7 +101,11 @@ fn word_in(line: Line, what: &What) -> Option<u64>
             line: at,
             met: Met::Word { word, .. },
             ..
-        } => if at.get() == line.get() { Some(*word) } else { None },
+        } => if at.get() == line.get() {
+            Some(*word)
+        } else {
+            None
+        },
         _ => None,
     }
 }
@@ -143,10 +147,24 @@ fn entries_through<'a>(layout: &Layout, report: &'a Report, slot: VSlot) -> &'a 
 
 /// What the translation's own page held on the line at the fork with this number.
 #[tactic(auto, using(crate::proofs::WordLaws::at_fork))]
-fn word_at_fork(layout: &Layout, report: &Report, cpu: Cpu, fork: u64, spot: Spot) -> u64
-    ensures { result ≡ word_at_fork layout.now report.now cpu fork spot.slot spot.line }
+fn word_at_fork(layout: &Layout, report: &Report, cpu: Cpu, fork: u64, spot: &Spot) -> u64
+    ensures { result ≡ word_at_fork layout.now report.now cpu fork spot.now.slot spot.now.line }
 {
-    last_before(cpu, fork, spot.line, entries_through(layout, report, spot.slot))
+    last_before(
+        cpu,
+        fork,
+        spot.line,
+        entries_through(layout, report, spot.slot),
+    )
+}
+
+/// The pairs behind the one with the number.
+#[tactic(auto, using(crate::proofs::WordLaws::rest_is))]
+fn behind(earlier: &[(Command, Answer)], number: usize) -> &[(Command, Answer)]
+    requires { number < length earlier.now }
+    ensures { result.now ≡ drop (number + 1) earlier.now }
+{
+    &earlier[number + 1..]
 }
 
 /// What a full copy at the fork with this number would hold there, behind these commands of the processor.
@@ -155,12 +173,13 @@ pub(crate) fn private_word(
     report: &Report,
     cpu: Cpu,
     fork: usize,
-    spot: Spot,
+    spot: &Spot,
     earlier: &[(Command, Answer)],
 ) -> u64
     requires { fork < length earlier.now }
-    ensures { result ≡ private_word layout.now report.now cpu fork spot.slot spot.line earlier.now }
+    ensures { result ≡ private_word layout.now report.now cpu fork spot.now.slot spot.now.line earlier.now }
 {
     let first = word_at_fork(layout, report, cpu, fork as u64, spot);
-    last_stored(spot, first, &earlier[fork + 1..])
+    let since = behind(earlier, fork);
+    last_stored(spot, first, since)
 }

@@ -53,12 +53,12 @@ both_there (a ∷ xs) (b ∷ ys) zero x same is = (b, refl)
 both_there (a ∷ xs) (b ∷ ys) (suc i) x same is = let e : suc (length xs) ≡ suc (length ys) = same in both_there xs ys i x (omega (arith, e)) is
 
 -- the law of a report by a script, where stores copy so
-record IsLawfulBy (script : Script) (copies : Who → Option VSlot) (report : Report) : Type 0 where
-  shape : HasShape script report
-  histories : LawHistories script copies report
-  answers : LawAnswers script copies report
-  frames : LawFrames script report
-  losses : LossesAgree script report
+pub record IsLawfulBy (script : Script) (copies : Who → Option VSlot) (report : Report) : Type 0 where
+  pub shape : HasShape script report
+  pub histories : LawHistories script copies report
+  pub answers : LawAnswers script copies report
+  pub frames : LawFrames script report
+  pub losses : LossesAgree script report
 
 module _ (script : Script) (copies : Who → Option VSlot) (report : Report) where
   -- what the law says of a script that has as many lists as processors, where stores copy so
@@ -202,7 +202,7 @@ module _ (script : Script) (report : Report) where
   lawful-holds one_each law = by
     where
       all : (rule : Rule) → Fits rule acted copied report
-      all = fits acted copied report (acted-many script report ∙ one_each) (record { shape = law.shape; histories = law.histories; answers = law.answers; frames = law.frames; losses = losses-acted script report law.losses })
+      all = fits acted copied report (acted-many script report ∙ one_each) (record { shape = record { version = law.shape.version; frames = law.shape.frames; pages = law.shape.pages; cpus = law.shape.cpus }; histories = law.histories; answers = law.answers; frames = law.frames; losses = losses-acted script report law.losses })
 
       by : (rule : Rule) → Holds rule script report
       by Shape = all Shape
@@ -216,7 +216,7 @@ module _ (script : Script) (report : Report) where
       by Frames = all Frames
 
   pub holds-lawful : ((rule : Rule) → Holds rule script report) → IsLawful script report
-  holds-lawful holds = record { shape = law.shape; histories = law.histories; answers = law.answers; frames = law.frames; losses = acted-losses script report law.losses; private = (holds Answers).1 }
+  holds-lawful holds = record { shape = record { version = law.shape.version; frames = law.shape.frames; pages = law.shape.pages; cpus = law.shape.cpus }; histories = law.histories; answers = law.answers; frames = law.frames; losses = acted-losses script report law.losses; private = (holds Answers).1 }
     where
       each : (rule : Rule) → Fits rule acted copied report
       each Shape = holds Shape

@@ -1,10 +1,9 @@
 -- What is known of a thread: the policies set, the commands done, and the counts of both.
-use Rattle.std.proofs.Common.{◌≡◌, ◌⊎◌, inl, inr, ℕ, zero, suc, ◌+◌, ◌-◌, ◌<◌, ◌≤◌, ◌==◌, min, Bool, false, List, [], ◌∷◌, ◌++◌, Option, Some, None, is_some, cond, length, take, drop, slice_get, slice_index, slice_set, slice_index_or, unwrap_or, refl, sym, ap, ◌∙◌, subst, arith}
-use Rattle.std.specs.Int.{from_bool}
-use Rattle.std.specs.List.{cons_option, filter_map, find, zip}
+use Rattle.std.proofs.Common.{◌≡◌, ◌⊎◌, inl, inr, ℕ, zero, suc, ◌+◌, ◌-◌, ◌<◌, ◌≤◌, ◌==◌, Bool, false, List, [], ◌∷◌, ◌++◌, Option, Some, None, cond, length, take, drop, slice_get, slice_set, slice_index_or, refl, sym, ap, ◌∙◌, subst, arith}
+use Rattle.std.specs.List.{cons_option, filter_map, find}
 use Rattle.std.specs.Option.{option_map, option_to_list}
 use Rattle.std.proofs.lemmas.Bool.{cases_eq, cases_lt, eq-eqb, ne_eqb}
-use Rattle.std.proofs.lemmas.List.{drop_more, get_or-set_other, get_or-set_same, get_or_append_left, get_or_push, length-append, length-set, length_push, take_all, take_min, take_more}
+use Rattle.std.proofs.lemmas.List.{drop_more, get_or-set_other, get_or-set_same, get_or_append_left, get_or_push, length-set, length_push, take_more}
 use Rattle.std.proofs.lemmas.Option.{get_or_from_slice_get, slice_get-get_or, slice_get_within}
 use Rattle.std.proofs.lemmas.List.Elements.{filter_map-append}
 use Rattle.hwp_law.specs.hwp_geom.declared.Cpu.{Cpu}
@@ -18,12 +17,9 @@ use Rattle.hwp_law.specs.hwp_report_text.declared.Answer.TheVariants as answers
 use Rattle.hwp_law.specs.hwp_report_text.declared.CpuLine.{CpuLine}
 use Rattle.hwp_law.specs.hwp_report_text.declared.CpuLine.TheVariants as lines
 use Rattle.hwp_law.specs.hwp_report_text.declared.Report.{Report}
-use Rattle.hwp_law.specs.Lines.{AnswerLine, answer_among, answer_in, answered}
-use Rattle.hwp_law.specs.hwp_law_commands.Settings.{setting_of, settings}
-use Rattle.hwp_law.specs.Policies.{answered_on}
-use Rattle.hwp_law.specs.SeenPolicies.{cpu_of_thread}
+use Rattle.hwp_law.specs.Lines.{AnswerLine, answer_among, answer_in}
 use Rattle.hwp_check_rules.specs.declared.pasts.ThreadPolicies.{ThreadPolicies}
-use Rattle.hwp_check_rules.specs.Pasts.{AreDone, AreDoneInOrder, IsPast, answers_in, counts, done_in, is_done, noted, set_if, settings_by}
+use Rattle.hwp_check_rules.specs.Pasts.{AreDone, IsPast, answers_in, done_in, is_done, noted}
 
 -- one line more
 one-flag : (o : Option Bool) → cons_option o [] ≡ option_to_list o

@@ -29,7 +29,7 @@ use Rattle.hwp_law.specs.SeenPolicies.{cpu_of_thread}
 use Rattle.hwp_check_rules.specs.declared.pasts.ThreadPolicies.{ThreadPolicies}
 use Rattle.hwp_check_rules.specs.declared.policies.PolicyStep.{PolicyStep}
 use Rattle.hwp_check_rules.specs.declared.policies.PolicyStep.TheVariants as steps
-use Rattle.hwp_check_rules.specs.Pasts.{AreCounts, AreDoneInOrder, IsPast, answers_in, by_flags, flag_answer, is_done, policy_by, set_by_pair, set_if, set_step, settings_by, step_of}
+use Rattle.hwp_check_rules.specs.Pasts.{AreCounts, AreDoneInOrder, IsPast, answers_in, by_flags, flag_answer, is_done, next_of, policy_by, set_by_pair, set_if, set_in, set_step, settings_by, step_of}
 
 -- ---- by answers and by flags
 
@@ -116,7 +116,9 @@ module _ (layout : Layout) where
     next-pairs : (ps : List (Command × Answer)) (n : ℕ) (p : Command × Answer) → slice_get ps n ≡ Some p → take (n + 1) ps ≡ take n ps ++ p ∷ []
     next-pairs [] n p there = absurd (none-some p there)
     next-pairs (q ∷ ps) zero p there = ap (λ (x : Command × Answer). x ∷ []) (same_Some q p there)
-    next-pairs (q ∷ ps) (suc n) p there = ap (λ (l : List (Command × Answer)). q ∷ l) (next-pairs ps n p there)
+    next-pairs (q ∷ ps) (suc n) p there =
+        let same : suc n + 1 ≡ suc (n + 1) = omega arith in
+        ap (λ (k : ℕ). take {A = Command × Answer} k (q ∷ ps)) same ∙ ap (λ (l : List (Command × Answer)). q ∷ l) (next-pairs ps n p there)
 
     behind-next : (n : ℕ) (c : Command) (f : Bool) → n < length list → behind (n + 1) ≡ set_after layout (behind n) (get_or list n c, flag_answer (get_or flags n f))
     behind-next n c f within =
@@ -217,15 +219,40 @@ module _ (layout : Layout) where
         ap last_policy (settings-next thread n c f within) ∙ last-push (settings layout thread (take n pairs)) (set_if layout thread list flags n)
         ∙ ap (λ (o : Option Policy). policy_or o (policy_by layout thread list flags n)) (set-by thread n c f within ∙ ap (set_by_step (behind n)) (sym is))
 
+    pub set-found : (thread : Thread) (n : ℕ) (c x : Command) (f y : Bool) (step given : PolicyStep) (o : Option Policy) → n < length list → x ≡ get_or list n c → y ≡ get_or flags n f → step ≡ step_of layout thread x y → step ≡ given
+        → o ≡ set_by_step (behind n) given → o ≡ set_if layout thread list flags n
+    set-found thread n c x f y step given o within x_is y_is is given_is o_is =
+        o_is ∙ ap (set_by_step (behind n)) (sym given_is ∙ is ∙ ap (λ (d : Command). step_of layout thread d y) x_is ∙ ap (step_of layout thread (get_or list n c)) y_is) ∙ sym (set-by thread n c f within)
+
     -- so the policy before a command is read from the last one on
-    pub steps_stay : (thread : Thread) (n : ℕ) (c : Command) (f : Bool) → n < length list → steps.Stays ≡ step_of layout thread (get_or list n c) (get_or flags n f) → policy_by layout thread list flags (n + 1) ≡ policy_by layout thread list flags n
-    steps_stay thread n c f within is = policy-next thread n c f steps.Stays within is
+    module _ (whose thread : Thread) (number back n : ℕ) (c x : Command) (f y : Bool) (step : PolicyStep) (low : back < number) (few : number ≤ length list) (n_is : n ≡ number - 1 - back)
+        (x_is : x ≡ get_or list n c) (y_is : y ≡ get_or flags n f) (is : step ≡ step_of layout thread x y) (so_far : policy_by layout thread list flags (number - back) ≡ policy_by layout whose list flags number) where
+      behind-step : policy_by layout whose list flags number ≡ policy_or (set_by_step (behind n) step) (policy_by layout thread list flags n)
+      behind-step =
+          let at : number - back ≡ n + 1 = omega (arith, low, n_is) in
+          sym so_far ∙ ap (policy_by layout thread list flags) at
+          ∙ policy-next thread n c f step (omega (arith, low, few, n_is)) (is ∙ ap (λ (d : Command). step_of layout thread d y) x_is ∙ ap (step_of layout thread (get_or list n c)) y_is)
 
-    pub steps_set : (thread : Thread) (n : ℕ) (c : Command) (f : Bool) (policy : Policy) → n < length list → steps.Set policy ≡ step_of layout thread (get_or list n c) (get_or flags n f) → policy_by layout thread list flags (n + 1) ≡ policy
-    steps_set thread n c f policy within is = policy-next thread n c f (steps.Set policy) within is
+      pub step-set : (policy : Policy) → set_in step ≡ Some policy → policy ≡ policy_by layout whose list flags number
+      step-set policy set = by step set behind-step
+        where
+          by : (s : PolicyStep) → set_in s ≡ Some policy → policy_by layout whose list flags number ≡ policy_or (set_by_step (behind n) s) (policy_by layout thread list flags n) → policy ≡ policy_by layout whose list flags number
+          by steps.Stays sets then = absurd (none-some policy sets)
+          by (steps.Set p) sets then = sym (same_Some p policy sets) ∙ sym then
+          by (steps.From parent) sets then = absurd (none-some policy sets)
 
-    pub steps_from : (thread parent : Thread) (n : ℕ) (c : Command) (f : Bool) → n < length list → steps.From parent ≡ step_of layout thread (get_or list n c) (get_or flags n f) → policy_by layout thread list flags (n + 1) ≡ policy_by layout parent list flags n
-    steps_from thread parent n c f within is = policy-next thread n c f (steps.From parent) within is
+      pub step-passed : (next : Thread) → set_in step ≡ None → next ≡ next_of step thread → policy_by layout next list flags (number - (back + 1)) ≡ policy_by layout whose list flags number
+      step-passed next none next_is =
+          let at : number - (back + 1) ≡ n = omega (arith, low, n_is) in
+          ap (policy_by layout next list flags) at ∙ ap (λ (t : Thread). policy_by layout t list flags n) next_is ∙ by step none behind-step
+        where
+          by : (s : PolicyStep) → set_in s ≡ None → policy_by layout whose list flags number ≡ policy_or (set_by_step (behind n) s) (policy_by layout thread list flags n) → policy_by layout (next_of s thread) list flags n ≡ policy_by layout whose list flags number
+          by steps.Stays sets then = sym then
+          by (steps.Set p) sets then = absurd (none-some p (sym sets))
+          by (steps.From parent) sets then = sym then
+
+    pub policy-first : (whose thread : Thread) (number back : ℕ) → number ≤ back → policy_by layout thread list flags (number - back) ≡ policy_by layout whose list flags number → Default ≡ policy_by layout whose list flags number
+    policy-first whose thread number back past so_far = let none : number - back ≡ 0 = omega (arith, past) in sym (ap (policy_by layout thread list flags) none) ∙ so_far
 
   -- how many there are before a command
   count-before : (thread : Thread) (list : List Command) (rows : List CpuLine) (flags : List Bool) (counts : List ℕ) (seq : ℕ) → length flags ≡ length list → AreDoneInOrder rows flags → AreCounts layout thread list flags (length list + 1) counts

@@ -82,6 +82,15 @@ step_of layout thread (commands.Prctl other args) true = cond (other.0 == thread
 step_of layout thread (commands.Fork parent process) true = cond (is_thread_of layout process.0 thread.0) (steps.From parent) steps.Stays
 step_of layout thread command done = steps.Stays
 
+-- the policy that a step sets, if it sets one; and the thread whose policy before the step is this thread's behind it
+abbrev pub set_in : PolicyStep → Option Policy
+set_in (steps.Set policy) = Some policy
+set_in step = None
+
+abbrev pub next_of : PolicyStep → Thread → Thread
+next_of (steps.From parent) thread = parent
+next_of step thread = thread
+
 -- how many there are before each of the first n commands
 pub record AreCounts (layout : Layout) (thread : Thread) (list : List Command) (flags : List Bool) (n : ℕ) (counts : List ℕ) : Type 0 where
   pub many : length counts ≡ n

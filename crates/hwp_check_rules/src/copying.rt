@@ -1,4 +1,4 @@
-ghost use Rattle.std.specs.Prelude.{◌↔◌, IsSomeAnd, IsTrue};
+ghost use Rattle.std.specs.Prelude.{◌≡◌, ◌↔◌, IsSomeAnd, IsTrue};
 ghost use Rattle.hwp_law.specs.Copies.{FitsCopy, IsCopyPage, MakesCopy, slot_in};
 ghost use Rattle.hwp_law.specs.hwp_geom.declared.VSlot.{VSlot as Slot};
 ghost use Rattle.hwp_check_events.specs.hwp_check_acting.ActedOn.{copies_in};
@@ -52,8 +52,11 @@ fn makes_copy(layout: &Layout, from: VSlot, command: &Command, page: Page, what:
 {
     match *command {
         Command::Store {
-            thread, slot: to, ..
-        } => fits_copy(thread, from, to, what) && is_copy_page(layout, from, to, page, slot_in(what)),
+            thread,
+            slot: to,
+            ..
+        } => fits_copy(thread, from, to, what)
+            && is_copy_page(layout, from, to, page, slot_in(what)),
         _ => false,
     }
 }

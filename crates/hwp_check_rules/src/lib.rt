@@ -12,7 +12,8 @@ mod verdicts;
 
 pub use first::{sooner, sooner_if, soonest};
 pub use hwp_check_events::{
-    ActedScript, Misfits, Shown, acted_on, checkers_of, copy_of, events_by_command, freezes_slot, has_fork, pairs_of, processor_faults, small_masks,
+    ActedScript, Misfits, Shown, acted_on, checkers_of, copy_of, events_by_command, freezes_slot,
+    has_fork, pairs_of, processor_faults, small_masks,
 };
 pub use hwp_law::{
     Acted, Answer, At, Code, Command, Cpu, CpuLine, Entry, EventLine, FileNo, Frame, FrameLine,

@@ -7,9 +7,7 @@ ghost use Rattle.hwp_law.specs.Entries.{CanStandIn, IsAccessAt, IsMadeBy, IsRequ
 ghost use Rattle.hwp_law.specs.History.{Fits, FitsAccess, FitsLoad, FitsStore, IsMetBy, IsStoredBy, Names};
 
 use crate::copying::is_copied;
-use hwp_law::{
-    Command, Entry, Layout, Line, List, Met, Page, Script, Thread, VSlot, What, Who,
-};
+use hwp_law::{Command, Entry, Layout, Line, List, Met, Page, Script, Thread, VSlot, What, Who};
 
 /// The command of a processor with a number.
 pub fn command_of(script: &Script, who: Who) -> Option<Command>

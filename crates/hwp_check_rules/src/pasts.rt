@@ -91,8 +91,8 @@ pub fn dones_of(alloc: Global, count: usize, rows: &[CpuLine]) -> Result<Vec<boo
 }
 
 /// Adds a policy, if there is one.
-fn add_policy(list: &mut List<Policy>, policy: Option<Policy>) -> Result<(), OutOfMemory>
-    ensures { OnOk result (list.new ≡ list.old ++ option_to_list policy) }
+fn add_policy(list: &mut Vec<Policy>, policy: Option<Policy>) -> Result<(), OutOfMemory>
+    ensures { OnOk result (list.new.items ≡ list.old.items ++ option_to_list policy) }
 {
     if let Some(policy) = policy {
         list.push(policy)?;
@@ -111,26 +111,25 @@ fn policies_of(
     requires each { length done.now ≡ length commands.now }
     ensures { IfOk result (λ list. list ≡ settings_by layout.now thread commands.now done.now) }
 {
-    let mut list = List::new(alloc);
+    let mut list = Vec::new(alloc);
     for number in 0..commands.len() {
         add_policy(&mut list, set_if(layout, commands, done, number, thread))?;
     }
-    Ok(list)
+    Ok(List::from_vec(list))
 }
 
 /// Whether the command with the number was done and set the thread's policy, as 1 or 0.
-fn sets(
-    layout: &Layout,
-    commands: &[Command],
-    done: &[bool],
-    number: usize,
-    thread: Thread,
-) -> u64
+fn sets(layout: &Layout, commands: &[Command], done: &[bool], number: usize, thread: Thread) -> u64
     requires each { length done.now ≡ length commands.now }
     requires within { number < length commands.now }
-    ensures { result ≡ from_bool (is_some (set_if layout.now thread commands.now done.now number)) }
+    ensures sets { result ≡ from_bool (is_some (set_if layout.now thread commands.now done.now number)) }
+    ensures few { result ≤ 1 }
 {
-    u64::from(set_if(layout, commands, done, number, thread).is_some())
+    if set_if(layout, commands, done, number, thread).is_some() {
+        1
+    } else {
+        0
+    }
 }
 
 /// How many policies there are before each of the commands and behind the last.

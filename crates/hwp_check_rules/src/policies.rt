@@ -2,7 +2,7 @@ ghost use Rattle.std.specs.Prelude.{◌≡◌, ◌<◌, ◌≤◌, length};
 ghost use Rattle.hwp_law.specs.hwp_kill.Prctl.{policy_set};
 ghost use Rattle.hwp_law.specs.hwp_law_commands.Settings.{arguments};
 ghost use Rattle.hwp_law.specs.hwp_script_read.Forks.{is_thread_of};
-ghost use Rattle.hwp_check_rules.specs.Pasts.{policy_by, set_if, step_of};
+ghost use Rattle.hwp_check_rules.specs.Pasts.{next_of, policy_by, set_if, set_in, step_of};
 
 use hwp_law::{Command, Layout, Policy, PrctlArgs, Proc, Thread};
 
@@ -63,6 +63,26 @@ fn step_of(layout: &Layout, thread: Thread, command: &Command, done: bool) -> Po
     }
 }
 
+/// The policy that the step sets, if it sets one.
+fn set_in(step: PolicyStep) -> Option<Policy>
+    ensures { result ≡ set_in step }
+{
+    match step {
+        PolicyStep::Set(policy) => Some(policy),
+        _ => None,
+    }
+}
+
+/// The thread whose policy before the step is this thread's behind it.
+fn next_of(step: PolicyStep, thread: Thread) -> Thread
+    ensures { result ≡ next_of step thread }
+{
+    match step {
+        PolicyStep::From(parent) => parent,
+        _ => thread,
+    }
+}
+
 /// The policy of a thread before the command with the number, where the earlier ones were done so. They are read from the last one on.
 pub fn policy_before(
     layout: &Layout,
@@ -78,10 +98,10 @@ pub fn policy_before(
     let mut of = thread;
     for back in 0..number {
         let at = number - 1 - back;
-        match step_of(layout, of, &commands[at], done[at]) {
-            PolicyStep::Stays => {}
-            PolicyStep::Set(policy) => return policy,
-            PolicyStep::From(parent) => of = parent,
+        let step = step_of(layout, of, &commands[at], done[at]);
+        match set_in(step) {
+            Some(policy) => return policy,
+            None => of = next_of(step, of),
         }
     }
     Policy::Default

@@ -7,8 +7,7 @@ use crate::lines::has_line_below;
 use crate::reach::{Range, Reach};
 use crate::scrubs::{LINES, lacking, low_at, place_of, scan};
 use hwp_banks::{Bank, Event, Origin};
-use hwp_check_event_line::{Faults, Shown, Traced, bad_lines_of};
-use hwp_law::{Arrival, Frame, Script, Who};
+use hwp_check_event_line::{Arrival, Faults, Frame, Script, Shown, Traced, Who, bad_lines_of};
 
 /// Whether the scrub may meet a bad line of the frame.
 fn can_meet_bad(report: &Traced<'_>, table: &[u8], whole: bool, frame: u64) -> bool

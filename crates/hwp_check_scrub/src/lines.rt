@@ -1,5 +1,5 @@
 ghost use Rattle.std.specs.Prelude.{◌≡◌, ◌<◌, ◌≤◌};
-ghost use Rattle.hwp_law.specs.Lines.{weak_lines_of};
+ghost use Rattle.hwp_check_event_line.specs.hwp_law.Lines.{weak_lines_of};
 ghost use Rattle.hwp_check_scrub.specs.Scrubs.{damaged_lines, has_line_below, line_at};
 
 use hwp_banks::Origin;

@@ -11,8 +11,10 @@ ghost use Rattle.hwp_banks.specs.declared.Origin.TheVariants as origins;
 use crate::lines::{damaged_lines, line_at};
 use crate::reach::{Range, Reach, Turn};
 use hwp_banks::{Event, Origin, Status};
-use hwp_check_event_line::{Shown, Traced, has_line, has_stopper, is_line_of, is_raw_line};
-use hwp_law::{Arrival, EventLine, Frame, Line, Script, Who};
+use hwp_check_event_line::{
+    Arrival, EventLine, Frame, Line, Script, Shown, Traced, Who, has_line, has_stopper, is_line_of,
+    is_raw_line,
+};
 
 /// The greatest line number, and one more.
 pub(crate) const LINES: u8 = 64;

@@ -23,7 +23,6 @@ use Rattle.hwp_check_rules.specs.Firsts.{soonest, IsFirstFault}
 use Rattle.hwp_check_state.specs.Frames.{AreDoneOf, AreRight, bad_bit, cached_after, ends_of, is_beyond, is_placed, is_right_frame, is_right_line, is_unsaid_from, weak_bit, with_bits}
 use Rattle.hwp_check_rules.specs.Rules.{FramesFit, IsFrameShown}
 use Rattle.hwp_check_rules.specs.Standing.{frame_height, frame_line}
-use Rattle.hwp_check_rules.specs.declared.Rule.TheVariants.{Frames}
 use Rattle.hwp_check_state.proofs.FrameLaws.{bad-is, beyond-is, end-cached, end-within, frame_of, not-beyond, not-placed, placed-is, same-bits, weak-is}
 
 -- four tests at once

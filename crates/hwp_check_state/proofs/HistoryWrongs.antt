@@ -22,7 +22,6 @@ use Rattle.hwp_check_rules.specs.Faults.{IsBarred, IsBehind, IsHistoryFault}
 use Rattle.hwp_check_state.specs.Histories.{FirstFit, IsFirstWrong, IsWrongAt, PageFits}
 use Rattle.hwp_check_rules.specs.Rules.{HistoriesFit}
 use Rattle.hwp_check_rules.specs.Standing.{entry_height, entry_line, page_height, page_line}
-use Rattle.hwp_check_rules.specs.declared.Rule.TheVariants.{Histories}
 use Rattle.hwp_check_rules.specs.Firsts.{IsFirstFault}
 use Rattle.hwp_check_rules.specs.hwp_geom.declared.VSlot.{VSlot}
 use Rattle.hwp_check_rules.specs.hwp_geom.declared.Who.{Who}

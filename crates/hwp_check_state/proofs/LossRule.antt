@@ -18,7 +18,6 @@ use Rattle.hwp_check_rules.specs.Faults.{IsLossFault}
 use Rattle.hwp_check_rules.specs.Firsts.{sooner_if, soonest, IsFirstFault}
 use Rattle.hwp_check_rules.specs.Rules.{IsTold, LossesFit, ShapeFits, AreAllAnswered}
 use Rattle.hwp_check_rules.specs.Standing.{file_line}
-use Rattle.hwp_check_rules.specs.declared.Rule.TheVariants.{Losses}
 use Rattle.hwp_check_rules.proofs.AnswersByRow.{rows-by}
 use Rattle.hwp_check_state.specs.Handles.{IsFirst, IsFirstLost, IsFirstTold, IsLostWrong, IsToldWrong, IsToldWrongBy}
 use Rattle.hwp_check_state.specs.Told.{is_good, walk}

@@ -23,8 +23,8 @@ pub own-is : (script : Script) (report : Report) (seen : Seen) (past : ThreadPol
     → MatchBool (count == n) (IsOwnCount script report who seen) (IsOwnCount script report who seen → ⊥)
 own-is script report seen past is who n n-is own count is-count = which (count == n) refl
   where
-    count-is : count ≡ length (settings seen.thread (answered_before script report who))
-    count-is = is-count ∙ is.done who.seq ∙ ap (λ (cpu : Cpu). length (settings seen.thread (take who.seq (answered_on script report cpu)))) own
+    count-is : count ≡ length (settings script.layout seen.thread (answered_before script report who))
+    count-is = is-count ∙ is.done who.seq ∙ ap (λ (cpu : Cpu). length (settings script.layout seen.thread (take who.seq (answered_on script report cpu)))) own
 
     which : (b : Bool) → count == n ≡ b → MatchBool b (IsOwnCount script report who seen) (IsOwnCount script report who seen → ⊥)
     which true same = λ of. sym n-is ∙ sym (eqb-true count n same) ∙ count-is
@@ -40,11 +40,11 @@ own-cpu a b same = which (a.0 == b.0) refl same
 -- ---- a thread that isn't declared
 
 module _ (script : Script) (report : Report) (sight : Sight) (none : cpu_of_thread script sight.seen.thread ≡ None) where
-  unset : settings sight.seen.thread (answered_around script report sight.seen.thread) ≡ []
-  unset = ap (λ (o : Option Cpu). settings sight.seen.thread (unwrap_or (option_map (answered_on script report) o) [])) none
+  unset : settings script.layout sight.seen.thread (answered_around script report sight.seen.thread) ≡ []
+  unset = ap (λ (o : Option Cpu). settings script.layout sight.seen.thread (unwrap_or (option_map (answered_on script report) o) [])) none
 
-  default-then : (n : ℕ) → n ≡ 0 → last_policy (take n (settings sight.seen.thread (answered_around script report sight.seen.thread))) ≡ Default
-  default-then n zero_is = ap (λ (k : ℕ). last_policy (take k (settings sight.seen.thread (answered_around script report sight.seen.thread)))) zero_is
+  default-then : (n : ℕ) → n ≡ 0 → last_policy (take n (settings script.layout sight.seen.thread (answered_around script report sight.seen.thread))) ≡ Default
+  default-then n zero_is = ap (λ (k : ℕ). last_policy (take k (settings script.layout sight.seen.thread (answered_around script report sight.seen.thread)))) zero_is
 
   -- it has the default, and no setting
   pub undeclared-right : sight.seen.n ≡ 0 → sight.seen.policy ≡ Default → IsRight script report sight
@@ -55,8 +55,8 @@ module _ (script : Script) (report : Report) (sight : Sight) (none : cpu_of_thre
 
   pub undeclared-wrong : (sight.seen.n ≡ 0 → sight.seen.policy ≡ Default → ⊥) → IsWrong script report sight
   undeclared-wrong other = inl (λ seen.
-      let few : sight.seen.n ≤ length (settings sight.seen.thread (answered_around script report sight.seen.thread)) = seen.made in
-      let many : length (settings sight.seen.thread (answered_around script report sight.seen.thread)) ≡ 0 = ap (λ (l : List Policy). length l) unset in
+      let few : sight.seen.n ≤ length (settings script.layout sight.seen.thread (answered_around script report sight.seen.thread)) = seen.made in
+      let many : length (settings script.layout sight.seen.thread (answered_around script report sight.seen.thread)) ≡ 0 = ap (λ (l : List Policy). length l) unset in
       let zero_is : sight.seen.n ≡ 0 = omega (arith, few, many) in
       other zero_is (seen.policy ∙ default-then sight.seen.n zero_is))
 

@@ -19,7 +19,6 @@ use Rattle.hwp_check_rules.specs.Firsts.{soonest, IsFirstFault}
 use Rattle.hwp_check_rules.specs.Rules.{SeenFit}
 use Rattle.hwp_check_state.specs.Sights.{IsBelow, IsFirstOf, IsLineOf, IsNotBelow, IsRight, IsWrong, sights}
 use Rattle.hwp_check_rules.specs.Standing.{seen_line}
-use Rattle.hwp_check_rules.specs.declared.Rule.TheVariants.{Seen as SeenRule}
 use Rattle.hwp_check_state.proofs.FirstLaws.{not-both}
 use Rattle.hwp_check_state.proofs.SightLaws.{IsSight, from-place, has-sight, sight-has, to-place}
 

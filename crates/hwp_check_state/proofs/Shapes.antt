@@ -6,7 +6,6 @@ use Rattle.hwp_check_rules.specs.hwp_script_read.declared.Script.{Script}
 use Rattle.hwp_check_rules.specs.hwp_report_text.declared.Report.{Report}
 use Rattle.hwp_check_rules.specs.Rules.{ShapeFits}
 use Rattle.hwp_check_rules.specs.Standing.{cpu_line, file_line, frame_height, frame_line, header_line, page_height, page_line}
-use Rattle.hwp_check_rules.specs.declared.Rule.TheVariants.{Shape}
 use Rattle.hwp_check_rules.specs.Firsts.{IsFirstFault}
 use Rattle.hwp_check_rules.specs.Faults.{IsShapeFault}
 

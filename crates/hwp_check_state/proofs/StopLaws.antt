@@ -11,7 +11,6 @@ use Rattle.hwp_check_rules.specs.hwp_law.Halts.{IsStopOf}
 use Rattle.hwp_check_rules.specs.hwp_law.Stops.{StaysStopped}
 use Rattle.hwp_check_rules.specs.Rules.{StopFits}
 use Rattle.hwp_check_state.specs.Stopping.{IsCausedStop, all_stay, has_stopped, some_stopped, stays}
-use Rattle.hwp_check_rules.specs.declared.Rule.TheVariants.{Stop}
 use Rattle.hwp_check_state.proofs.StopScans.{has-is, is-has, stays-is}
 use Rattle.hwp_check_rules.specs.Firsts.{IsFirstFault}
 use Rattle.hwp_check_rules.specs.Faults.{IsStopFault}

@@ -1,8 +1,11 @@
 -- The command that a processor acts on is one of the processor, as the script's own is: a twin is of the same process as the translation for
 -- which it stands.
-use Rattle.std.proofs.Common.{◌≡◌, ◌≢◌, ℕ, zero, suc, ◌<◌, ◌&&◌, not, All, Bool, true, false, List, [], ◌∷◌, Option, Some, None, length, slice_get, if◌then◌else◌, refl, sym, ap, ◌∙◌, subst}
+use Rattle.hwp_cpu.specs.Processors.{AreCommands}
+use Rattle.hwp_cpu_course.specs.hwp_cpu_row.hwp_geom.declared.Cpu.{Cpu}
+use Rattle.std.proofs.Common.{◌≡◌, ◌≢◌, ℕ, ◌<◌, ◌&&◌, not, All, Bool, true, false, List, Option, Some, None, length, slice_get, if◌then◌else◌, refl, sym, ap, ◌∙◌, subst}
 use Rattle.std.specs.Prelude.{IsSomeAnd, unwrap_or}
-use Rattle.std.proofs.lemmas.Option.{none-some, same_Some, slice_get_within}
+use Rattle.std.proofs.lemmas.List.Elements.{All-get_or}
+use Rattle.std.proofs.lemmas.Option.{get_or_from_slice_get, slice_get_within}
 use Rattle.hwp_cpu_course.specs.hwp_cpu_row.hwp_geom.declared.Layout.{Layout}
 use Rattle.hwp_cpu_course.specs.hwp_cpu_row.hwp_geom.declared.Thread.{Thread}
 use Rattle.hwp_cpu_course.specs.hwp_cpu_row.hwp_geom.declared.ThreadDecl.{ThreadDecl}
@@ -68,16 +71,24 @@ copied-fits layout cpu cows (commands.Store thread slot line word) has = by ((co
 copied-fits layout cpu cows command has = tt
 
 -- a fork is acted on as it stands
-pub fork-acted : {view : View} {who : Who} (layout : Layout) (cows : List Cow) (own : Command) → CanFork layout view who own → CanFork layout view who (acting_in layout cows own)
-fork-acted layout cows (commands.Load thread slot line) can = tt
-fork-acted layout cows (commands.Fetch thread slot line) can = tt
-fork-acted layout cows (commands.KLoad thread slot line) can = tt
-fork-acted layout cows (commands.Store thread slot line word) can = tt
-fork-acted layout cows (commands.Free slot) can = tt
-fork-acted layout cows own can = can
+pub fork-acted : (view : View) (who : Who) (layout : Layout) (cows : List Cow) (own : Command) → CanFork layout view who own → CanFork layout view who (acting_in layout cows own)
+fork-acted view who layout cows (commands.Load thread slot line) can = tt
+fork-acted view who layout cows (commands.Fetch thread slot line) can = tt
+fork-acted view who layout cows (commands.KLoad thread slot line) can = tt
+fork-acted view who layout cows (commands.Store thread slot line word) can = tt
+fork-acted view who layout cows (commands.Free slot) can = tt
+fork-acted view who layout cows own can = can
 
 -- a command of a list of which all fit
-pub at-least : {P : Command → Type 0} (l : List Command) (n : ℕ) (own : Command) → All P l → slice_get l n ≡ Some own → P own
-at-least [] n own all there = absurd (none-some own there)
-at-least {P} (c ∷ cs) zero own all there = subst P (same_Some c own there) all.0
-at-least (c ∷ cs) (suc n) own all there = at-least cs n own all.1 there
+pub at-least : (P : Command → Type 0) (l : List Command) (n : ℕ) (own : Command) → All P l → slice_get l n ≡ Some own → P own
+at-least P l n own all there = subst P (get_or_from_slice_get l n own own there) (All-get_or P l n own (slice_get_within l n own there) all)
+
+-- a command that begins is one of the processor, and can be copied for
+pub begins-fits : (layout : Layout) (cpu : Cpu) (list : List Command) (cows : List Cow) (n : ℕ) (own acting : Command) → AreCommands layout cpu list → slice_get list n ≡ Some own → acting ≡ acting_in layout cows own → IsCommandOf layout cpu.0 acting
+begins-fits layout cpu list cows n own acting are there is =
+    subst (IsCommandOf layout cpu.0) (sym is) (acting-fits layout are.twins cpu.0 cows own (at-least (IsCommandOf layout cpu.0) list n own are.named there))
+
+pub begins-copies : (layout : Layout) (cpu : Cpu) (list : List Command) (cows : List Cow) (n : ℕ) (own acting : Command) (copies : Option VSlot) → AreCommands layout cpu list → slice_get list n ≡ Some own → acting ≡ acting_in layout cows own → copies ≡ copied_in cows own
+    → CanCopy layout cpu.0 acting copies
+begins-copies layout cpu list cows n own acting copies are there is from =
+    subst (λ (c : Command). CanCopy layout cpu.0 c copies) (sym is) (subst (CanCopy layout cpu.0 (acting_in layout cows own)) (sym from) (copied-fits layout cpu.0 cows own (at-least (IsCommandOf layout cpu.0) list n own are.named there)))

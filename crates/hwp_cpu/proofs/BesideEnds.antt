@@ -28,7 +28,7 @@ use Rattle.hwp_cpu_course.specs.hwp_cpu_row.hwp_law_commands.Watched.{due, Watch
 use Rattle.hwp_cpu_course.specs.declared.Course.{Course}
 use Rattle.hwp_cpu_course.proofs.of_hwp_cpu_command_laws.Beside.{job-at-pause, answered-unmarked}
 use Rattle.std.proofs.lemmas.Option.{none-some, same_Some}
-use Rattle.std.proofs.Common.{None, arith, inl, suc, true, ◌++◌, subst, option_map, ◌∷◌, zero, refl, not, Option, ◌+◌, map, cond, ◌≡◌, false, ap, Bool, true≢false, inr, append-nil, filter, Some, slice_get, sym, ℕ, List, length, ◌∙◌, [], nat_lt, ◌⊎◌}
+use Rattle.std.proofs.Common.{None, is_some, arith, inl, suc, true, ◌++◌, subst, option_map, ◌∷◌, zero, refl, not, Option, ◌+◌, map, cond, ◌≡◌, false, ap, Bool, true≢false, inr, append-nil, filter, Some, slice_get, sym, ℕ, List, length, ◌∙◌, [], nat_lt, ◌⊎◌}
 use Rattle.hwp_cpu_course.proofs.of_hwp_cpu_row.of_hwp_core_rule.Lists.{each-push}
 use Rattle.hwp_cpu_course.specs.hwp_cpu_row.hwp_geom.declared.Frame.{Frame}
 use Rattle.hwp_cpu.proofs.BesideTurns.{at_rest}
@@ -97,6 +97,11 @@ said-so (soft_answers.HasBad mask) foreign = refl
 said-so soft_answers.NoFrame foreign = refl
 said-so (soft_answers.TakenFree cycle) foreign = refl
 said-so (soft_answers.Moved to at cycle) foreign = refl
+
+-- an entry by which a page left its frame beside the command
+soft-so : (what : What) → is_soft what ≡ true → what ≡ entries.Soft
+soft-so entries.Soft is = refl
+soft-so what is = absurd (true≢false (sym is))
 
 -- where it pauses
 pub pauses-so : (layout : Layout) (view : View) (who : Who) (command : Command) (j : Job) → Pauses layout view who command j → jobs.pauses j ≡ true
@@ -172,6 +177,9 @@ module _ (layout : Layout) (old new : View) (cpu : Cpu) (list : List Command) (r
     })
   ]
     where
+      own-request : (paused : IsPaused layout old at command c.own) → paused.instruction.request.who ≡ at
+      own-request paused = sym (ap jobs.who paused.is) ∙ runs-who layout at command copies c.own way.runs
+
       -- of a copy the entry by which the page left is one of its own
       copy-on : (paused : HasCopyPaused layout old c.own) → HasCopyPaused layout new c.own
       copy-on paused = record { copying = paused.copying; is = paused.is; pause = paused.pause; paused = paused.paused; rests = by adds.adds }
@@ -184,10 +192,6 @@ module _ (layout : Layout) (old new : View) (cpu : Cpu) (list : List Command) (r
           by (inr (m, more, beside)) = copy-resting.resting-stays paused.copying paused.pause paused.rests (made-by paused.copying.store.who own-copy) (m ∷ []) (subst (λ (w : Who). deeds w new ≡ deeds w old ++ m ∷ []) (sym own-copy) more)
               (each-push (λ (x : Made). x.entry.what ≡ entries.Soft) [] m (soft-so m.entry.what beside) (λ i x there. absurd (none-some x there)))
 
-      soft-so : (what : What) → is_soft what ≡ true → what ≡ entries.Soft
-      soft-so entries.Soft is = refl
-      soft-so what is = absurd (true≢false (sym is))
-
       pauses-on : Pauses layout old at command c.own → Pauses layout new at command c.own
       pauses-on (inl paused) = inl (record {
         instruction = paused.instruction;
@@ -199,14 +203,12 @@ module _ (layout : Layout) (old new : View) (cpu : Cpu) (list : List Command) (r
       })
       pauses-on (inr paused) = inr (copy-on paused)
 
-      own-request : (paused : IsPaused layout old at command c.own) → paused.instruction.request.who ≡ at
-      own-request paused = sym (ap jobs.who paused.is) ∙ runs-who layout at command copies c.own way.runs
-
   -- ---- it goes on
 
   pub beside-on : IsRunning layout new cpu list rows local later
   beside-on = record {
-    command = command; copies = copies;
+    command = command;
+    copies = copies;
     way = way-later;
     on = record {
       base = run.base;

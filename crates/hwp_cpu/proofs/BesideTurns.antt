@@ -9,8 +9,7 @@ use Rattle.hwp_cpu_course.specs.hwp_cpu_command.Runs.{Runs}
 use Rattle.std.proofs.lemmas.Option.{none-some}
 use Rattle.hwp_cpu_course.specs.hwp_cpu_row.hwp_report_text.declared.Answer.TheVariants as answers
 use Rattle.hwp_cpu_causes.specs.Beside.{ArePriorWith}
-use Rattle.hwp_cpu.proofs.Collecting.{access-plain}
-use Rattle.hwp_cpu.proofs.Watching.{prior-none}
+use Rattle.hwp_cpu.proofs.Collecting.{access-plain, prior-at-first}
 use Rattle.hwp_cpu_course.specs.hwp_cpu_row.hwp_geom.declared.VSlot.{VSlot}
 use Rattle.std.proofs.lemmas.Bool.{cases_lt}
 use Rattle.hwp_cpu_course.proofs.of_hwp_cpu_command.of_hwp_cpu_access.Resting.{resumes}
@@ -124,7 +123,8 @@ module _ (layout : Layout) (view : View) (cpu : Cpu) (list : List Command) (rows
 
     pub begins-beside : IsRunning layout view cpu list rows local taking
     begins-beside = record {
-      command = command; copies = copies;
+      command = command;
+      copies = copies;
       way = way-taking;
       on = record {
         base = deeds at view;
@@ -296,7 +296,7 @@ module _ (layout : Layout) (view : View) (cpu : Cpu) (list : List Command) (rows
   copy-behind copy = record {
     base = [];
     fits = subst (λ (j : Job). jobs.FitsFrom [] layout view (jobs.resume j)) (sym copy.is) (copy-resting.resumes copy.copying copy.pause copy.rests (subst (IsOnTurn view) (sym own) holds.on_turn) holds.hand_is holds.paid);
-    prior = prior-none layout command copies;
+    prior = prior-at-first layout command copies;
     left = subst (λ (j : Job). left_so_far [] view (jobs.resume j) ≡ left_beside c.due.offlined) (sym copy.is) (left-resumed copy.copying.at);
     all = all;
     told = all-told;

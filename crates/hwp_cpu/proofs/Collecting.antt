@@ -1,4 +1,6 @@
 -- The commands behind whose answer frames may be due: a machine check that was raised, and a scrub.
+use Rattle.hwp_cpu_causes.proofs.OnTheWay.{prior-begins}
+use Rattle.hwp_cpu_causes.specs.Beside.{ArePriorWith, CanCollect}
 use Rattle.hwp_cpu.specs.Serving.{left_so_far}
 use Rattle.hwp_cpu_course.specs.hwp_cpu_row.hwp_core_rule.declared.Made.{Made}
 use Rattle.hwp_cpu_course.proofs.of_hwp_cpu_command.OfKind.{of-copying, of-fork, of-instruction, of-evict, of-soft, of-inject, of-scrub, of-prctl, of-nested, of-fsync, of-unpoison, of-raise, of-spoil, of-log}
@@ -22,7 +24,6 @@ use Rattle.hwp_cpu_course.specs.hwp_cpu_row.hwp_geom.declared.VSlot.{VSlot}
 use Rattle.hwp_cpu_course.specs.hwp_cpu_command.hwp_cpu_copy.declared.Copying.{Copying}
 use Rattle.hwp_cpu_course.specs.hwp_cpu_command.hwp_cpu_access.declared.Instruction.{Instruction}
 use Rattle.hwp_cpu_course.specs.hwp_cpu_row.hwp_cpu_check.declared.EventOutcome.{EventOutcome}
-use Rattle.hwp_cpu_causes.specs.Beside.{CanCollect}
 use Rattle.std.proofs.lemmas.Bool.{both_ways}
 use Rattle.hwp_cpu_course.specs.hwp_cpu_row.hwp_geom.declared.Who.{Who}
 use Rattle.hwp_cpu_course.specs.hwp_cpu_row.hwp_core_rule.declared.View.{View}
@@ -77,34 +78,33 @@ copy-leaves-none layout who (commands.Store thread slot line word) from j a runs
 copy-leaves-none layout who command from j a runs = absurd runs
 
 -- where a command copies nothing its task is no copy, and what left frames beside it stands before its own entries
-module _ {base : List Made} {view : View} {j : Job} where
-  of-kind : {k : Job} → j ≡ k → left_so_far base view k ≡ left_among base → left_so_far base view j ≡ left_among base
-  of-kind is left = ap (left_so_far base view) is ∙ left
+of-kind : (base : List Made) (view : View) {j k : Job} → j ≡ k → left_so_far base view k ≡ left_among base → left_so_far base view j ≡ left_among base
+of-kind base view is left = ap (left_so_far base view) is ∙ left
 
 pub left-plain : (layout : Layout) (who : Who) (command : Command) (j : Job) → Runs layout who command None j → (base : List Made) (view : View) → left_so_far base view j ≡ left_among base
-left-plain layout who (commands.Load thread slot line) j runs base view = of-kind (of-instruction j runs.job_is).1 refl
-left-plain layout who (commands.Fetch thread slot line) j runs base view = of-kind (of-instruction j runs.job_is).1 refl
-left-plain layout who (commands.KLoad thread slot line) j runs base view = of-kind (of-instruction j runs.job_is).1 refl
-left-plain layout who (commands.Store thread slot line word) j runs base view = of-kind (of-instruction j runs.job_is).1 refl
-left-plain layout who (commands.Free slot) j runs base view = of-kind (of-evict j runs.1.job_is).1 refl
-left-plain layout who (commands.Drop page) j runs base view = of-kind (of-evict j runs.job_is).1 refl
-left-plain layout who (commands.Sync page) j runs base view = of-kind (of-evict j runs.job_is).1 refl
-left-plain layout who (commands.Out page) j runs base view = of-kind (of-evict j runs.job_is).1 refl
-left-plain layout who (commands.Fsync file) j runs base view = of-kind (of-fsync j runs.2).1 refl
-left-plain layout who (commands.Open file) j runs base view = of-kind (of-fsync j runs.2).1 refl
-left-plain layout who (commands.Prctl thread args) j runs base view = of-kind (of-prctl j runs.job_is).1 refl
-left-plain layout who (commands.Fork thread child) j runs base view = of-kind (of-fork j runs.job_is).1 refl
-left-plain layout who (commands.Bad frame line) j runs base view = of-kind (of-spoil j runs.job_is).1 refl
-left-plain layout who (commands.Weak frame line) j runs base view = of-kind (of-spoil j runs.job_is).1 refl
-left-plain layout who (commands.Scrub first last) j runs base view = of-kind (of-scrub j runs.job_is).1 refl
-left-plain layout who (commands.Log status addr misc) j runs base view = of-kind (of-log j runs.job_is).1 refl
-left-plain layout who (commands.Watch threshold window) j runs base view = of-kind (of-log j runs.job_is).1 refl
-left-plain layout who (commands.RaiseUser thread ripv eipv) j runs base view = of-kind (of-raise j runs.job_is).1 refl
-left-plain layout who (commands.RaiseKernel ripv eipv) j runs base view = of-kind (of-raise j runs.job_is).1 refl
-left-plain layout who commands.RaiseNested j runs base view = of-kind (of-nested j runs).1 refl
-left-plain layout who (commands.Inject frame) j runs base view = of-kind (of-inject j runs.job_is).1 refl
-left-plain layout who (commands.Soft frame) j runs base view = of-kind (of-soft j runs.job_is).1 refl
-left-plain layout who (commands.Unpoison frame) j runs base view = of-kind (of-unpoison j runs.job_is).1 refl
+left-plain layout who (commands.Load thread slot line) j runs base view = of-kind base view (of-instruction j runs.job_is).1 refl
+left-plain layout who (commands.Fetch thread slot line) j runs base view = of-kind base view (of-instruction j runs.job_is).1 refl
+left-plain layout who (commands.KLoad thread slot line) j runs base view = of-kind base view (of-instruction j runs.job_is).1 refl
+left-plain layout who (commands.Store thread slot line word) j runs base view = of-kind base view (of-instruction j runs.job_is).1 refl
+left-plain layout who (commands.Free slot) j runs base view = of-kind base view (of-evict j runs.1.job_is).1 refl
+left-plain layout who (commands.Drop page) j runs base view = of-kind base view (of-evict j runs.job_is).1 refl
+left-plain layout who (commands.Sync page) j runs base view = of-kind base view (of-evict j runs.job_is).1 refl
+left-plain layout who (commands.Out page) j runs base view = of-kind base view (of-evict j runs.job_is).1 refl
+left-plain layout who (commands.Fsync file) j runs base view = of-kind base view (of-fsync j runs.2).1 refl
+left-plain layout who (commands.Open file) j runs base view = of-kind base view (of-fsync j runs.2).1 refl
+left-plain layout who (commands.Prctl thread args) j runs base view = of-kind base view (of-prctl j runs.job_is).1 refl
+left-plain layout who (commands.Fork thread child) j runs base view = of-kind base view (of-fork j runs.job_is).1 refl
+left-plain layout who (commands.Bad frame line) j runs base view = of-kind base view (of-spoil j runs.job_is).1 refl
+left-plain layout who (commands.Weak frame line) j runs base view = of-kind base view (of-spoil j runs.job_is).1 refl
+left-plain layout who (commands.Scrub first last) j runs base view = of-kind base view (of-scrub j runs.job_is).1 refl
+left-plain layout who (commands.Log status addr misc) j runs base view = of-kind base view (of-log j runs.job_is).1 refl
+left-plain layout who (commands.Watch threshold window) j runs base view = of-kind base view (of-log j runs.job_is).1 refl
+left-plain layout who (commands.RaiseUser thread ripv eipv) j runs base view = of-kind base view (of-raise j runs.job_is).1 refl
+left-plain layout who (commands.RaiseKernel ripv eipv) j runs base view = of-kind base view (of-raise j runs.job_is).1 refl
+left-plain layout who commands.RaiseNested j runs base view = of-kind base view (of-nested j runs).1 refl
+left-plain layout who (commands.Inject frame) j runs base view = of-kind base view (of-inject j runs.job_is).1 refl
+left-plain layout who (commands.Soft frame) j runs base view = of-kind base view (of-soft j runs.job_is).1 refl
+left-plain layout who (commands.Unpoison frame) j runs base view = of-kind base view (of-unpoison j runs.job_is).1 refl
 
 -- an access copies nothing, where a copy is a task of its own
 pub access-plain : (layout : Layout) (who : Who) (command : Command) (copies : Option VSlot) (j : Job) → Runs layout who command copies j → (i : Instruction) → j ≡ kinds.Instruction i → copies ≡ None
@@ -182,3 +182,8 @@ collect-halted layout earlier view who (commands.RaiseUser thread ripv eipv) tol
 collect-halted layout earlier view who (commands.RaiseKernel ripv eipv) told own can caused = halts layout view who (commands.RaiseKernel ripv eipv) caused
 collect-halted layout earlier view who (commands.Scrub first last) told own can caused = halts layout view who (commands.Scrub first last) caused
 collect-halted layout earlier view who command told own can caused = absurd can
+
+-- no entry stands before its own task's
+pub prior-at-first : (layout : Layout) (command : Command) (copies : Option VSlot) → ArePriorWith layout command copies []
+prior-at-first layout command None = prior-begins layout command
+prior-at-first layout command (Some from) = refl

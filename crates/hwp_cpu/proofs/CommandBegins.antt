@@ -1,4 +1,7 @@
 -- When the command that runs has its answer, its row is right, and the next command may begin.
+use Rattle.hwp_cpu_course.specs.hwp_cpu_row.hwp_geom.declared.Frame.{Frame}
+use Rattle.hwp_cpu_causes.specs.hwp_law_served.Handles.{KnowsNumber, answers_by, number_at}
+use Rattle.hwp_cpu_course.specs.hwp_cpu_row.hwp_script_read.Valid.{IsCommandOf}
 use Rattle.hwp_cpu_course.specs.hwp_cpu_command.Begins.{BeginsWith}
 use Rattle.hwp_cpu_course.specs.hwp_cpu_row.hwp_geom.declared.VSlot.{VSlot}
 use Rattle.hwp_cpu_course.specs.hwp_cpu_row.hwp_geom.declared.FileNo.{FileNo}
@@ -50,7 +53,6 @@ use Rattle.hwp_cpu_course.proofs.of_hwp_cpu_command.JobEnds.{ends}
 use Rattle.hwp_cpu_course.proofs.of_hwp_cpu_command_laws.CommandRuns.{before-begins, begins-fits, begins-runs, runs-who}
 use Rattle.hwp_cpu_course.proofs.of_hwp_cpu_command_laws.CommandStops.{begins-stop, has-stopped, only-stopped, untold-at-start}
 use Rattle.hwp_cpu_causes.specs.hwp_law_served.Accounts.{IsNote, own_marking, markings_in}
-use Rattle.hwp_cpu_causes.specs.hwp_law_served.Handles.{answers_by, number_at}
 use Rattle.hwp_cpu_causes.specs.hwp_law_served.Rows.{notes_from}
 use Rattle.hwp_cpu_causes.specs.hwp_law_served.Served.{CanStop, IsOneOf, IsOwnSpoil, IsOwnStop, IsRowServed, SawRunning}
 use Rattle.hwp_cpu_causes.proofs.of_hwp_law_served.Handles.{number-last, numbers-more}
@@ -59,13 +61,13 @@ use Rattle.hwp_cpu_causes.proofs.HandleNumbers.{tells-inside}
 use Rattle.hwp_cpu_causes.proofs.RowServed.{row-served}
 use Rattle.hwp_cpu.specs.Processors.{AreCommands, BeginsAt, at_number, left_of, told_local}
 use Rattle.hwp_cpu.specs.Serving.{IsActedOn, Remembers, AreNumbered, FitsAt, HasAccount, HasStopped, HasStoppedIt, IsDone, IsListed, IsRunning, Serves, IsUnderWay, marked_beside, marked_so_far, GivesUp, GoesOn}
-use Rattle.hwp_cpu.proofs.ProcessorKeeps.{can, own}
+use Rattle.hwp_cpu.proofs.ProcessorKeeps.{can}
 use Rattle.hwp_cpu.proofs.ProcessorNotes.{account-starts, noted-end, noted-starts, owes-nothing, spoils-end, unmarked-starts}
 use Rattle.hwp_cpu.proofs.KnownPolicies.{answers-more, counted-ends, counted-starts, setting-left}
 use Rattle.hwp_cpu.proofs.Revivals.{revival-left}
 use Rattle.hwp_cpu.proofs.Rows.{IsRowActed, at_front, banks-acted, past-end, rows-more, stays-more, stop-more, stopped-was}
 use Rattle.std.specs.List.{list_any, cons_option}
-use Rattle.hwp_cpu_course.specs.hwp_cpu_row.hwp_law_commands.Watched.{told, Watched}
+use Rattle.hwp_cpu_course.specs.hwp_cpu_row.hwp_law_commands.Watched.{told, watched_after, Watched}
 use Rattle.hwp_cpu_causes.specs.hwp_law_served.Offlinings.{watched_at, AreDue}
 use Rattle.hwp_cpu_course.specs.hwp_cpu_row.Locals.{IsWatching, collects}
 use Rattle.hwp_cpu_course.specs.hwp_cpu_command.Done.{marked_beyond, HasCounted}
@@ -98,6 +100,11 @@ next-turn view cpu n none on = record {
     later (i, p, there, h) = let few : p.latest ≤ n = h.1 in (i, p, there, (h.0, omega (arith, few)))
 
 -- ---- a command that stops the machine
+
+-- a command that is acted on through twins leaves the collector as the script's does
+watched-acted : (layout : Layout) (earlier : List (Command × Answer)) (own : Command) (a : Answer) (frames : List Frame) (before : Option Watched) → watched_after (acting layout earlier own) a frames before ≡ watched_after own a frames before
+watched-acted layout earlier (commands.Load thread slot line) a frames before = refl
+watched-acted layout earlier own a frames before = refl
 
 -- so can the script's command, as the one that is acted on
 stop-acted : (layout : Layout) (earlier : List (Command × Answer)) (own : Command) (told : List EventOutcome) → CanStop layout (acting layout earlier own) told → CanStop layout own told
@@ -220,21 +227,23 @@ module _ (layout : Layout) (new : View) (cpu : Cpu) (list : List Command) (rows 
   due-now : AreDue layout (watched_at layout list rows n) row
   due-now = now.way.collected.frames ∙ take_all (length c.due.offlined) c.due.frames (let all : length c.due.offlined ≡ length c.due.frames = now.all in omega (arith, all)) ∙ sym now.complete.due
 
+  numbers-known : (file : FileNo) → tells_number file own a ≡ true → KnowsNumber layout new at file (number_by file (number_at file list rows n) own a)
+  numbers-known file told =
+      let same : tells_number file command a ≡ true = ap (λ (x : Command). tells_number file x a) now.way.next.acts ∙ tells-acted layout earlier file own a ∙ told in
+      subst (KnowsNumber layout new at file) (ap (λ (x : Command). number_by file (number_at file list rows n) x a) now.way.next.acts ∙ number-acted layout earlier file (number_at file list rows n) own a)
+      ((now.known.numbers file (tells-inside layout at command copies c.own a file now.way.runs same)).knows same)
+
   serves : Serves layout new cpu list longer after.banks after.handles after.cows
   serves = record {
     rows_are = rows-more layout [] new cpu 0 empty_banks list rows (banks_before c.own local.banks) n own row after.banks (omega arith) now.way.serves.rows_are now.way.next.there acted;
     remembers = remembers;
     stays = stays-more rows row now.way.serves.stays (λ some. only-stopped c.own (now.way.stopped some).0 now.known.answered);
     halted = λ some. by (stopped-was rows row some);
-    numbers = numbers-more layout new cpu list rows own row now.way.next.there now.way.serves.numbers
-        (λ file told. numbers-known file (sym (tells-acted layout earlier file own a) ∙ told));
+    numbers = numbers-more layout new cpu list rows own row now.way.next.there now.way.serves.numbers numbers-known;
     handles_are = handles_are;
     due = due-more layout list rows row now.way.serves.due due-now;
   }
     where
-      numbers-known : (file : FileNo) → tells_number file (acting layout earlier own) a ≡ true → _
-      numbers-known file told = (now.known.numbers file (tells-inside layout at command copies c.own a file now.way.runs (ap (λ (x : Command). tells_number file x a) now.way.next.acts ∙ told))).knows (ap (λ (x : Command). tells_number file x a) now.way.next.acts ∙ told)
-
       by : HasStopped rows ⊎ (a ≡ answers.Stopped) → IsHalted new
       by (inl early) = now.way.serves.halted early
       by (inr last) = now.known.halted last
@@ -248,7 +257,8 @@ module _ (layout : Layout) (new : View) (cpu : Cpu) (list : List Command) (rows 
 
   -- the collector that the next command begins with
   watching-now : IsWatching layout.frames (watched_at layout list longer (length longer)) after.watching
-  watching-now = subst (λ (w : Option Watched). IsWatching layout.frames w after.watching) (sym (watched-more layout list rows own row now.way.next.there))
+  watching-now = subst (λ (w : Option Watched). IsWatching layout.frames w after.watching)
+      (ap (λ (x : Command). watched_after x a (told_notes layout (told_of c.own)) (watched_at layout list rows n)) now.way.next.acts ∙ watched-acted layout earlier own a (told_notes layout (told_of c.own)) (watched_at layout list rows n) ∙ sym (watched-more layout list rows own row now.way.next.there))
       (watching-ends layout.frames (told_notes layout (told_of c.own)) (watched_at layout list rows n) c.watching now.complete.watching layout at command copies c.own a now.way.runs round (λ watches. now.way.collected.room (has-watch list n own now.way.next.there (sym (acting-watches layout earlier own) ∙ sym (ap is_watch now.way.next.acts) ∙ watches))))
 
   room-now : list_any is_watch list ≡ true → IsSome after.watching
@@ -291,8 +301,8 @@ module _ (layout : Layout) (new : View) (cpu : Cpu) (list : List Command) (rows 
     }
 
     forks-so : CanFork layout new (at_number cpu (n + 1)) next
-    forks-so = fork-acted layout after.cows coming (subst (λ (i : ℕ). CanFork layout new (at_number cpu i) coming) number
-        (can-fork layout cpu list longer are.forks are.once new policies coming (subst (λ (i : ℕ). slice_get list i ≡ Some coming) (sym number) there) (at-least list (n + 1) coming are.named there)))
+    forks-so = fork-acted new (at_number cpu (n + 1)) layout after.cows coming (subst (λ (i : ℕ). CanFork layout new (at_number cpu i) coming) number
+        (can-fork layout cpu list longer are.forks are.once new policies coming (subst (λ (i : ℕ). slice_get list i ≡ Some coming) (sym number) there) (at-least (IsCommandOf layout cpu.0) list (n + 1) coming are.named there)))
 
     start : IsAtStop b.own
     start = begins-stop layout (at_number cpu (n + 1)) next copied after.banks (collects after.watching) b.own begins.begins
@@ -348,7 +358,7 @@ module _ (layout : Layout) (new : View) (cpu : Cpu) (list : List Command) (rows 
   settled b begins = which (slice_get list (n + 1)) refl b begins
     where
       which : (o : Option Command) → slice_get list (n + 1) ≡ o → (x : Option Course) → BeginsAt layout (at_number cpu (n + 1)) o after x → FitsAt layout new cpu list longer (left_of x after) x
-      which (Some next) there (Some x) is = begun next x there is
+      which (Some coming) there (Some x) is = begun coming x there is
       which None there None is = done there
-      which (Some next) there None is = absurd is
+      which (Some coming) there None is = absurd is
       which None there (Some x) is = absurd is

@@ -88,7 +88,7 @@ module _ (j : Job) (has : stays.HasStopped j) where
   instruction-halts is = let task = of-instruction j is in ap (λ (k : Job). halts (jobs.told_of k)) task.1 ∙ (subst stays.HasStopped task.1 has).1
 
   copying-halts : {x : Copying} → anew j ≡ kinds.Copying x → halts (jobs.told_of j) ≡ true
-  copying-halts is = let task = of-copying j is in ap (λ (k : Job). halts (jobs.told_of k)) task.1 ∙ (subst stays.HasStopped task.1 has).2
+  copying-halts is = let task = of-copying j is in ap (λ (k : Job). halts (jobs.told_of k)) task.1 ∙ (subst stays.HasStopped task.1 has).1.1
 
   raise-halts : {x : Raise} → anew j ≡ kinds.Raise x → halts (jobs.told_of j) ≡ true
   raise-halts is = let task = of-raise j is in ap (λ (k : Job). halts (jobs.told_of k)) task.1 ∙ (subst stays.HasStopped task.1 has).1

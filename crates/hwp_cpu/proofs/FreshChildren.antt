@@ -1,8 +1,10 @@
 -- Where a fork begins, no thread of the child has set a policy, each is one of the processor, and none is the one that forks.
+use Rattle.std.specs.Prelude.{IsSomeAnd}
+use Rattle.hwp_cpu_course.specs.hwp_cpu_command.hwp_kill.Prctl.{policy_set}
+use Rattle.hwp_cpu_course.specs.hwp_cpu_row.hwp_law_commands.Settings.{arguments, last_policy, set_after, set_behind, setting_of, settings, unset}
 use Rattle.std.proofs.Common.{◌≡◌, ◌≢◌, ℕ, zero, suc, ◌+◌, ◌<◌, ◌≤◌, ◌==◌, ◌&&◌, ◌||◌, not, Bool, true, false, cond, true≢false, List, [], ◌∷◌, ◌++◌, Option, Some, None, length, map, slice_get, take, count_by, append-nil, refl, sym, ap, ◌∙◌, subst, arith}
 use Rattle.std.specs.List.{cons_option, list_any, zip}
 use Rattle.std.specs.Option.{option_map_or}
-use Rattle.std.specs.Prelude.{IsSomeAnd}
 use Rattle.std.proofs.lemmas.Bool.{eq-eqb, eqb-true, not-false}
 use Rattle.std.proofs.lemmas.List.{length-map, nil_from_length}
 use Rattle.std.proofs.lemmas.List.Sums.{sum_by-cons}
@@ -20,7 +22,6 @@ use Rattle.hwp_cpu_course.specs.hwp_cpu_row.hwp_script_read.Forks.{cannot_share,
 use Rattle.hwp_cpu_course.specs.hwp_cpu_row.hwp_script_read.Valid.{AreForksFit, IsCommandOf}
 use Rattle.hwp_cpu_course.specs.hwp_cpu_row.hwp_report_text.declared.Answer.{Answer}
 use Rattle.hwp_cpu_course.specs.hwp_cpu_row.hwp_report_text.declared.Answer.TheVariants as answers
-use Rattle.hwp_cpu_course.specs.hwp_cpu_row.hwp_law_commands.Settings.{set_after, set_behind, setting_of, settings, unset}
 use Rattle.hwp_cpu_course.proofs.of_hwp_cpu_row.of_hwp_law_commands.CowLaws.{both-false}
 use Rattle.hwp_cpu_course.specs.hwp_cpu_row.hwp_core_rule.declared.Setting.{Setting}
 use Rattle.hwp_cpu_course.specs.hwp_cpu_row.hwp_core_rule.declared.View.{View}
@@ -39,15 +40,19 @@ none-passes test [] i x none there = absurd (none-some x there)
 none-passes test (y ∷ ys) zero x none there = subst (λ (z : _). test z ≡ false) (same_Some y x there) (both-false (test y) (list_any test ys) none).0
 none-passes test (y ∷ ys) (suc i) x none there = none-passes test ys i x (both-false (test y) (list_any test ys) none).1 there
 
+-- what a member adds to the count of those that pass
+abbrev tally : Bool → ℕ
+tally b = cond b 1 0
+
 -- a member that passes counts
 one-counts : {A : Type 0} (test : A → Bool) (l : List A) (i : ℕ) (x : A) → slice_get l i ≡ Some x → test x ≡ true → 1 ≤ count_by test l
 one-counts test [] i x there passes = absurd (none-some x there)
 one-counts test (y ∷ ys) zero x there passes =
-    let all : count_by test (y ∷ ys) ≡ cond (test y) 1 0 + count_by test ys = sum_by-cons (λ (z : _). cond (test z) 1 0) y ys in
-    let here : cond (test y) 1 0 ≡ 1 = ap (λ (b : Bool). cond b 1 0) (ap test (same_Some y x there) ∙ passes) in
+    let all : count_by test (y ∷ ys) ≡ tally (test y) + count_by test ys = sum_by-cons (λ (z : _). tally (test z)) y ys in
+    let here : tally (test y) ≡ 1 = ap tally (ap test (same_Some y x there) ∙ passes) in
     omega (arith, all, here)
 one-counts test (y ∷ ys) (suc i) x there passes =
-    let all : count_by test (y ∷ ys) ≡ cond (test y) 1 0 + count_by test ys = sum_by-cons (λ (z : _). cond (test z) 1 0) y ys in
+    let all : count_by test (y ∷ ys) ≡ tally (test y) + count_by test ys = sum_by-cons (λ (z : _). tally (test z)) y ys in
     let later : 1 ≤ count_by test ys = one-counts test ys i x there passes in
     omega (arith, all, later)
 
@@ -55,17 +60,17 @@ one-counts test (y ∷ ys) (suc i) x there passes =
 none-before : {A : Type 0} (test : A → Bool) (l : List A) (n : ℕ) (x : A) → slice_get l n ≡ Some x → test x ≡ true → count_by test l ≤ 1 → list_any test (take n l) ≡ false
 none-before test [] n x there passes few = absurd (none-some x there)
 none-before test (y ∷ ys) zero x there passes few = refl
-none-before test (y ∷ ys) (suc n) x there passes few = which (test y) refl
+none-before test (y ∷ ys) (suc n) x there passes few = which (test y) refl (λ fewer. none-before test ys n x there passes fewer)
   where
-    all : count_by test (y ∷ ys) ≡ cond (test y) 1 0 + count_by test ys
-    all = sum_by-cons (λ (z : _). cond (test z) 1 0) y ys
+    all : count_by test (y ∷ ys) ≡ tally (test y) + count_by test ys
+    all = sum_by-cons (λ (z : _). tally (test z)) y ys
 
     later : 1 ≤ count_by test ys
     later = one-counts test ys n x there passes
 
-    which : (b : Bool) → test y ≡ b → (test y || list_any test (take n ys)) ≡ false
-    which true is = let here : cond (test y) 1 0 ≡ 1 = ap (λ (b : Bool). cond b 1 0) is in absurd (omega (arith, all, later, here, few))
-    which false is = ap (λ (b : Bool). b || list_any test (take n ys)) is ∙ none-before test ys n x there passes (omega (arith, all, few))
+    which : (b : Bool) → test y ≡ b → (count_by test ys ≤ 1 → list_any test (take n ys) ≡ false) → (test y || list_any test (take n ys)) ≡ false
+    which true is behind = let here : tally (test y) ≡ 1 = ap tally is in absurd (omega (arith, all, later, here, few))
+    which false is behind = ap (λ (b : Bool). b || list_any test (take n ys)) is ∙ behind (omega (arith, all, few))
 
 -- ---- a child whose threads no command used, and which none forked
 
@@ -78,17 +83,15 @@ module _ (layout : Layout) (child : Proc) (t : ℕ) (own : is_thread_of layout c
   one-process process None first second = absurd (true≢false (sym first))
   one-process process (Some d) first second = sym (eqb-true d.process.0 process second) ∙ eqb-true d.process.0 child.0 first
 
+  not-chosen : (b : Bool) (o : Option Policy) → (b ≡ true → ⊥) → cond b o None ≡ None
+  not-chosen true o never = absurd (never refl)
+  not-chosen false o never = refl
+
   sets-none : (set : ℕ → List Policy) (command : Command) (answer : Answer) → is_used_by layout child.0 command ≡ false → is_fork_of child.0 command ≡ false → setting_of layout set t command answer ≡ None
-  sets-none set (commands.Prctl other args) answers.Done unused unforked = which (other.0 == t) refl
-    where
-      which : (b : Bool) → (other.0 == t) ≡ b → cond b _ None ≡ None
-      which true is = absurd (true≢false (sym (ap (is_thread_of layout child.0) (eqb-true other.0 t is) ∙ own) ∙ unused))
-      which false is = refl
-  sets-none set (commands.Fork parent process) answers.Done unused unforked = which (is_thread_of layout process.0 t) refl
-    where
-      which : (b : Bool) → is_thread_of layout process.0 t ≡ b → cond b _ None ≡ None
-      which true is = absurd (true≢false (sym (eq-eqb process.0 child.0 (one-process process.0 (slice_get layout.threads t) own is)) ∙ unforked))
-      which false is = refl
+  sets-none set (commands.Prctl other args) answers.Done unused unforked =
+      not-chosen (other.0 == t) (policy_set (arguments args)) (λ is. true≢false (sym (ap (is_thread_of layout child.0) (eqb-true other.0 t is) ∙ own) ∙ unused))
+  sets-none set (commands.Fork parent process) answers.Done unused unforked =
+      not-chosen (is_thread_of layout process.0 t) (Some (last_policy (set parent.0))) (λ is. true≢false (sym (eq-eqb process.0 child.0 (one-process process.0 (slice_get layout.threads t) own is)) ∙ unforked))
   sets-none set command answer unused unforked = refl
 
   unset-zip : (set : ℕ → List Policy) (l : List Command) (given : List Answer) → list_any (is_used_by layout child.0) l ≡ false → list_any (is_fork_of child.0) l ≡ false → set_behind layout set (zip l given) t ≡ set t
@@ -103,7 +106,8 @@ module _ (layout : Layout) (child : Proc) (t : ℕ) (own : is_thread_of layout c
 
 -- the commands that are answered are the first of the list
 zip-front : (l : List Command) (given : List Answer) → zip l given ≡ zip (take (length given) l) given
-zip-front [] given = refl
+zip-front [] [] = refl
+zip-front [] (a ∷ rest) = refl
 zip-front (c ∷ cs) [] = refl
 zip-front (c ∷ cs) (a ∷ rest) = ap (λ (m : List (Command × Answer)). (c, a) ∷ m) (zip-front cs rest)
 
@@ -165,7 +169,7 @@ module _ (layout : Layout) (cpu : Cpu) (list : List Command) (rows : List Row) (
         none-set : settings_of t view.settings ≡ []
         none-set = nil_from_length (settings_of t view.settings) (
             let set : settings layout t (answers_by list rows) ≡ [] = ap (λ (l : List (Command × Answer)). set_behind layout unset l t.0) (zip-front list given ∙ ap (λ (m : ℕ). zip (take m list) given) (length-map rows (λ (r : Row). r.answer)))
-                ∙ unset-zip layout child t.0 own unset (take n list) given parts.1 unforked in
+            ∙ unset-zip layout child t.0 own unset (take n list) given parts.1 unforked in
             let same : length (policies_in t view) ≡ 0 = ap length (all t ∙ set) in
             let many : length (policies_in t view) ≡ length (settings_of t view.settings) = length-map (settings_of t view.settings) (λ (s : Setting). s.policy) in
             omega (arith, same, many))

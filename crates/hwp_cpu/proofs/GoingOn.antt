@@ -146,7 +146,8 @@ module _ (layout : Layout) (view : View) (cpu : Cpu) (list : List Command) (rows
       by : (o : Option Answer) → jobs.answer (jobs.resume c.own) ≡ o → Turned layout view cpu list rows local (going_on c None) o
       by None is = inl running
       by (Some a) is = record {
-        command = command; copies = copies;
+        command = command;
+        copies = copies;
         way = way-now;
         known = answer-known layout view cpu list rows local command copies (going_on c None) way-now own.base own.fits own.prior own.left a is;
         none = refl;

@@ -71,20 +71,17 @@ pub counted-starts : (before : Thread → List Policy) (view : View) (j : Job) �
 counted-starts before view j start all thread =
     all thread ∙ sym (append-nil (before thread)) ∙ ap (λ (l : List (Thread × Policy)). before thread ++ of_thread thread l) (sym (unset-policies-at-start j start))
 
+-- one more thread, which isn't this one
+of-other : (thread : Thread) (policy : Policy) (b : Bool) (t : Thread) (rest : List Thread) (want : List Policy) → (t.0 == thread.0) ≡ false → of_thread thread (map (λ (x : Thread). (x, policy)) rest) ≡ want
+    → of_thread thread (map (λ (x : Thread). (x, policy)) (cond b (t ∷ rest) rest)) ≡ want
+of-other thread policy true t rest want other is = ap (λ (b : Bool). cons_option (cond b (Some policy) None) (of_thread thread (map (λ (x : Thread). (x, policy)) rest))) other ∙ is
+of-other thread policy false t rest want other is = is
+
 -- a policy that each thread of a process got is one of each of them, and of no other thread
 given-none : (thread : Thread) (policy : Policy) (process : Proc) (n : ℕ) (ts : List ThreadDecl) → thread.0 < n → of_thread thread (map (λ (t : Thread). (t, policy)) (threads_of process n ts)) ≡ []
 given-none thread policy process n [] less = refl
-given-none thread policy process n (t ∷ ts) less = which (t.process.0 == process.0)
-  where
-    rest : of_thread thread (map (λ (x : Thread). (x, policy)) (threads_of process (n + 1) ts)) ≡ []
-    rest = given-none thread policy process (n + 1) ts (omega (arith, less))
-
-    other : (n == thread.0) ≡ false
-    other = ne_eqb n thread.0 (λ same. absurd (omega (arith, less, same)))
-
-    which : (b : Bool) → of_thread thread (map (λ (x : Thread). (x, policy)) (cond b (record { 0 = n } ∷ threads_of process (n + 1) ts) (threads_of process (n + 1) ts))) ≡ []
-    which true = ap (λ (b : Bool). cons_option (cond b (Some policy) None) (of_thread thread (map (λ (x : Thread). (x, policy)) (threads_of process (n + 1) ts)))) other ∙ rest
-    which false = rest
+given-none thread policy process n (t ∷ ts) less =
+    of-other thread policy (t.process.0 == process.0) (record { 0 = n }) (threads_of process (n + 1) ts) [] (ne_eqb n thread.0 (λ same. absurd (omega (arith, less, same)))) (given-none thread policy process (n + 1) ts (omega (arith, less)))
 
 abbrev is_of : Proc → Option ThreadDecl → Bool
 is_of process o = option_map_or (λ (t : ThreadDecl). t.process.0 == process.0) o false
@@ -103,17 +100,9 @@ given-one thread policy process n (t ∷ ts) zero is = which (t.process.0 == pro
     which : (b : Bool) → of_thread thread (map (λ (x : Thread). (x, policy)) (cond b (record { 0 = n } ∷ threads_of process (n + 1) ts) (threads_of process (n + 1) ts))) ≡ cons_option (cond b (Some policy) None) []
     which true = ap (λ (b : Bool). cons_option (cond b (Some policy) None) (of_thread thread (map (λ (x : Thread). (x, policy)) (threads_of process (n + 1) ts)))) own ∙ ap (λ (l : List Policy). policy ∷ l) rest
     which false = rest
-given-one thread policy process n (t ∷ ts) (suc m) is = which (t.process.0 == process.0)
-  where
-    rest : of_thread thread (map (λ (x : Thread). (x, policy)) (threads_of process (n + 1) ts)) ≡ cons_option (cond (is_of process (slice_get ts m)) (Some policy) None) []
-    rest = given-one thread policy process (n + 1) ts m (omega (arith, is))
-
-    other : (n == thread.0) ≡ false
-    other = ne_eqb n thread.0 (λ same. absurd (omega (arith, is, same)))
-
-    which : (b : Bool) → of_thread thread (map (λ (x : Thread). (x, policy)) (cond b (record { 0 = n } ∷ threads_of process (n + 1) ts) (threads_of process (n + 1) ts))) ≡ cons_option (cond (is_of process (slice_get ts m)) (Some policy) None) []
-    which true = ap (λ (b : Bool). cons_option (cond b (Some policy) None) (of_thread thread (map (λ (x : Thread). (x, policy)) (threads_of process (n + 1) ts)))) other ∙ rest
-    which false = rest
+given-one thread policy process n (t ∷ ts) (suc m) is =
+    of-other thread policy (t.process.0 == process.0) (record { 0 = n }) (threads_of process (n + 1) ts) (cons_option (cond (is_of process (slice_get ts m)) (Some policy) None) []) (ne_eqb n thread.0 (λ same. absurd (omega (arith, is, same))))
+    (given-one thread policy process (n + 1) ts m (omega (arith, is)))
 
 -- what a command has set for the thread is what its answer says
 by-answer : (layout : Layout) (earlier : List (Command × Answer)) (thread : Thread) (command : Command) (answer : Answer)

@@ -145,7 +145,7 @@ module _ {base : List Made} (layout : Layout) (old new : View) (y : Copying) (k 
           who-is : y.instruction.request.who ≡ y.store.who
           who-is = (request-who y.store y.page (cows.sub_of y.cow) has.request_is).0
 
-          abbrev then : Copying
+          then : Copying
           then = record (copyings.bare_at y copying_at.Access) { instruction = next.instruction }
 
           same-told : went.instruction.lines.told ≡ next.instruction.lines.told
@@ -185,8 +185,8 @@ module _ {base : List Made} (layout : Layout) (old new : View) (y : Copying) (k 
               none : y.instruction.collects ≡ true → is_some (copyings.pause went) ≡ false → (is_some (instructions.pause next.instruction) ≡ true) ⊎ ((halts tells.more ≡ true) ⊎ (has_kept tells.more && y.instruction.collects ≡ false)) → told_notes layout tells.more ≡ []
               none on goes (inl pauses) = absurd (true≢false (sym (ap (λ (x : Copying). is_some (copyings.pause x)) next.next_is ∙ paused-so (instructions.answer next.instruction) refl pauses) ∙ goes))
               none on goes (inr why) = answered-unnoted y.instruction has.instruction tells.more tells.of_check (halted-or why on)
-      by (copying_at.Free e stored) own has planned moved next = untold (ap (λ (x : Copying). x.instruction.lines.told) next.next_is ∙ free-told _ next.evict stored (evicts.answer next.evict))
-      by (copying_at.Over answer) own has planned moved next = absurd (none-some made.step planned)
+      by (copying_at.Free e stored) own has planned moved next = untold (ap (λ (x : Copying). x.instruction.lines.told) next.next_is ∙ free-told (copyings.bare_at y (copying_at.Free e stored)) next.evict stored (evicts.answer next.evict))
+      by (copying_at.Over answer) own has planned moved follows = absurd (none-some made.step planned)
 
   pub copy-notes : told_notes layout (told_of k) ≡ told_notes layout y.instruction.lines.told ++ told_notes layout (drop (length y.instruction.lines.told) (told_of k))
   copy-notes = subst (λ (j : Job). told_notes layout (told_of j) ≡ told_notes layout y.instruction.lines.told ++ told_notes layout (drop (length y.instruction.lines.told) (told_of j))) (sym made.follows.1)

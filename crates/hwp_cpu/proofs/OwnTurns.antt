@@ -8,7 +8,8 @@ use Rattle.hwp_cpu_course.specs.hwp_cpu_row.hwp_core_rule.Lists.{EachMember}
 use Rattle.hwp_cpu.specs.Serving.{left_so_far, noted_by, GoesOn, task, marked_so_far, IsUnderWay, marked_beside, KeepsWatch, OwnGoesOn, HasToldAll}
 use Rattle.hwp_cpu.proofs.OwnRests.{copy-holds, copy-known, left-still, pause-holds, answer-known, own-on, HoldsNone, AnswerKnown, pause-known, fits-still}
 use Rattle.hwp_cpu_course.specs.Courses.{going_on, answer, part_of, IsGoingOn, told_since, AfterCollecting, AfterCollectingBy, AfterRest, AfterRestBy, FitsOf, FitsOwn, HasRefused, IsGoing, answer_of, has_more, rests, AfterOwnIf, AfterOwnBy, AfterOwn, passed}
-use Rattle.hwp_cpu_causes.specs.Beside.{ArePriorWith, CanCollect}
+use Rattle.hwp_cpu_causes.specs.hwp_law_served.Handles.{answers_by}
+use Rattle.hwp_cpu_causes.specs.Beside.{ArePriorWith, CanCollect, IsOwnServed}
 use Rattle.hwp_cpu_course.specs.hwp_cpu_row.Locals.{collects}
 use Rattle.std.specs.List.{cons_option}
 use Rattle.hwp_cpu_course.specs.hwp_cpu_row.hwp_core_rule.declared.View.{View}
@@ -29,7 +30,7 @@ use Rattle.hwp_cpu.proofs.OwnLines.{HasPause, none-told, is_access, own-notes, r
 use Rattle.hwp_cpu_causes.specs.hwp_law_served.hwp_page.declared.At.{At}
 use Rattle.hwp_cpu_course.specs.hwp_cpu_row.hwp_geom.declared.Layout.{Layout}
 use Rattle.std.proofs.lemmas.List.{nil_from_length, take_all}
-use Rattle.hwp_cpu.proofs.Collecting.{IsAccess, plain-copies, collect-left, tells-kind}
+use Rattle.hwp_cpu.proofs.Collecting.{IsAccess, collects-plain, plain-copies, collect-left, tells-kind}
 use Rattle.hwp_cpu.proofs.Collected.{keeps-same, by-collector, keeps-noted}
 use Rattle.hwp_cpu_course.specs.hwp_cpu_row.hwp_geom.declared.Who.{Who}
 use Rattle.hwp_cpu_course.proofs.of_hwp_cpu_command.JobEnds.{answered-over}
@@ -97,7 +98,7 @@ module _ (layout : Layout) (old new : View) (cpu : Cpu) (list : List Command) (r
   way-next = way-own layout old new cpu list rows local command copies c k way made beside_is
 
   fits-next : jobs.FitsFrom on.base layout new k
-  fits-next = fits-still layout old new command c k on made base_is
+  fits-next = fits-still layout old new command copies c k on made base_is
 
   left-next : left_so_far on.base new k ≡ left_beside c.due.offlined
   left-next = left-still layout old new command copies c k on made base_is
@@ -142,9 +143,10 @@ module _ (layout : Layout) (old new : View) (cpu : Cpu) (list : List Command) (r
     turned-past = subst (λ (o : Option Soft). Turned layout new cpu list rows local past (answer_of o k)) (sym beside_is) (by (jobs.answer k) refl)
       where
         by : (o : Option Answer) → jobs.answer k ≡ o → Turned layout new cpu list rows local past o
-        by None is = inl (record { command = command; copies = copies; way = way-past; on = subst (GoesOn layout new cpu list rows local command copies past) (sym beside_is) (own-on layout old new command c k on made base_is noted told) })
+        by None is = inl (record { command = command; copies = copies; way = way-past; on = subst (GoesOn layout new cpu list rows local command copies past) (sym beside_is) (own-on layout old new command copies c k on made base_is noted told) })
         by (Some a) is = record {
-          command = command; copies = copies;
+          command = command;
+          copies = copies;
           way = way-past;
           known = answer-known layout new cpu list rows local command copies past way-past on.base fits-next on.prior left-next a is;
           none = beside_is;
@@ -290,14 +292,14 @@ module _ (layout : Layout) (old new : View) (cpu : Cpu) (list : List Command) (r
                 beyond = answered-unmarked k is so.1;
                 left = known.left ∙ ap (λ (o : Option At). cons_option o (left_beside c.due.offlined)) (collect-left command a so.0);
               }))
-              (inr (record { answer = a; answered = is; collects = so.0; some = so.1; served = known.served; does = known.does })) is_all pages after turn follows
+              (inr (record { answer = a; answered = is; collects = so.0; some = so.1; served = subst (λ (o : Option VSlot). IsOwnServed layout (answers_by list rows) o new at command k a local.banks) (collects-plain layout at command copies k rest-way.runs so.0) known.served; does = known.does })) is_all pages after turn follows
           by-frame a is other None comes = subst (λ (x : Course). Turned layout new cpu list rows local x (answer x)) (sym (follows.0 ∙ ap (going_on d) comes))
               (ends-now layout new cpu list rows local command copies d rest-way a (known-rest a is)
               (complete-by layout new at list watched (at_rest d) rest-way.collected (ap (told_notes layout) (sym (take_all n (told_of k) (omega (arith, is_all)))))) comes)
 
           base-none : (o : Option VSlot) → ArePriorWith layout command o on.base → Runs layout at command o k → (y : Copying) → k ≡ kinds.Copying y → on.base ≡ []
-          base-none (Some from) prior runs y task = prior
-          base-none None prior runs y task = absurd (plain-copies layout at command k runs y task)
+          base-none (Some from) prior runs y own = prior
+          base-none None prior runs y own = absurd (plain-copies layout at command k runs y own)
 
           which : HasPause k ⊎ ((is_access k ≡ false) × ((a : Answer) × (jobs.answer k ≡ Some a))) → Turned layout new cpu list rows local after (answer after)
           which (inl (inl (i, p, task, paused))) = go-on layout new cpu list rows local command copies d rest-way (holds-rest (pause-holds layout new at command copies next way-next.runs on.base fits-next on.prior left-next i task p paused))
@@ -335,7 +337,8 @@ module _ (layout : Layout) (old new : View) (cpu : Cpu) (list : List Command) (r
         refused more (after_is, turn_is) = subst (λ (x : Course). Turned layout new cpu list rows local x (answer x)) (sym after_is)
             (subst (λ (o : Option Soft). Turned layout new cpu list rows local (record next { own = jobs.give_up k }) (answer_of o (jobs.give_up k))) (sym beside_is)
             (subst (λ (o : Option Answer). Turned layout new cpu list rows local (record next { own = jobs.give_up k }) o) (sym (given-up-unanswered (jobs.give_up k) up)) (inr (record {
-              command = command; copies = copies;
+              command = command;
+              copies = copies;
               next = way-next.next;
               runs = runs-alike layout at command copies k (jobs.give_up k) (give-up-goes k) way-next.runs;
               up = up;

@@ -79,8 +79,8 @@ begun-idle layout a rule by None local (Some c) begins = absurd begins
 
 -- the command that runs is one of the processor
 known-within : (layout : Layout) (view : View) (cpu : Cpu) (list : List Command) (rows : List Row) (local : Local) (c : Course) → FitsAt layout view cpu list rows local (Some c) → length rows < length list
-known-within layout view cpu list rows local c (rule, inl run) = slice_get_within list (length rows) run.command run.way.next.there
-known-within layout view cpu list rows local c (rule, inr up) = slice_get_within list (length rows) up.command up.next.there
+known-within layout view cpu list rows local c (rule, inl run) = slice_get_within list (length rows) run.way.next.own run.way.next.there
+known-within layout view cpu list rows local c (rule, inr up) = slice_get_within list (length rows) up.next.own up.next.there
 
 -- ---- a turn
 

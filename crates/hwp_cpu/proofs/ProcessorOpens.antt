@@ -1,4 +1,5 @@
 -- At opening a processor fits: it has made no step, and its first command begins.
+use Rattle.hwp_cpu_course.specs.hwp_cpu_row.hwp_script_read.Valid.{IsCommandOf}
 use Rattle.hwp_cpu_course.specs.hwp_cpu_row.hwp_geom.declared.VSlot.{VSlot}
 use Rattle.hwp_cpu_course.specs.hwp_cpu_row.CowLists.{KnowsCows, acting_in, copied_in, first_cows}
 use Rattle.hwp_cpu_course.proofs.of_hwp_cpu_row.CowListLaws.{acting-known, copied-known, first-are, first-known}
@@ -68,13 +69,13 @@ module _ (layout : Layout) (cpu : Cpu) (list : List Command) (are : AreCommands 
   listed : (n : ℕ) → IsListed view cpu n
   listed n = record { marked = λ i m at. absurd (none-some m at); set = λ i s at. absurd (none-some s at) }
 
-  -- no thread has set a policy
-  unset : (thread : Thread) → policies_in thread view ≡ settings layout thread (answers_by list [])
-  unset thread = ap (settings layout thread) (none-yet list)
-
   none-yet : (l : List Command) → [] ≡ answers_by l []
   none-yet [] = refl
   none-yet (c ∷ cs) = refl
+
+  -- no thread has set a policy
+  unset : (thread : Thread) → policies_in thread view ≡ settings layout thread (answers_by list [])
+  unset thread = ap (settings layout thread) (none-yet list)
 
   -- nothing is frozen
   remembers : Remembers layout list [] at-first.cows
@@ -139,7 +140,7 @@ module _ (layout : Layout) (cpu : Cpu) (list : List Command) (are : AreCommands 
 
     -- nothing is frozen, so it is the script's own
     forks-so : CanFork layout view (at_number cpu 0) command
-    forks-so = fork-acted layout at-first.cows own (can-fork layout cpu list [] are.forks are.once view unset own there (at-least list 0 own are.named there))
+    forks-so = fork-acted view (at_number cpu 0) layout at-first.cows own (can-fork layout cpu list [] are.forks are.once view unset own there (at-least (IsCommandOf layout cpu.0) list 0 own are.named there))
 
     start : IsAtStop c.own
     start = begins-stop layout (at_number cpu 0) command copies at-first.banks (collects at-first.watching) c.own begins.begins
@@ -151,7 +152,7 @@ module _ (layout : Layout) (cpu : Cpu) (list : List Command) (are : AreCommands 
       paid = refl;
       made = refl;
       unmarked = refl;
-      left = setting-left layout list [] view unset (let within : 0 < length list = slice_get_within list 0 command there in omega (arith, few, within));
+      left = setting-left layout list [] view unset (let within : 0 < length list = slice_get_within list 0 own there in omega (arith, are.few, within));
       revivals = revival-left layout view cpu list [] empty_banks (serves empty_banks refl).rows_are tt (omega arith);
     }) (handle-known layout view cpu list [] at-first.handles c.own (numbers-begin layout view cpu list) numbered (omega arith) begins.handle) forks-so
 
@@ -201,7 +202,7 @@ module _ (layout : Layout) (cpu : Cpu) (list : List Command) (are : AreCommands 
   begun x begins = which (slice_get list 0) refl x begins
     where
       which : (o : Option Command) → slice_get list 0 ≡ o → (y : Option Course) → BeginsAt layout (at_number cpu 0) o at-first y → FitsAt layout view cpu list [] (left_of y at-first) y
-      which (Some command) there (Some c) at = running command c there at
+      which (Some own) there (Some c) at = running own c there at
       which None there None at = done there
-      which (Some command) there None at = absurd at
+      which (Some own) there None at = absurd at
       which None there (Some c) at = absurd at

@@ -36,7 +36,7 @@ use Rattle.hwp_cpu_course.specs.hwp_cpu_row.hwp_report_text.declared.Answer.{Ans
 use Rattle.std.proofs.lemmas.Bool.{cases_lt}
 use Rattle.hwp_cpu_course.specs.hwp_cpu_row.declared.Watching.{Watching}
 use Rattle.hwp_cpu_course.specs.hwp_cpu_command.Jobs.{told_of}
-use Rattle.hwp_cpu_causes.proofs.OnTheWay.{prior-begins}
+use Rattle.hwp_cpu.proofs.Collecting.{prior-at-first}
 use Rattle.hwp_cpu_course.specs.hwp_cpu_row.Locals.{IsWatching}
 use Rattle.hwp_cpu_course.specs.hwp_cpu_command.declared.job.Job.{Job}
 use Rattle.hwp_cpu_course.specs.declared.Course.{Course}
@@ -230,18 +230,13 @@ watch-starts layout view who list watched c watching is start watches room = sub
     none-noted None at = at
     none-noted (Some v) at = subst (λ (y : Watched). IsWatching layout.frames (Some y) watching) (sym (told-none v)) at
 
--- no entry stands before its own task's
-pub prior-none : (layout : Layout) (command : Command) (copies : Option VSlot) → ArePriorWith layout command copies []
-prior-none layout command None = prior-begins layout command
-prior-none layout command (Some from) = refl
-
 -- its own task fits, and no frame is due
 pub own-starts : (layout : Layout) (view : View) (command : Command) (copies : Option VSlot) (c : Course) (watching : Option Watching) → c ≡ begin c.own watching layout.frames → IsAtStop c.own → jobs.FitsFrom [] layout view c.own → HasMadeNone view (jobs.who c.own)
     → OwnGoesOn layout view command copies c
 own-starts layout view command copies c watching is start fits made = subst (OwnGoesOn layout view command copies) (sym is) (record {
   base = [];
   fits = fits;
-  prior = prior-none layout command copies;
+  prior = prior-at-first layout command copies;
   left = none-left c.own made;
   all = refl;
   told = none-told c.own start;

@@ -13,3 +13,5 @@ pub mod AloneTurns
 pub mod InstructionRank
 pub mod Resting
 pub mod ToldMore
+pub use Rattle.hwp_fault.proofs as of_hwp_fault
+pub use Rattle.hwp_cpu_check.proofs as of_hwp_cpu_check

@@ -2,7 +2,7 @@ ghost use Rattle.std.specs.Prelude.{◌≡◌, ◌<◌, ℕ, Bool, true, false, 
 ghost use Rattle.hwp_cpu_control.specs.hwp_geom.Layout.{IsSound};
 ghost use Rattle.hwp_cpu_control.specs.hwp_geom.Limits.{line_limit};
 ghost use Rattle.hwp_cpu_control.specs.hwp_page.Step.{IsOf};
-ghost use Rattle.hwp_fault.specs.Accesses.{IsDeclared};
+ghost use Rattle.hwp_cpu_copy.specs.hwp_fault.Accesses.{IsDeclared};
 ghost use Rattle.hwp_cpu_row.specs.hwp_script_read.Valid.{IsAccess, IsCommandOf, IsThreadOf};
 ghost use Rattle.hwp_cpu_row.specs.hwp_banks.Banks.{empty_banks};
 ghost use Rattle.hwp_cpu_row.specs.hwp_banks.Banks.{raw_event};
@@ -24,9 +24,8 @@ ghost use Rattle.hwp_cpu_command.specs.Jobs.{left_in};
 ghost use Rattle.hwp_cpu_command.specs.declared.job.Job.TheVariants as jobs;
 
 use crate::job::Job;
-use hwp_cpu_access::Instruction;
 use hwp_cpu_control::{Fork, Nested, Prctl, Spoil, Targets};
-use hwp_cpu_copy::Copying;
+use hwp_cpu_copy::{AccessKind, Copying, Instruction, Request};
 use hwp_cpu_raise::{LocalChange, Log, Raise, Raiser};
 use hwp_cpu_row::{
     BANKS, Bank, Command, Event, Handles, Inject, Local, McgBits, Origin, PrctlArgs, Status,
@@ -35,7 +34,6 @@ use hwp_cpu_row::{
 use hwp_evict::{
     Damage, Evict, FileNo, Frame, Fsync, Layout, Line, Mode, Page, Proc, Thread, VSlot, Who,
 };
-use hwp_fault::{AccessKind, Request};
 use hwp_scrub::Scrub;
 use hwp_soft::{Soft, Unpoison};
 use std::alloc::Global;

@@ -1,10 +1,9 @@
 ghost use Rattle.std.specs.Prelude.{◌≡◌, option_and_then, option_map};
 
-use hwp_cpu_access::{Instruction, InstructionAnswer};
 use hwp_cpu_control::{
     Fork, ForkAnswer, Nested, NestedAnswer, Prctl, PrctlAnswer, ReadStopAnswer, Spoil, SpoilAnswer,
 };
-use hwp_cpu_copy::Copying;
+use hwp_cpu_copy::{Copying, Instruction, InstructionAnswer};
 use hwp_cpu_raise::{LocalChange, Log, Raise, RaiseAnswer};
 use hwp_cpu_row::{
     Answer, BANKS, Bank, EventOutcome, FailAnswer, FrameChange, Handles, Inject, Local, Offlining,

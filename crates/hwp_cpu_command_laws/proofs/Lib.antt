@@ -9,3 +9,4 @@ pub mod HandleKeeps
 pub mod Beside
 pub mod ToldGrows
 pub use Rattle.hwp_cpu_command.proofs as of_hwp_cpu_command
+pub use Rattle.hwp_cpu_command.proofs.of_hwp_fault as of_hwp_fault

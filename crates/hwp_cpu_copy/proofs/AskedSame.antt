@@ -1,19 +1,19 @@
 -- What an access asks for never changes.
 use Rattle.std.proofs.Common.{◌≡◌, inl, inr, ℕ, Bool, Option, Some, None, refl, ap, ◌∙◌}
-use Rattle.hwp_fault.specs.hwp_geom.declared.Frame.{Frame}
-use Rattle.hwp_fault.specs.hwp_geom.declared.Layout.{Layout}
-use Rattle.hwp_fault.specs.hwp_geom.declared.Mode.{Mode}
-use Rattle.hwp_fault.specs.hwp_page.History.{BodyValue}
-use Rattle.hwp_fault.specs.hwp_core_task.declared.Turn.{Turn}
-use Rattle.hwp_fault.specs.declared.Access.{Access}
-use Rattle.hwp_fault.specs.declared.AccessAnswer.{AccessAnswer}
-use Rattle.hwp_fault.specs.declared.AccessAnswer.TheVariants as access_answers
-use Rattle.hwp_fault.specs.declared.Request.{Request}
-use Rattle.hwp_fault.specs.Accesses as accesses
-use Rattle.hwp_cpu_check.specs.hwp_banks.Banks.{Banks}
-use Rattle.hwp_cpu_check.specs.hwp_banks.declared.Origin.{Origin}
-use Rattle.hwp_cpu_check.specs.declared.Handler.{Handler}
-use Rattle.hwp_cpu_check.specs.Handlers as handlers
+use Rattle.hwp_cpu_access.specs.hwp_fault.hwp_geom.declared.Frame.{Frame}
+use Rattle.hwp_cpu_access.specs.hwp_fault.hwp_geom.declared.Layout.{Layout}
+use Rattle.hwp_cpu_access.specs.hwp_fault.hwp_geom.declared.Mode.{Mode}
+use Rattle.hwp_cpu_access.specs.hwp_fault.hwp_page.History.{BodyValue}
+use Rattle.hwp_cpu_access.specs.hwp_fault.hwp_core_task.declared.Turn.{Turn}
+use Rattle.hwp_cpu_access.specs.hwp_fault.declared.Access.{Access}
+use Rattle.hwp_cpu_access.specs.hwp_fault.declared.AccessAnswer.{AccessAnswer}
+use Rattle.hwp_cpu_access.specs.hwp_fault.declared.AccessAnswer.TheVariants as access_answers
+use Rattle.hwp_cpu_access.specs.hwp_fault.declared.Request.{Request}
+use Rattle.hwp_cpu_access.specs.hwp_fault.Accesses as accesses
+use Rattle.hwp_cpu_access.specs.hwp_cpu_check.hwp_banks.Banks.{Banks}
+use Rattle.hwp_cpu_access.specs.hwp_cpu_check.hwp_banks.declared.Origin.{Origin}
+use Rattle.hwp_cpu_access.specs.hwp_cpu_check.declared.Handler.{Handler}
+use Rattle.hwp_cpu_access.specs.hwp_cpu_check.Handlers as handlers
 use Rattle.hwp_cpu_access.specs.declared.instruction.Instruction.{Instruction}
 use Rattle.hwp_cpu_access.specs.declared.instruction.InstructionAt.{InstructionAt}
 use Rattle.hwp_cpu_access.specs.declared.instruction.InstructionAt.TheVariants as at

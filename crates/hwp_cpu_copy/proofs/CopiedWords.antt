@@ -3,21 +3,21 @@
 use Rattle.std.proofs.Common.{◌≡◌, ◌≢◌, ◌⊎◌, inl, inr, ℕ, zero, suc, ◌+◌, ◌*◌, ◌<◌, ◌≤◌, ◌==◌, Bool, true, false, if◌then◌else◌, List, [], ◌∷◌, ◌++◌, Option, Some, None, length, take, get_or, slice_index, refl, sym, ap, ◌∙◌, arith}
 use Rattle.std.proofs.lemmas.Bool.{both_ways, cases_eq, cases_lt, eq-eqb, ne_eqb}
 use Rattle.std.proofs.lemmas.List.{get_or_past}
-use Rattle.hwp_fault.specs.hwp_geom.declared.Layout.{Layout}
-use Rattle.hwp_fault.specs.hwp_geom.declared.Page.{Page}
-use Rattle.hwp_fault.specs.hwp_geom.declared.VSlot.{VSlot}
-use Rattle.hwp_fault.specs.hwp_geom.Limits.{line_limit}
-use Rattle.hwp_fault.specs.hwp_page.declared.Met.TheVariants.{Word}
-use Rattle.hwp_fault.specs.hwp_page.declared.What.{What}
-use Rattle.hwp_fault.specs.hwp_page.declared.What.TheVariants as entries
-use Rattle.hwp_fault.specs.hwp_core_rule.declared.Made.{Made}
-use Rattle.hwp_fault.specs.hwp_core_rule.declared.View.{View}
-use Rattle.hwp_fault.specs.hwp_core_rule.Lists.{EachMember}
-use Rattle.hwp_fault.specs.hwp_core_task.Known.{IsOnTheWay, is_failure}
-use Rattle.hwp_fault.specs.declared.Request.{Request}
-use Rattle.hwp_fault.specs.Accesses.{what_of}
-use Rattle.hwp_cpu_check.specs.hwp_banks.Banks.{Banks}
-use Rattle.hwp_cpu_check.specs.Checks.{left_by}
+use Rattle.hwp_cpu_access.specs.hwp_fault.hwp_geom.declared.Layout.{Layout}
+use Rattle.hwp_cpu_access.specs.hwp_fault.hwp_geom.declared.Page.{Page}
+use Rattle.hwp_cpu_access.specs.hwp_fault.hwp_geom.declared.VSlot.{VSlot}
+use Rattle.hwp_cpu_access.specs.hwp_fault.hwp_geom.Limits.{line_limit}
+use Rattle.hwp_cpu_access.specs.hwp_fault.hwp_page.declared.Met.TheVariants.{Word}
+use Rattle.hwp_cpu_access.specs.hwp_fault.hwp_page.declared.What.{What}
+use Rattle.hwp_cpu_access.specs.hwp_fault.hwp_page.declared.What.TheVariants as entries
+use Rattle.hwp_cpu_access.specs.hwp_fault.hwp_core_rule.declared.Made.{Made}
+use Rattle.hwp_cpu_access.specs.hwp_fault.hwp_core_rule.declared.View.{View}
+use Rattle.hwp_cpu_access.specs.hwp_fault.hwp_core_rule.Lists.{EachMember}
+use Rattle.hwp_cpu_access.specs.hwp_fault.hwp_core_task.Known.{IsOnTheWay, is_failure}
+use Rattle.hwp_cpu_access.specs.hwp_fault.declared.Request.{Request}
+use Rattle.hwp_cpu_access.specs.hwp_fault.Accesses.{what_of}
+use Rattle.hwp_cpu_access.specs.hwp_cpu_check.hwp_banks.Banks.{Banks}
+use Rattle.hwp_cpu_access.specs.hwp_cpu_check.Checks.{left_by}
 use Rattle.hwp_fork.specs.declared.cow.Cow.{Cow}
 use Rattle.hwp_fork.specs.declared.cow.Sub.{Sub}
 use Rattle.hwp_fork.specs.declared.cow.Sub.TheVariants as subs

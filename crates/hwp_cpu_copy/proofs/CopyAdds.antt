@@ -1,21 +1,21 @@
 -- What a step of a copy adds to what the view lists of the command, and to what the command has done: what a step of its access adds.
 use Rattle.std.proofs.Common.{◌≡◌, inl, ℕ, ◌+◌, List, [], ◌++◌, Option, Some, None, refl, sym, ap, ◌∙◌, subst}
 use Rattle.std.proofs.lemmas.Option.{none-some, same_Some}
-use Rattle.hwp_fault.specs.hwp_geom.declared.Layout.{Layout}
-use Rattle.hwp_fault.specs.hwp_geom.declared.Page.{Page}
-use Rattle.hwp_fault.specs.hwp_geom.declared.Thread.{Thread}
-use Rattle.hwp_fault.specs.hwp_geom.declared.Who.{Who}
-use Rattle.hwp_fault.specs.hwp_page.declared.At.{At}
-use Rattle.hwp_fault.specs.hwp_page.History.{BodyValue}
-use Rattle.hwp_fault.specs.hwp_core_rule.declared.Made.{Made}
-use Rattle.hwp_fault.specs.hwp_core_rule.declared.Mark.{Mark}
-use Rattle.hwp_fault.specs.hwp_core_rule.declared.Step.{Step}
-use Rattle.hwp_fault.specs.hwp_core_rule.declared.View.{View}
-use Rattle.hwp_fault.specs.hwp_core_task.declared.Turn.{Turn}
-use Rattle.hwp_fault.specs.hwp_core_task.Calls.{Steps, logs}
-use Rattle.hwp_fault.specs.declared.Request.{Request}
-use Rattle.hwp_cpu_check.specs.hwp_claim_act.declared.Failed.{Failed}
-use Rattle.hwp_cpu_check.specs.hwp_claim_frame.Done.{Grows, Marking, counts_owed, marking_of}
+use Rattle.hwp_cpu_access.specs.hwp_fault.hwp_geom.declared.Layout.{Layout}
+use Rattle.hwp_cpu_access.specs.hwp_fault.hwp_geom.declared.Page.{Page}
+use Rattle.hwp_cpu_access.specs.hwp_fault.hwp_geom.declared.Thread.{Thread}
+use Rattle.hwp_cpu_access.specs.hwp_fault.hwp_geom.declared.Who.{Who}
+use Rattle.hwp_cpu_access.specs.hwp_fault.hwp_page.declared.At.{At}
+use Rattle.hwp_cpu_access.specs.hwp_fault.hwp_page.History.{BodyValue}
+use Rattle.hwp_cpu_access.specs.hwp_fault.hwp_core_rule.declared.Made.{Made}
+use Rattle.hwp_cpu_access.specs.hwp_fault.hwp_core_rule.declared.Mark.{Mark}
+use Rattle.hwp_cpu_access.specs.hwp_fault.hwp_core_rule.declared.Step.{Step}
+use Rattle.hwp_cpu_access.specs.hwp_fault.hwp_core_rule.declared.View.{View}
+use Rattle.hwp_cpu_access.specs.hwp_fault.hwp_core_task.declared.Turn.{Turn}
+use Rattle.hwp_cpu_access.specs.hwp_fault.hwp_core_task.Calls.{Steps, logs}
+use Rattle.hwp_cpu_access.specs.hwp_fault.declared.Request.{Request}
+use Rattle.hwp_cpu_access.specs.hwp_cpu_check.hwp_claim_act.declared.Failed.{Failed}
+use Rattle.hwp_cpu_access.specs.hwp_cpu_check.hwp_claim_frame.Done.{Grows, Marking, counts_owed, marking_of}
 use Rattle.hwp_evict.specs.declared.evict.Evict.{Evict}
 use Rattle.hwp_evict.specs.declared.evict.EvictAnswer.{EvictAnswer}
 use Rattle.hwp_evict.specs.declared.evict.EvictAnswer.TheVariants as evict_answers
@@ -28,7 +28,7 @@ use Rattle.hwp_cpu_access.specs.declared.instruction.Instruction.{Instruction}
 use Rattle.hwp_cpu_access.specs.declared.instruction.InstructionAnswer.{InstructionAnswer}
 use Rattle.hwp_cpu_access.specs.declared.instruction.InstructionAnswer.TheVariants as answers
 use Rattle.hwp_cpu_access.specs.declared.instruction.InstructionAt.TheVariants as instruction_at
-use Rattle.hwp_cpu_check.proofs.of_hwp_claim.Quiet.{Alike}
+use Rattle.hwp_cpu_access.proofs.of_hwp_cpu_check.of_hwp_claim.Quiet.{Alike}
 use Rattle.hwp_cpu_access.specs.Done as instruction_done
 use Rattle.hwp_cpu_access.specs.Done.{FailuresGrow, failures_by}
 use Rattle.hwp_cpu_access.specs.Instructions as instructions

@@ -2,32 +2,32 @@
 use Rattle.std.proofs.Common.{◌≡◌, inl, inr, ℕ, Bool, true, false, cond, List, [], ◌∷◌, ◌++◌, Option, Some, filter, append-nil, refl, sym, ap, ◌∙◌, subst}
 use Rattle.std.proofs.lemmas.List.Elements.{filter-append}
 use Rattle.std.proofs.lemmas.Option.{none-some}
-use Rattle.hwp_fault.specs.hwp_geom.declared.Frame.{Frame}
-use Rattle.hwp_fault.specs.hwp_geom.declared.Layout.{Layout}
-use Rattle.hwp_fault.specs.hwp_geom.declared.Mask.{Mask}
-use Rattle.hwp_fault.specs.hwp_geom.declared.VSlot.{VSlot}
-use Rattle.hwp_fault.specs.hwp_geom.declared.Who.{Who}
-use Rattle.hwp_fault.specs.hwp_page.declared.What.{What}
-use Rattle.hwp_fault.specs.hwp_page.declared.What.TheVariants as entries
-use Rattle.hwp_fault.specs.hwp_page.History.{BodyValue}
-use Rattle.hwp_fault.specs.hwp_core_rule.declared.Made.{Made}
-use Rattle.hwp_fault.specs.hwp_core_rule.declared.Step.{Step}
-use Rattle.hwp_fault.specs.hwp_core_rule.declared.View.{View}
-use Rattle.hwp_fault.specs.hwp_core_task.declared.Turn.{Turn}
-use Rattle.hwp_fault.specs.hwp_core_task.Calls.{Steps, logs}
-use Rattle.hwp_fault.specs.hwp_core_task.Known.{deeds, is_failure, such_deeds}
-use Rattle.hwp_fault.proofs.of_hwp_core_task.MadeEntries.{deeds-same}
-use Rattle.hwp_fault.proofs.of_hwp_core_task.StepLeaves.{steps-planned}
-use Rattle.hwp_fault.specs.declared.Access.{Access}
-use Rattle.hwp_fault.specs.declared.Request.{Request}
-use Rattle.hwp_fault.specs.Accesses as accesses
-use Rattle.hwp_fault.specs.Adds.{Adds, Skips, has_checked}
-use Rattle.hwp_fault.proofs.FaultAdds.{access-adds}
-use Rattle.hwp_cpu_check.specs.hwp_claim_act.declared.Failed.{Failed}
-use Rattle.hwp_cpu_check.specs.hwp_claim_act.Abandoned.{AddsFailure, failed_in, failed_of}
-use Rattle.hwp_cpu_check.specs.declared.Handler.{Handler}
-use Rattle.hwp_cpu_check.specs.Handlers as handlers
-use Rattle.hwp_cpu_check.proofs.HandlerAdds.{handler-adds}
+use Rattle.hwp_cpu_access.specs.hwp_fault.hwp_geom.declared.Frame.{Frame}
+use Rattle.hwp_cpu_access.specs.hwp_fault.hwp_geom.declared.Layout.{Layout}
+use Rattle.hwp_cpu_access.specs.hwp_fault.hwp_geom.declared.Mask.{Mask}
+use Rattle.hwp_cpu_access.specs.hwp_fault.hwp_geom.declared.VSlot.{VSlot}
+use Rattle.hwp_cpu_access.specs.hwp_fault.hwp_geom.declared.Who.{Who}
+use Rattle.hwp_cpu_access.specs.hwp_fault.hwp_page.declared.What.{What}
+use Rattle.hwp_cpu_access.specs.hwp_fault.hwp_page.declared.What.TheVariants as entries
+use Rattle.hwp_cpu_access.specs.hwp_fault.hwp_page.History.{BodyValue}
+use Rattle.hwp_cpu_access.specs.hwp_fault.hwp_core_rule.declared.Made.{Made}
+use Rattle.hwp_cpu_access.specs.hwp_fault.hwp_core_rule.declared.Step.{Step}
+use Rattle.hwp_cpu_access.specs.hwp_fault.hwp_core_rule.declared.View.{View}
+use Rattle.hwp_cpu_access.specs.hwp_fault.hwp_core_task.declared.Turn.{Turn}
+use Rattle.hwp_cpu_access.specs.hwp_fault.hwp_core_task.Calls.{Steps, logs}
+use Rattle.hwp_cpu_access.specs.hwp_fault.hwp_core_task.Known.{deeds, is_failure, such_deeds}
+use Rattle.hwp_cpu_access.proofs.of_hwp_fault.of_hwp_core_task.MadeEntries.{deeds-same}
+use Rattle.hwp_cpu_access.proofs.of_hwp_fault.of_hwp_core_task.StepLeaves.{steps-planned}
+use Rattle.hwp_cpu_access.specs.hwp_fault.declared.Access.{Access}
+use Rattle.hwp_cpu_access.specs.hwp_fault.declared.Request.{Request}
+use Rattle.hwp_cpu_access.specs.hwp_fault.Accesses as accesses
+use Rattle.hwp_cpu_access.specs.hwp_fault.Adds.{Adds, Skips, has_checked}
+use Rattle.hwp_cpu_access.proofs.of_hwp_fault.FaultAdds.{access-adds}
+use Rattle.hwp_cpu_access.specs.hwp_cpu_check.hwp_claim_act.declared.Failed.{Failed}
+use Rattle.hwp_cpu_access.specs.hwp_cpu_check.hwp_claim_act.Abandoned.{AddsFailure, failed_in, failed_of}
+use Rattle.hwp_cpu_access.specs.hwp_cpu_check.declared.Handler.{Handler}
+use Rattle.hwp_cpu_access.specs.hwp_cpu_check.Handlers as handlers
+use Rattle.hwp_cpu_access.proofs.of_hwp_cpu_check.HandlerAdds.{handler-adds}
 use Rattle.hwp_evict.specs.declared.evict.Evict.{Evict}
 use Rattle.hwp_evict.specs.Evictions.{entry_of}
 use Rattle.hwp_evict.specs.Evicts as evicts
@@ -37,7 +37,7 @@ use Rattle.hwp_cpu_access.specs.declared.instruction.InstructionAt.TheVariants a
 use Rattle.hwp_cpu_access.specs.Fits as instruction_fits
 use Rattle.hwp_cpu_access.specs.Fits.{FitsBehind}
 use Rattle.hwp_cpu_access.specs.Instructions as instructions
-use Rattle.hwp_cpu_check.specs.Checks.{Check}
+use Rattle.hwp_cpu_access.specs.hwp_cpu_check.Checks.{Check}
 use Rattle.hwp_cpu_copy.specs.declared.copying.Copying.{Copying}
 use Rattle.hwp_cpu_copy.specs.declared.copying.CopyingAt.{CopyingAt}
 use Rattle.hwp_cpu_copy.specs.declared.copying.CopyingAt.TheVariants as at

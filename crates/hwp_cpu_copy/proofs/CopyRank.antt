@@ -2,29 +2,29 @@
 use Rattle.std.proofs.Common.{◌≡◌, ◌≢◌, ◌⊎◌, inl, inr, ℕ, ◌+◌, ◌*◌, ◌<◌, ◌≤◌, Bool, true, false, List, Option, Some, None, refl, sym, ap, ◌∙◌, subst, arith}
 use Rattle.std.proofs.lemmas.Bool.{both_ways}
 use Rattle.std.proofs.lemmas.Option.{none-some}
-use Rattle.hwp_fault.specs.hwp_geom.declared.Frame.{Frame}
-use Rattle.hwp_fault.specs.hwp_geom.declared.Layout.{Layout}
-use Rattle.hwp_fault.specs.hwp_geom.declared.VSlot.{VSlot}
-use Rattle.hwp_fault.specs.hwp_page.declared.At.{At}
-use Rattle.hwp_fault.specs.hwp_page.History.{BodyValue}
-use Rattle.hwp_fault.specs.hwp_core_rule.declared.Made.{Made as Deed}
-use Rattle.hwp_fault.specs.hwp_core_rule.declared.State.{State}
-use Rattle.hwp_fault.specs.hwp_core_rule.declared.Step.{Step}
-use Rattle.hwp_fault.specs.hwp_core_rule.declared.View.{View}
-use Rattle.hwp_fault.specs.hwp_core_rule.Moves.{Move}
-use Rattle.hwp_fault.specs.hwp_core_rule.Rule.{Holds}
-use Rattle.hwp_fault.specs.hwp_core_rule.Views.{view_after}
-use Rattle.hwp_fault.specs.hwp_core_rule.Words.{Words}
-use Rattle.hwp_fault.specs.hwp_core_task.declared.Turn.{Turn}
-use Rattle.hwp_fault.specs.hwp_core_task.Boards.{view_of}
-use Rattle.hwp_fault.specs.hwp_core_task.Calls.{logs, rec_of}
-use Rattle.hwp_fault.specs.hwp_core_task.Classes.{TellsClass}
-use Rattle.hwp_fault.specs.hwp_core_task.Ranks.{CostFalls, HasFailed, HasFrame, HasPage, IsRanked, Made, OtherHand, PaysRevival, Pending, Quiet, failure_weight, failures_left, is_refused, is_waits, words_at}
-use Rattle.hwp_fault.proofs.of_hwp_core_task.Failures.{mild-leaves}
-use Rattle.hwp_fault.specs.hwp_core_rule.Lasting.{LeavesPoison}
-use Rattle.hwp_fault.proofs.of_hwp_core_task.Revivals.{lasting-pays}
-use Rattle.hwp_fault.proofs.of_hwp_core_task.StepRanks.{part-made, steps-on}
-use Rattle.hwp_fault.proofs.of_hwp_core.TaskTells.{no-frame, no-page}
+use Rattle.hwp_cpu_access.specs.hwp_fault.hwp_geom.declared.Frame.{Frame}
+use Rattle.hwp_cpu_access.specs.hwp_fault.hwp_geom.declared.Layout.{Layout}
+use Rattle.hwp_cpu_access.specs.hwp_fault.hwp_geom.declared.VSlot.{VSlot}
+use Rattle.hwp_cpu_access.specs.hwp_fault.hwp_page.declared.At.{At}
+use Rattle.hwp_cpu_access.specs.hwp_fault.hwp_page.History.{BodyValue}
+use Rattle.hwp_cpu_access.specs.hwp_fault.hwp_core_rule.declared.Made.{Made as Deed}
+use Rattle.hwp_cpu_access.specs.hwp_fault.hwp_core_rule.declared.State.{State}
+use Rattle.hwp_cpu_access.specs.hwp_fault.hwp_core_rule.declared.Step.{Step}
+use Rattle.hwp_cpu_access.specs.hwp_fault.hwp_core_rule.declared.View.{View}
+use Rattle.hwp_cpu_access.specs.hwp_fault.hwp_core_rule.Moves.{Move}
+use Rattle.hwp_cpu_access.specs.hwp_fault.hwp_core_rule.Rule.{Holds}
+use Rattle.hwp_cpu_access.specs.hwp_fault.hwp_core_rule.Views.{view_after}
+use Rattle.hwp_cpu_access.specs.hwp_fault.hwp_core_rule.Words.{Words}
+use Rattle.hwp_cpu_access.specs.hwp_fault.hwp_core_task.declared.Turn.{Turn}
+use Rattle.hwp_cpu_access.specs.hwp_fault.hwp_core_task.Boards.{view_of}
+use Rattle.hwp_cpu_access.specs.hwp_fault.hwp_core_task.Calls.{logs, rec_of}
+use Rattle.hwp_cpu_access.specs.hwp_fault.hwp_core_task.Classes.{TellsClass}
+use Rattle.hwp_cpu_access.specs.hwp_fault.hwp_core_task.Ranks.{CostFalls, HasFailed, HasFrame, HasPage, IsRanked, Made, OtherHand, PaysRevival, Pending, Quiet, failure_weight, failures_left, is_refused, is_waits, words_at}
+use Rattle.hwp_cpu_access.proofs.of_hwp_fault.of_hwp_core_task.Failures.{mild-leaves}
+use Rattle.hwp_cpu_access.specs.hwp_fault.hwp_core_rule.Lasting.{LeavesPoison}
+use Rattle.hwp_cpu_access.proofs.of_hwp_fault.of_hwp_core_task.Revivals.{lasting-pays}
+use Rattle.hwp_cpu_access.proofs.of_hwp_fault.of_hwp_core_task.StepRanks.{part-made, steps-on}
+use Rattle.hwp_cpu_access.proofs.of_hwp_fault.of_hwp_core.TaskTells.{no-frame, no-page}
 use Rattle.hwp_evict.specs.declared.evict.Evict.{Evict}
 use Rattle.hwp_evict.specs.declared.evict.EvictAnswer.{EvictAnswer}
 use Rattle.hwp_evict.specs.declared.evict.EvictAnswer.TheVariants as evict_answers

@@ -1,23 +1,23 @@
 -- A copy at its pause, while another task of its command goes on, and behind it; and where memory ran out for that.
 use Rattle.std.proofs.Common.{◌≡◌, inl, inr, ℕ, suc, ◌+◌, Bool, false, cond, List, [], ◌∷◌, ◌++◌, Option, Some, None, filter, length, append_assoc, refl, sym, ap, ◌∙◌, subst, arith}
 use Rattle.std.proofs.lemmas.Option.{none-some}
-use Rattle.hwp_fault.specs.hwp_geom.declared.Layout.{Layout}
-use Rattle.hwp_fault.specs.hwp_geom.declared.Who.{Who}
-use Rattle.hwp_fault.specs.hwp_page.declared.What.TheVariants as entries
-use Rattle.hwp_fault.specs.hwp_page.History.{BodyValue}
-use Rattle.hwp_fault.specs.hwp_core_rule.declared.Log.{Log}
-use Rattle.hwp_fault.specs.hwp_core_rule.declared.Made.{Made}
-use Rattle.hwp_fault.specs.hwp_core_rule.declared.Step.{Step}
-use Rattle.hwp_fault.specs.hwp_core_rule.declared.View.{View}
-use Rattle.hwp_fault.specs.hwp_core_rule.Lists.{EachMember}
-use Rattle.hwp_fault.proofs.of_hwp_core_rule.Lists.{each-weaken}
-use Rattle.hwp_fault.proofs.of_hwp_core_rule.MoreEntries.{each-append}
-use Rattle.hwp_fault.specs.hwp_core_task.Calls.{IsOnTurn, Steps}
-use Rattle.hwp_fault.specs.hwp_core_task.Hands.{hand_of, empty}
-use Rattle.hwp_fault.specs.hwp_core_task.Known.{Precedes, deeds}
-use Rattle.hwp_cpu_check.specs.hwp_law_commands.Commands.{is_check}
-use Rattle.hwp_cpu_check.specs.declared.EventOutcome.{EventOutcome}
-use Rattle.hwp_fault.specs.declared.Request.{Request}
+use Rattle.hwp_cpu_access.specs.hwp_fault.hwp_geom.declared.Layout.{Layout}
+use Rattle.hwp_cpu_access.specs.hwp_fault.hwp_geom.declared.Who.{Who}
+use Rattle.hwp_cpu_access.specs.hwp_fault.hwp_page.declared.What.TheVariants as entries
+use Rattle.hwp_cpu_access.specs.hwp_fault.hwp_page.History.{BodyValue}
+use Rattle.hwp_cpu_access.specs.hwp_fault.hwp_core_rule.declared.Log.{Log}
+use Rattle.hwp_cpu_access.specs.hwp_fault.hwp_core_rule.declared.Made.{Made}
+use Rattle.hwp_cpu_access.specs.hwp_fault.hwp_core_rule.declared.Step.{Step}
+use Rattle.hwp_cpu_access.specs.hwp_fault.hwp_core_rule.declared.View.{View}
+use Rattle.hwp_cpu_access.specs.hwp_fault.hwp_core_rule.Lists.{EachMember}
+use Rattle.hwp_cpu_access.proofs.of_hwp_fault.of_hwp_core_rule.Lists.{each-weaken}
+use Rattle.hwp_cpu_access.proofs.of_hwp_fault.of_hwp_core_rule.MoreEntries.{each-append}
+use Rattle.hwp_cpu_access.specs.hwp_fault.hwp_core_task.Calls.{IsOnTurn, Steps}
+use Rattle.hwp_cpu_access.specs.hwp_fault.hwp_core_task.Hands.{hand_of, empty}
+use Rattle.hwp_cpu_access.specs.hwp_fault.hwp_core_task.Known.{Precedes, deeds}
+use Rattle.hwp_cpu_access.specs.hwp_cpu_check.hwp_law_commands.Commands.{is_check}
+use Rattle.hwp_cpu_access.specs.hwp_cpu_check.declared.EventOutcome.{EventOutcome}
+use Rattle.hwp_cpu_access.specs.hwp_fault.declared.Request.{Request}
 use Rattle.hwp_fork.specs.Cows.{sub_of}
 use Rattle.hwp_cpu_access.specs.declared.instruction.Instruction.{Instruction}
 use Rattle.hwp_cpu_access.specs.declared.instruction.InstructionAt.{InstructionAt}

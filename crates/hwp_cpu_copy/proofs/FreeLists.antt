@@ -3,37 +3,37 @@ use Rattle.std.proofs.Common.{◌≡◌, ℕ, Bool, true, false, cond, List, [],
 use Rattle.std.specs.List.{cons_option}
 use Rattle.std.proofs.lemmas.Bool.{both_ways}
 use Rattle.std.proofs.lemmas.Option.{none-some, same_Some}
-use Rattle.hwp_fault.specs.hwp_geom.declared.Frame.{Frame}
-use Rattle.hwp_fault.specs.hwp_geom.declared.Layout.{Layout}
-use Rattle.hwp_fault.specs.hwp_geom.declared.Page.{Page}
-use Rattle.hwp_fault.specs.hwp_geom.declared.Who.{Who}
-use Rattle.hwp_fault.specs.hwp_page.declared.At.{At}
-use Rattle.hwp_fault.specs.hwp_page.declared.What.{What}
-use Rattle.hwp_fault.specs.hwp_page.declared.What.TheVariants as entries
-use Rattle.hwp_fault.specs.hwp_page.History.{BodyValue}
-use Rattle.hwp_fault.specs.hwp_core_rule.declared.Made.{Made}
-use Rattle.hwp_fault.specs.hwp_core_rule.declared.SharedWord.TheVariants as places
-use Rattle.hwp_fault.specs.hwp_core_rule.declared.Step.{Step}
-use Rattle.hwp_fault.specs.hwp_core_rule.declared.Step.TheVariants as steps
-use Rattle.hwp_fault.specs.hwp_core_rule.declared.View.{View}
-use Rattle.hwp_fault.specs.hwp_core_task.Calls.{Steps, logs}
-use Rattle.hwp_fault.specs.hwp_core_task.Known.{deeds, is_failure, such_deeds}
-use Rattle.hwp_fault.specs.hwp_words.declared.Pte.TheVariants as ptes
-use Rattle.hwp_fault.proofs.of_hwp_core_task.MadeEntries.{ListsNone, deeds-same, frame-lists, page-lists, such-kept}
-use Rattle.hwp_fault.proofs.of_hwp_core_task.StepLeaves.{steps-planned}
-use Rattle.hwp_fault.specs.hwp_core.declared.give_up.GiveUp.{GiveUp}
-use Rattle.hwp_fault.specs.hwp_core.declared.give_up.GiveUpAt.{GiveUpAt}
-use Rattle.hwp_fault.specs.hwp_core.declared.give_up.GiveUpAt.TheVariants as give_up_at
-use Rattle.hwp_fault.specs.hwp_core.declared.unhold.Unhold.{Unhold}
-use Rattle.hwp_fault.specs.hwp_core.declared.unhold.UnholdAt.{UnholdAt}
-use Rattle.hwp_fault.specs.hwp_core.declared.unhold.UnholdAt.TheVariants as unhold_at
-use Rattle.hwp_fault.specs.hwp_core.declared.unlock.Unlock.{Unlock}
-use Rattle.hwp_fault.specs.hwp_core.declared.unlock.UnlockAt.{UnlockAt}
-use Rattle.hwp_fault.specs.hwp_core.declared.unlock.UnlockAt.TheVariants as unlock_at
-use Rattle.hwp_fault.specs.hwp_core.GiveUps as give_ups
-use Rattle.hwp_fault.specs.hwp_core.Unholds as unholds
-use Rattle.hwp_fault.specs.hwp_core.Unlocks as unlocks
-use Rattle.hwp_fault.proofs.of_hwp_core.TaskCosts.{hold-lists, release-lists}
+use Rattle.hwp_cpu_access.specs.hwp_fault.hwp_geom.declared.Frame.{Frame}
+use Rattle.hwp_cpu_access.specs.hwp_fault.hwp_geom.declared.Layout.{Layout}
+use Rattle.hwp_cpu_access.specs.hwp_fault.hwp_geom.declared.Page.{Page}
+use Rattle.hwp_cpu_access.specs.hwp_fault.hwp_geom.declared.Who.{Who}
+use Rattle.hwp_cpu_access.specs.hwp_fault.hwp_page.declared.At.{At}
+use Rattle.hwp_cpu_access.specs.hwp_fault.hwp_page.declared.What.{What}
+use Rattle.hwp_cpu_access.specs.hwp_fault.hwp_page.declared.What.TheVariants as entries
+use Rattle.hwp_cpu_access.specs.hwp_fault.hwp_page.History.{BodyValue}
+use Rattle.hwp_cpu_access.specs.hwp_fault.hwp_core_rule.declared.Made.{Made}
+use Rattle.hwp_cpu_access.specs.hwp_fault.hwp_core_rule.declared.SharedWord.TheVariants as places
+use Rattle.hwp_cpu_access.specs.hwp_fault.hwp_core_rule.declared.Step.{Step}
+use Rattle.hwp_cpu_access.specs.hwp_fault.hwp_core_rule.declared.Step.TheVariants as steps
+use Rattle.hwp_cpu_access.specs.hwp_fault.hwp_core_rule.declared.View.{View}
+use Rattle.hwp_cpu_access.specs.hwp_fault.hwp_core_task.Calls.{Steps, logs}
+use Rattle.hwp_cpu_access.specs.hwp_fault.hwp_core_task.Known.{deeds, is_failure, such_deeds}
+use Rattle.hwp_cpu_access.specs.hwp_fault.hwp_words.declared.Pte.TheVariants as ptes
+use Rattle.hwp_cpu_access.proofs.of_hwp_fault.of_hwp_core_task.MadeEntries.{ListsNone, deeds-same, frame-lists, page-lists, such-kept}
+use Rattle.hwp_cpu_access.proofs.of_hwp_fault.of_hwp_core_task.StepLeaves.{steps-planned}
+use Rattle.hwp_cpu_access.specs.hwp_fault.hwp_core.declared.give_up.GiveUp.{GiveUp}
+use Rattle.hwp_cpu_access.specs.hwp_fault.hwp_core.declared.give_up.GiveUpAt.{GiveUpAt}
+use Rattle.hwp_cpu_access.specs.hwp_fault.hwp_core.declared.give_up.GiveUpAt.TheVariants as give_up_at
+use Rattle.hwp_cpu_access.specs.hwp_fault.hwp_core.declared.unhold.Unhold.{Unhold}
+use Rattle.hwp_cpu_access.specs.hwp_fault.hwp_core.declared.unhold.UnholdAt.{UnholdAt}
+use Rattle.hwp_cpu_access.specs.hwp_fault.hwp_core.declared.unhold.UnholdAt.TheVariants as unhold_at
+use Rattle.hwp_cpu_access.specs.hwp_fault.hwp_core.declared.unlock.Unlock.{Unlock}
+use Rattle.hwp_cpu_access.specs.hwp_fault.hwp_core.declared.unlock.UnlockAt.{UnlockAt}
+use Rattle.hwp_cpu_access.specs.hwp_fault.hwp_core.declared.unlock.UnlockAt.TheVariants as unlock_at
+use Rattle.hwp_cpu_access.specs.hwp_fault.hwp_core.GiveUps as give_ups
+use Rattle.hwp_cpu_access.specs.hwp_fault.hwp_core.Unholds as unholds
+use Rattle.hwp_cpu_access.specs.hwp_fault.hwp_core.Unlocks as unlocks
+use Rattle.hwp_cpu_access.proofs.of_hwp_fault.of_hwp_core.TaskCosts.{hold-lists, release-lists}
 use Rattle.hwp_evict.specs.declared.evict.Evict.{Evict}
 use Rattle.hwp_evict.specs.declared.evict.EvictAnswer.TheVariants as answers
 use Rattle.hwp_evict.specs.declared.evict.EvictAt.{EvictAt}
@@ -47,9 +47,9 @@ use Rattle.hwp_evict.specs.Evictions.{entry_of}
 use Rattle.hwp_evict.specs.Evicts.{FitsAt, FitsFrom, IsVacating, plan, plan_at, put, put_at}
 use Rattle.hwp_evict.specs.Vacates as vacates
 use Rattle.hwp_evict.proofs.ClearLaws.{clear-lists}
-use Rattle.hwp_cpu_check.specs.hwp_claim_act.declared.Failed.{Failed}
-use Rattle.hwp_cpu_check.specs.hwp_claim_act.Abandoned.{failed_in, failed_of}
-use Rattle.hwp_cpu_check.proofs.of_hwp_claim.Quiet.{Alike, PlansQuiet, clear, give-up, leaves, release, unhold}
+use Rattle.hwp_cpu_access.specs.hwp_cpu_check.hwp_claim_act.declared.Failed.{Failed}
+use Rattle.hwp_cpu_access.specs.hwp_cpu_check.hwp_claim_act.Abandoned.{failed_in, failed_of}
+use Rattle.hwp_cpu_access.proofs.of_hwp_cpu_check.of_hwp_claim.Quiet.{Alike, PlansQuiet, clear, give-up, leaves, release, unhold}
 use Rattle.hwp_cpu_access.specs.Done.{failures_by}
 use Rattle.hwp_cpu_access.proofs.Quiet.{hold}
 use Rattle.hwp_cpu_copy.proofs.FreeHomes.{HomeWithout, PutsNone, ahead-home, given-up-home, known-home}

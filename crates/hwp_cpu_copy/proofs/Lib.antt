@@ -13,3 +13,5 @@ pub mod CopyLists
 pub mod CopiedWords
 pub mod CopyEnds
 pub use Rattle.hwp_fork.proofs as of_hwp_fork
+pub use Rattle.hwp_cpu_access.proofs.of_hwp_fault as of_hwp_fault
+pub use Rattle.hwp_cpu_access.proofs as of_hwp_cpu_access

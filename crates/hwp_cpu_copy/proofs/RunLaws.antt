@@ -3,23 +3,23 @@ use Rattle.std.proofs.Common.{◌≡◌, ◌⊎◌, inl, inr, ℕ, ◌+◌, Bool
 use Rattle.std.proofs.lemmas.List.{length-append, map-append}
 use Rattle.std.proofs.lemmas.Grind.{flat_map-append}
 use Rattle.std.proofs.lemmas.List.Elements.{filter-append}
-use Rattle.hwp_fault.specs.hwp_geom.declared.Layout.{Layout}
-use Rattle.hwp_fault.specs.hwp_geom.declared.Mode.TheVariants as modes
-use Rattle.hwp_fault.specs.hwp_geom.declared.Page.{Page}
-use Rattle.hwp_fault.specs.hwp_geom.declared.VSlot.{VSlot}
-use Rattle.hwp_fault.specs.hwp_page.declared.What.TheVariants as entries
-use Rattle.hwp_fault.specs.hwp_page.History.{BodyValue}
-use Rattle.hwp_fault.specs.hwp_core_rule.declared.Log.{Log}
-use Rattle.hwp_fault.specs.hwp_core_rule.declared.Made.{Made}
-use Rattle.hwp_fault.specs.hwp_core_rule.declared.Step.{Step}
-use Rattle.hwp_fault.specs.hwp_core_rule.declared.View.{View}
-use Rattle.hwp_fault.specs.hwp_core_task.Calls.{Steps}
-use Rattle.hwp_fault.specs.declared.Request.{Request}
-use Rattle.hwp_fault.proofs.of_hwp_core_task.SightKeeps.{saw-stays}
-use Rattle.hwp_cpu_check.specs.hwp_banks.Banks.{Banks}
-use Rattle.hwp_cpu_check.specs.hwp_banks.declared.Origin.TheVariants as origins
-use Rattle.hwp_cpu_check.specs.hwp_law_commands.Commands.{is_check}
-use Rattle.hwp_cpu_check.specs.Checks.{Check, left_by}
+use Rattle.hwp_cpu_access.specs.hwp_fault.hwp_geom.declared.Layout.{Layout}
+use Rattle.hwp_cpu_access.specs.hwp_fault.hwp_geom.declared.Mode.TheVariants as modes
+use Rattle.hwp_cpu_access.specs.hwp_fault.hwp_geom.declared.Page.{Page}
+use Rattle.hwp_cpu_access.specs.hwp_fault.hwp_geom.declared.VSlot.{VSlot}
+use Rattle.hwp_cpu_access.specs.hwp_fault.hwp_page.declared.What.TheVariants as entries
+use Rattle.hwp_cpu_access.specs.hwp_fault.hwp_page.History.{BodyValue}
+use Rattle.hwp_cpu_access.specs.hwp_fault.hwp_core_rule.declared.Log.{Log}
+use Rattle.hwp_cpu_access.specs.hwp_fault.hwp_core_rule.declared.Made.{Made}
+use Rattle.hwp_cpu_access.specs.hwp_fault.hwp_core_rule.declared.Step.{Step}
+use Rattle.hwp_cpu_access.specs.hwp_fault.hwp_core_rule.declared.View.{View}
+use Rattle.hwp_cpu_access.specs.hwp_fault.hwp_core_task.Calls.{Steps}
+use Rattle.hwp_cpu_access.specs.hwp_fault.declared.Request.{Request}
+use Rattle.hwp_cpu_access.proofs.of_hwp_fault.of_hwp_core_task.SightKeeps.{saw-stays}
+use Rattle.hwp_cpu_access.specs.hwp_cpu_check.hwp_banks.Banks.{Banks}
+use Rattle.hwp_cpu_access.specs.hwp_cpu_check.hwp_banks.declared.Origin.TheVariants as origins
+use Rattle.hwp_cpu_access.specs.hwp_cpu_check.hwp_law_commands.Commands.{is_check}
+use Rattle.hwp_cpu_access.specs.hwp_cpu_check.Checks.{Check, left_by}
 use Rattle.hwp_fork.specs.declared.cow.Cow.{Cow}
 use Rattle.hwp_fork.specs.declared.cow.Sub.{Sub}
 use Rattle.hwp_fork.specs.declared.cow.Sub.TheVariants as subs

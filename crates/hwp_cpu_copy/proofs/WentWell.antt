@@ -2,35 +2,35 @@
 use Rattle.std.proofs.Common.{◌≡◌, ◌⊎◌, inl, inr, ℕ, ◌+◌, ◌<◌, List, [], ◌∷◌, ◌++◌, Option, Some, IsBitSet, IsSomeAnd, length, append-nil, append_assoc, refl, sym, ap, ◌∙◌, subst, arith}
 use Rattle.std.proofs.lemmas.Option.{none-some, same_Some}
 use Rattle.std.proofs.lemmas.List.{length-append}
-use Rattle.hwp_fault.specs.hwp_geom.declared.Layout.{Layout}
-use Rattle.hwp_fault.specs.hwp_geom.declared.Mode.{Mode}
-use Rattle.hwp_fault.specs.hwp_geom.declared.Page.{Page}
-use Rattle.hwp_fault.specs.hwp_geom.declared.Proc.{Proc}
-use Rattle.hwp_fault.specs.hwp_geom.declared.TransDecl.{TransDecl}
-use Rattle.hwp_fault.specs.hwp_geom.declared.VSlot.{VSlot}
-use Rattle.hwp_fault.specs.hwp_geom.declared.Who.{Who}
-use Rattle.hwp_fault.specs.hwp_geom.Limits.{line_limit}
-use Rattle.hwp_fault.specs.hwp_page.declared.At.{At}
-use Rattle.hwp_fault.specs.hwp_page.Step.{IsOf}
-use Rattle.hwp_fault.specs.hwp_core_rule.declared.Made.{Made}
-use Rattle.hwp_fault.specs.hwp_core_rule.declared.SharedWord.TheVariants as places
-use Rattle.hwp_fault.specs.hwp_core_rule.declared.View.{View}
-use Rattle.hwp_fault.specs.hwp_core_rule.Lists.{EachMember}
-use Rattle.hwp_fault.proofs.of_hwp_core_rule.Lists.{each-weaken}
-use Rattle.hwp_fault.proofs.of_hwp_core_rule.MoreEntries.{each-append}
-use Rattle.hwp_fault.specs.hwp_core_task.Calls.{IsOnTurn}
-use Rattle.hwp_fault.specs.hwp_core_task.Hands.{hand_of, empty}
-use Rattle.hwp_fault.specs.hwp_core_task.Known.{HasMadeBeside, HasMadeNoneBeside, Precedes, Saw, deeds}
-use Rattle.hwp_fault.specs.declared.AccessAnswer.TheVariants as access_answers
-use Rattle.hwp_fault.specs.declared.AccessKind.{AccessKind}
-use Rattle.hwp_fault.specs.declared.AccessKind.TheVariants as kinds
-use Rattle.hwp_fault.specs.declared.Request.{Request}
-use Rattle.hwp_fault.specs.Accesses as accesses
-use Rattle.hwp_fault.specs.Accesses.{what_by, what_of}
-use Rattle.hwp_cpu_check.specs.Checks.{left_by, lines_of}
-use Rattle.hwp_cpu_check.specs.hwp_banks.Banks.{Banks}
-use Rattle.hwp_cpu_check.specs.hwp_banks.declared.Origin.{Origin}
-use Rattle.hwp_cpu_check.specs.hwp_banks.declared.Origin.TheVariants as origins
+use Rattle.hwp_cpu_access.specs.hwp_fault.hwp_geom.declared.Layout.{Layout}
+use Rattle.hwp_cpu_access.specs.hwp_fault.hwp_geom.declared.Mode.{Mode}
+use Rattle.hwp_cpu_access.specs.hwp_fault.hwp_geom.declared.Page.{Page}
+use Rattle.hwp_cpu_access.specs.hwp_fault.hwp_geom.declared.Proc.{Proc}
+use Rattle.hwp_cpu_access.specs.hwp_fault.hwp_geom.declared.TransDecl.{TransDecl}
+use Rattle.hwp_cpu_access.specs.hwp_fault.hwp_geom.declared.VSlot.{VSlot}
+use Rattle.hwp_cpu_access.specs.hwp_fault.hwp_geom.declared.Who.{Who}
+use Rattle.hwp_cpu_access.specs.hwp_fault.hwp_geom.Limits.{line_limit}
+use Rattle.hwp_cpu_access.specs.hwp_fault.hwp_page.declared.At.{At}
+use Rattle.hwp_cpu_access.specs.hwp_fault.hwp_page.Step.{IsOf}
+use Rattle.hwp_cpu_access.specs.hwp_fault.hwp_core_rule.declared.Made.{Made}
+use Rattle.hwp_cpu_access.specs.hwp_fault.hwp_core_rule.declared.SharedWord.TheVariants as places
+use Rattle.hwp_cpu_access.specs.hwp_fault.hwp_core_rule.declared.View.{View}
+use Rattle.hwp_cpu_access.specs.hwp_fault.hwp_core_rule.Lists.{EachMember}
+use Rattle.hwp_cpu_access.proofs.of_hwp_fault.of_hwp_core_rule.Lists.{each-weaken}
+use Rattle.hwp_cpu_access.proofs.of_hwp_fault.of_hwp_core_rule.MoreEntries.{each-append}
+use Rattle.hwp_cpu_access.specs.hwp_fault.hwp_core_task.Calls.{IsOnTurn}
+use Rattle.hwp_cpu_access.specs.hwp_fault.hwp_core_task.Hands.{hand_of, empty}
+use Rattle.hwp_cpu_access.specs.hwp_fault.hwp_core_task.Known.{HasMadeBeside, HasMadeNoneBeside, Precedes, Saw, deeds}
+use Rattle.hwp_cpu_access.specs.hwp_fault.declared.AccessAnswer.TheVariants as access_answers
+use Rattle.hwp_cpu_access.specs.hwp_fault.declared.AccessKind.{AccessKind}
+use Rattle.hwp_cpu_access.specs.hwp_fault.declared.AccessKind.TheVariants as kinds
+use Rattle.hwp_cpu_access.specs.hwp_fault.declared.Request.{Request}
+use Rattle.hwp_cpu_access.specs.hwp_fault.Accesses as accesses
+use Rattle.hwp_cpu_access.specs.hwp_fault.Accesses.{what_by, what_of}
+use Rattle.hwp_cpu_access.specs.hwp_cpu_check.Checks.{left_by, lines_of}
+use Rattle.hwp_cpu_access.specs.hwp_cpu_check.hwp_banks.Banks.{Banks}
+use Rattle.hwp_cpu_access.specs.hwp_cpu_check.hwp_banks.declared.Origin.{Origin}
+use Rattle.hwp_cpu_access.specs.hwp_cpu_check.hwp_banks.declared.Origin.TheVariants as origins
 use Rattle.hwp_evict.specs.declared.evict.Eviction.TheVariants as evictions
 use Rattle.hwp_evict.specs.Evicts as evicts
 use Rattle.hwp_fork.specs.declared.cow.Cow.{Cow}

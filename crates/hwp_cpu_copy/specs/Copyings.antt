@@ -1,19 +1,19 @@
 -- A store whose page is copied first: the task's states, its steps and what they come to. This project's rule.
 use Rattle.std.specs.Prelude.{◌≡◌, ℕ, Bool, Option, Some, None}
 use Rattle.std.specs.declared.alloc.Global.{Global}
-use Rattle.hwp_fault.specs.hwp_geom.declared.Layout.{Layout}
-use Rattle.hwp_fault.specs.hwp_geom.declared.Mode.TheVariants as modes
-use Rattle.hwp_fault.specs.hwp_geom.declared.Page.{Page}
-use Rattle.hwp_fault.specs.hwp_geom.declared.VSlot.{VSlot}
-use Rattle.hwp_fault.specs.hwp_page.declared.At.{At}
-use Rattle.hwp_fault.specs.hwp_page.History.{BodyValue}
-use Rattle.hwp_fault.specs.hwp_core_rule.declared.Step.{Step}
-use Rattle.hwp_fault.specs.hwp_core_task.declared.Turn.{Turn}
-use Rattle.hwp_fault.specs.hwp_core_task.declared.Turn.TheVariants.{Moved}
-use Rattle.hwp_fault.specs.declared.AccessKind.TheVariants as kinds
-use Rattle.hwp_fault.specs.declared.Request.{Request}
-use Rattle.hwp_cpu_check.specs.hwp_banks.Banks.{Banks}
-use Rattle.hwp_cpu_check.specs.hwp_banks.declared.Origin.TheVariants as origins
+use Rattle.hwp_cpu_access.specs.hwp_fault.hwp_geom.declared.Layout.{Layout}
+use Rattle.hwp_cpu_access.specs.hwp_fault.hwp_geom.declared.Mode.TheVariants as modes
+use Rattle.hwp_cpu_access.specs.hwp_fault.hwp_geom.declared.Page.{Page}
+use Rattle.hwp_cpu_access.specs.hwp_fault.hwp_geom.declared.VSlot.{VSlot}
+use Rattle.hwp_cpu_access.specs.hwp_fault.hwp_page.declared.At.{At}
+use Rattle.hwp_cpu_access.specs.hwp_fault.hwp_page.History.{BodyValue}
+use Rattle.hwp_cpu_access.specs.hwp_fault.hwp_core_rule.declared.Step.{Step}
+use Rattle.hwp_cpu_access.specs.hwp_fault.hwp_core_task.declared.Turn.{Turn}
+use Rattle.hwp_cpu_access.specs.hwp_fault.hwp_core_task.declared.Turn.TheVariants.{Moved}
+use Rattle.hwp_cpu_access.specs.hwp_fault.declared.AccessKind.TheVariants as kinds
+use Rattle.hwp_cpu_access.specs.hwp_fault.declared.Request.{Request}
+use Rattle.hwp_cpu_access.specs.hwp_cpu_check.hwp_banks.Banks.{Banks}
+use Rattle.hwp_cpu_access.specs.hwp_cpu_check.hwp_banks.declared.Origin.TheVariants as origins
 use Rattle.hwp_evict.specs.declared.evict.Evict.{Evict}
 use Rattle.hwp_evict.specs.declared.evict.EvictAnswer.{EvictAnswer}
 use Rattle.hwp_evict.specs.declared.evict.EvictAnswer.TheVariants as evict_answers

@@ -2,13 +2,11 @@ ghost use Rattle.std.specs.Prelude.{◌≡◌, Some};
 ghost use Rattle.hwp_cpu_access.specs.Instructions as instructions;
 ghost use Rattle.hwp_cpu_copy.specs.Copyings.{after_access, after_free, answer, begin, going_on, give_up, load_of, pause, resume, store_of, through, went};
 
-use hwp_cpu_access::{Instruction, InstructionAnswer, Pause};
-use hwp_cpu_check::{
-    At, BANKS, Bank, Body, EventOutcome, Layout, Line, List, Mode, Origin, Page, Ranked, Scheduled,
-    Step, Task, Turn, Who,
+use hwp_cpu_access::{
+    AccessKind, At, BANKS, Bank, Body, EventOutcome, Instruction, InstructionAnswer, Layout, Line,
+    List, Mode, Origin, Page, Pause, Ranked, Request, Scheduled, Step, Task, Turn, Who,
 };
 use hwp_evict::{Evict, EvictAnswer};
-use hwp_fault::{AccessKind, Request};
 use hwp_fork::{Cow, Sub, VSlot};
 use std::alloc::Global;
 

@@ -4,3 +4,4 @@
 mod copying;
 
 pub use copying::Copying;
+pub use hwp_cpu_access::{AccessKind, Instruction, InstructionAnswer, Request};

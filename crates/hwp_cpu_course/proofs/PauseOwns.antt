@@ -29,7 +29,7 @@ use Rattle.hwp_cpu_command_laws.specs.hwp_cpu_command.hwp_cpu_copy.declared.copy
 use Rattle.hwp_cpu_command_laws.specs.hwp_cpu_command.hwp_cpu_copy.Copyings as copyings
 use Rattle.hwp_cpu_command_laws.specs.hwp_cpu_command.hwp_cpu_copy.Costs as copying_costs
 use Rattle.hwp_cpu_command_laws.proofs.of_hwp_cpu_command.of_hwp_evict.EvictCosts.{evict-mild}
-use Rattle.hwp_fault.proofs.AccessCosts.{access-mild}
+use Rattle.hwp_cpu_command_laws.proofs.of_hwp_fault.AccessCosts.{access-mild}
 use Rattle.hwp_cpu_course.proofs.RestCosts.{paused-idle}
 
 abbrev pub OwnsNone : Layout → State → Frame → ℕ → Job → Type 0

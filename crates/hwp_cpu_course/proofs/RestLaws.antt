@@ -103,7 +103,6 @@ copy-rest base layout view c p fits is = record { on_turn = fits.on_turn; hand_i
     paid : view.owed.losses ≡ []
     paid = (paused c.instruction p access.instruction own.1).paid
 
-
 pub some-of : {A : Type 0} (o : Option A) → is_some o ≡ true → (x : A) × (o ≡ Some x)
 some-of None is = absurd (both_ways true (sym is) refl)
 some-of (Some x) is = (x, refl)

@@ -79,7 +79,8 @@ impl Course {
         ensures begins { BeginsCourse layout.now who command copies local.old self.new }
         ensures local { local.new ≡ local_left self.new local.old }
     {
-        self.own.begin_next(alloc, layout, who, command, copies, local);
+        self.own
+            .begin_next(alloc, layout, who, command, copies, local);
         set(&mut self.beside, None);
         set(&mut self.watching, local.watching.take());
         self.noted = 0;

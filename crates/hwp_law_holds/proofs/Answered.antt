@@ -1,6 +1,5 @@
 -- Each command has its answer, in order, and the report shows its cause.
-use Rattle.std.proofs.Common.{◌≡◌, ◌≢◌, ◌⊎◌, inl, inr, ℕ, ◌<◌, Bool, true, false, bit_and, List, Option, Some, length, slice_get, option_and_then, option_map, take, unwrap_or, refl, sym, ap, ◌∙◌, subst}
-use Rattle.std.proofs.lemmas.List.{length-map}
+use Rattle.std.proofs.Common.{◌≡◌, ◌≢◌, ◌⊎◌, inl, inr, ℕ, ◌<◌, Bool, true, false, bit_and, List, Option, Some, length, slice_get, option_map, unwrap_or, refl, sym, ap, ◌∙◌, subst}
 use Rattle.std.proofs.lemmas.Option.{get_or_from_slice_get, none-some, same_Some, slice_get_within}
 use Rattle.hwp_law_records.specs.hwp_geom.declared.VSlot.{VSlot}
 use Rattle.hwp_law_records.specs.hwp_geom.declared.Cpu.{Cpu}
@@ -18,7 +17,6 @@ use Rattle.hwp_law_records.specs.hwp_page.declared.PageState.{PageState}
 use Rattle.hwp_law_records.specs.hwp_page.declared.What.{What}
 use Rattle.hwp_law_records.specs.hwp_page.declared.Met.TheVariants.{Sigbus}
 use Rattle.hwp_law_records.specs.hwp_page.declared.What.TheVariants as entries
-use Rattle.hwp_law_records.specs.hwp_core_rule.declared.Log.{Log}
 use Rattle.hwp_law_records.specs.hwp_core_rule.declared.Made.{Made}
 use Rattle.hwp_law_records.specs.hwp_core_rule.declared.SharedWord.TheVariants as places
 use Rattle.hwp_law_records.specs.hwp_core_rule.declared.State.{State}
@@ -33,7 +31,6 @@ use Rattle.hwp_law_records.specs.hwp_script_read.declared.Command.TheVariants as
 use Rattle.hwp_law_records.specs.hwp_script_read.declared.Script.{Script}
 use Rattle.hwp_law_records.specs.hwp_report_text.declared.Answer.{Answer}
 use Rattle.hwp_law_records.specs.hwp_report_text.declared.Answer.TheVariants as answers
-use Rattle.hwp_law_records.specs.hwp_report_text.declared.EventLine.{EventLine}
 use Rattle.hwp_law_records.specs.hwp_report_text.declared.FrameLine.{FrameLine}
 use Rattle.hwp_law_records.specs.hwp_report_text.declared.MarkLine.{MarkLine}
 use Rattle.hwp_law_records.specs.hwp_report_text.declared.OfflineResult.{OfflineResult}
@@ -54,26 +51,21 @@ use Rattle.hwp_law_records.proofs.of_hwp_law_run.Homes.{there-is}
 use Rattle.hwp_law_records.proofs.of_hwp_law_run.Reported.{listed-entry}
 use Rattle.hwp_law_records.specs.hwp_cpu_row.declared.FrameChange.{FrameChange}
 use Rattle.hwp_law_records.specs.hwp_cpu_row.declared.FrameChange.TheVariants as owns
-use Rattle.hwp_law_records.specs.hwp_cpu_row.declared.Row.{Row}
 use Rattle.hwp_law_records.specs.hwp_cpu_check.declared.EventOutcome.{EventOutcome}
 use Rattle.hwp_law_records.specs.hwp_cpu_check.Told.{first_signal}
 use Rattle.hwp_law_records.specs.hwp_law_served.Causes.{HasCome, IsAnswerCaused, IsInjectCaused, IsOfflineCaused, IsSoftCaused, IsUnpoisonCaused, SawBadLines}
 use Rattle.hwp_law_records.specs.hwp_law_served.Offlinings.{IsOfflineServed, left_at}
 use Rattle.hwp_law_records.specs.hwp_law_served.Rows.{offlined}
-use Rattle.hwp_law_records.specs.hwp_law_served.hwp_cpu_row.Acts.{event_at}
-use Rattle.hwp_law_records.specs.hwp_law_served.Runs.{row_at}
 use Rattle.hwp_law_records.proofs.of_hwp_law_served.HadStates.{had}
 use Rattle.hwp_law_records.proofs.of_hwp_law_served.OfflineCames.{came-of}
 use Rattle.hwp_law_holds.proofs.AllowedThere.{had-so}
 use Rattle.hwp_law_holds.proofs.Ample.{not-ample}
 use Rattle.hwp_law_holds.proofs.PageLocks.{had-unlocked}
-use Rattle.hwp_law_records.proofs.of_hwp_law_served.RunEnds.{IsEnd, IsOf}
+use Rattle.hwp_law_records.proofs.of_hwp_law_served.RunEnds.{IsEnd}
 use Rattle.hwp_law_sights.proofs.endings.Gone.{is-gone}
-use Rattle.hwp_law_records.proofs.of_hwp_law_served.deeds.Made.{command-is, some-so}
-use Rattle.hwp_law_records.proofs.lines.Records.{own-mark}
+use Rattle.hwp_law_records.proofs.of_hwp_law_served.deeds.Made.{some-so}
 use Rattle.hwp_law_records.proofs.marks.RecordPlaces.{was-hardware-seen, was-poisoned}
-use Rattle.hwp_law_records.proofs.of_hwp_law_served.RowLines.{answered-so, events-told}
-use Rattle.hwp_law_records.proofs.of_hwp_law_served.Seen.{HasSignalled, MadeWhat, has-signalled, made-what}
+use Rattle.hwp_law_records.proofs.of_hwp_law_served.Seen.{HasSignalled, MadeWhat, made-what}
 use Rattle.hwp_law_holds.proofs.Signalled.{signalled-sends}
 use Rattle.hwp_law_records.proofs.of_hwp_law_served.Stops.{stop-by, stop-there}
 

@@ -1,6 +1,6 @@
 -- The report of a run keeps the whole law.
-use Rattle.hwp_law_records.specs.hwp_geom.declared.Cpu.{Cpu}
 use Rattle.std.proofs.Common.{ℕ, List, Option}
+use Rattle.hwp_law_records.specs.hwp_geom.declared.Cpu.{Cpu}
 use Rattle.hwp_law_records.specs.hwp_geom.declared.Who.{Who}
 use Rattle.hwp_law_records.specs.hwp_geom.declared.VSlot.{VSlot}
 use Rattle.hwp_law_records.specs.hwp_core_rule.declared.State.{State}
@@ -21,7 +21,6 @@ use Rattle.hwp_law_records.proofs.of_hwp_law_served.deeds.Made.{entries-made-by,
 use Rattle.hwp_law_records.proofs.lines.Events.{events-are}
 use Rattle.hwp_law_sights.proofs.policies.Policies.{are-seen, never-falls}
 use Rattle.hwp_law_records.proofs.of_hwp_law_served.Windows.{states-in-windows}
-
 use Rattle.hwp_law_records.specs.hwp_script_read.Valid.{IsValid}
 use Rattle.hwp_law_records.specs.hwp_law.Acting.{acting_script, copied_at}
 use Rattle.hwp_law_private.proofs.Private.{private-holds}

@@ -6,7 +6,7 @@ mod Shares
 mod MadeStores
 mod GivenAnswers
 mod PageWords
-mod Forked
+pub mod Forked
 mod OwnPage
 mod TwinPage
 mod Keeps

@@ -24,15 +24,15 @@ use Rattle.hwp_law_run.specs.hwp_law_commands.Commands.{process_of_thread}
 use Rattle.hwp_cpu_row.specs.hwp_cpu_check.declared.EventOutcome.{EventOutcome}
 use Rattle.hwp_cpu_row.specs.hwp_cpu_check.Checks.{Check, left_by, lines_of}
 use Rattle.hwp_cpu_row.specs.hwp_cpu_check.Told.{first_signal}
-use Rattle.hwp_fault.specs.declared.AccessKind.TheVariants as kinds
-use Rattle.hwp_fault.specs.declared.Request.{Request}
-use Rattle.hwp_fault.specs.Accesses as accesses
-use Rattle.hwp_fault.specs.Touches.{refusal_by}
-use Rattle.hwp_fork.specs.declared.cow.Sub.{Sub}
-use Rattle.hwp_fork.specs.declared.cow.Sub.TheVariants as subs
-use Rattle.hwp_fork.specs.Cows as cows
-use Rattle.hwp_cpu_access.specs.Checks.{AreChecks}
-use Rattle.hwp_cpu_access.specs.Fits.{checks_in}
+use Rattle.hwp_cpu_copy.specs.hwp_fault.declared.AccessKind.TheVariants as kinds
+use Rattle.hwp_cpu_copy.specs.hwp_fault.declared.Request.{Request}
+use Rattle.hwp_cpu_copy.specs.hwp_fault.Accesses as accesses
+use Rattle.hwp_cpu_copy.specs.hwp_fault.Touches.{refusal_by}
+use Rattle.hwp_cpu_copy.specs.hwp_fork.declared.cow.Sub.{Sub}
+use Rattle.hwp_cpu_copy.specs.hwp_fork.declared.cow.Sub.TheVariants as subs
+use Rattle.hwp_cpu_copy.specs.hwp_fork.Cows as cows
+use Rattle.hwp_cpu_copy.specs.hwp_cpu_access.Checks.{AreChecks}
+use Rattle.hwp_cpu_copy.specs.hwp_cpu_access.Fits.{checks_in}
 use Rattle.hwp_cpu_copy.specs.Copyings.{load_of, request_by}
 use Rattle.hwp_cpu_copy.specs.Fits.{IsLastPlace}
 use Rattle.hwp_cpu_copy.specs.Runs.{AreRuns, IsBetween, Run, checks_by, made_by, words_of}

@@ -34,8 +34,8 @@ pub use Rattle.hwp_soft.specs as hwp_soft
 pub use Rattle.hwp_soft.specs.hwp_soft_move as hwp_soft_move
 pub use Rattle.hwp_soft.specs.hwp_soft_unpoison as hwp_soft_unpoison
 pub use Rattle.hwp_law_run.specs.hwp_words as hwp_words
-pub use Rattle.hwp_fault.specs as hwp_fault
-pub use Rattle.hwp_cpu_access.specs as hwp_cpu_access
+pub use Rattle.hwp_cpu_copy.specs.hwp_fault as hwp_fault
+pub use Rattle.hwp_cpu_copy.specs.hwp_cpu_access as hwp_cpu_access
 pub use Rattle.hwp_cpu_control.specs as hwp_cpu_control
 pub use Rattle.hwp_cpu_copy.specs as hwp_cpu_copy
-pub use Rattle.hwp_fork.specs as hwp_fork
+pub use Rattle.hwp_cpu_copy.specs.hwp_fork as hwp_fork

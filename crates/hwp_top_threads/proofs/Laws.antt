@@ -17,4 +17,4 @@ threads-handled-out-of-use script report ended run = handled-out-of-use script.l
 -- Each load that got a word got the content of its page, and a step of its command had shown the frame's bad lines, of which the line
 -- is none.
 pub threads-no-bad-bytes : (script : Script) (report : Report) (ended : EndValue) (run : IsThreadRun script report ended) → IsLawful script report → AreGoodLoads script.layout report run.turns
-threads-no-bad-bytes script report ended run lawful = no-bad-bytes script run.turns (last_of ended run.played) report run.rule run.leads run.ends run.nothing lawful
+threads-no-bad-bytes script report ended run lawful = no-bad-bytes script run.turns (last_of ended run.played) report run.rule run.leads run.ends run.nothing lawful.shape lawful.histories.legal

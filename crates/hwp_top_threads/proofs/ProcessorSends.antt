@@ -20,6 +20,7 @@ use Rattle.hwp_threads.specs.hwp_page.contracts.body.Body as Body
 use Rattle.hwp_top_turns.specs.hwp_core.contracts.give_up.GiveUp as GiveUp
 use Rattle.hwp_top_turns.specs.hwp_fault.contracts.fault.FaultAt as FaultAt
 use Rattle.hwp_top_turns.specs.hwp_fault.contracts.access.AccessAt as AccessAt
+use Rattle.hwp_top_turns.specs.hwp_fault.contracts.access.Request as Request
 use Rattle.hwp_top_turns.specs.hwp_claim_frame.contracts.claim.ClaimAt as ClaimAt
 use Rattle.hwp_top_turns.specs.hwp_claim_act.contracts.act.ActAt as ActAt
 use Rattle.hwp_top_turns.specs.hwp_cpu_check.contracts.handler.Handler as Handler
@@ -27,7 +28,11 @@ use Rattle.hwp_top_turns.specs.hwp_cpu_access.contracts.instruction.Instruction 
 use Rattle.hwp_top_turns.specs.hwp_evict.contracts.evict.EvictAt as EvictAt
 use Rattle.hwp_top_turns.specs.hwp_evict.contracts.evict.Evict as Evict
 use Rattle.hwp_top_turns.specs.hwp_evict.contracts.fsync.Fsync as Fsync
+use Rattle.hwp_top_turns.specs.hwp_cpu_command.hwp_fork.contracts.cow.Cow as Cow
+use Rattle.hwp_top_turns.specs.hwp_cpu_command.hwp_cpu_copy.contracts.copying.CopyingAt as CopyingAt
+use Rattle.hwp_top_turns.specs.hwp_cpu_command.hwp_cpu_copy.contracts.copying.Copying as Copying
 use Rattle.hwp_top_turns.specs.hwp_cpu_control.contracts.prctl.Prctl as Prctl
+use Rattle.hwp_top_turns.specs.hwp_cpu_control.contracts.fork.Fork as Fork
 use Rattle.hwp_top_turns.specs.hwp_cpu_raise.contracts.log.Log as Log
 use Rattle.hwp_top_turns.specs.hwp_cpu_raise.contracts.raise.Raise as Raise
 use Rattle.hwp_top_turns.specs.hwp_scrub.contracts.scrub.Scrub as Scrub
@@ -119,6 +124,21 @@ evict-at-send = search (body-send, give-up-send, sendable, crosses) depth 100 fi
 evict-send : IsSend Evict.the_field.row
 evict-send = search (evict-at-send, sendable, crosses) depth 100 fits 20000
 
+request-send : IsSend Request.the_field.row
+request-send = search (sendable, crosses) depth 100 fits 20000
+
+cow-send : IsSend Cow.the_field.row
+cow-send = search (sendable, crosses) depth 100 fits 20000
+
+copying-at-send : IsSend CopyingAt.the_field.row
+copying-at-send = search (evict-send, sendable, crosses) depth 100 fits 20000
+
+copying-send : IsSend Copying.the_field.row
+copying-send = search (instruction-send, request-send, cow-send, copying-at-send, sendable, crosses) depth 100 fits 20000
+
+fork-send : IsSend Fork.the_field.row
+fork-send = search (sendable, crosses) depth 100 fits 20000
+
 fsync-send : IsSend Fsync.the_field.row
 fsync-send = search (sendable, crosses) depth 100 fits 20000
 
@@ -159,7 +179,7 @@ unpoison-send : IsSend Unpoison.the_field.row
 unpoison-send = search (sendable, crosses) depth 100 fits 20000
 
 job-send : IsSend Job.the_field.row
-job-send = search (instruction-send, evict-send, fsync-send, prctl-send, log-send, raise-send, scrub-send, spoil-send, nested-send, inject-send, soft-send, unpoison-send, sendable, crosses) depth 100 fits 20000
+job-send = search (instruction-send, copying-send, evict-send, fsync-send, prctl-send, fork-send, log-send, raise-send, scrub-send, spoil-send, nested-send, inject-send, soft-send, unpoison-send, sendable, crosses) depth 100 fits 20000
 
 due-frames-send : IsSend DueFrames.the_row
 due-frames-send = search (offlining-send, sendable, crosses) depth 100 fits 20000

@@ -154,14 +154,17 @@ module _ (layout : Layout) (view : View) (c : Copying) (runs : List Run) (has : 
 
     refused-so : (place : At) → place.page ≡ a.page → accesses.HasRefusal base a view place.entry → halts told ≡ false → x ≡ answers.Sigbus place → HasEnd layout view c runs x
     refused-so place same refusal off is = with-rest (end.since ++ (refusal.made.before ++ refusal.made.last ∷ [])) (all-of (refusal.made.before ++ refusal.made.last ∷ []) refusal.made.all)
-        (subst (Ends (end.since ++ (refusal.made.before ++ refusal.made.last ∷ []))) (sym is) (goes refusal.alive, inl (record {
-          front = end.since ++ refusal.made.before;
-          last = refusal.made.last;
-          rest_is = sym (append_assoc end.since refusal.made.before (refusal.made.last ∷ []));
-          behind = behind refusal.made.before refusal.made.such;
-          page_is = same;
-          refused = subst (λ (p : Page). IsAt p place.entry (refusal_by a.kind a.slot a.line a.thread) refusal.made.last) (sym same) refusal.made.at;
-        })))
+        (subst (Ends (end.since ++ (refusal.made.before ++ refusal.made.last ∷ []))) (sym is) (
+          goes refusal.alive,
+          inl (record {
+            front = end.since ++ refusal.made.before;
+            last = refusal.made.last;
+            rest_is = sym (append_assoc end.since refusal.made.before (refusal.made.last ∷ []));
+            behind = behind refusal.made.before refusal.made.such;
+            page_is = same;
+            refused = subst (λ (p : Page). IsAt p place.entry (refusal_by a.kind a.slot a.line a.thread) refusal.made.last) (sym same) refusal.made.at;
+          }),
+        ))
         (λ on. goes-on told off on)
 
     signalled-so : (place : At) → instruction_fits.IsSignalled base view a told place → x ≡ answers.Sigbus place → HasEnd layout view c runs x
@@ -171,12 +174,15 @@ module _ (layout : Layout) (view : View) (c : Copying) (runs : List Run) (has : 
 
     none-so : instruction_fits.IsOwnEnd base layout view a told access_answers.NoFrame → x ≡ answers.NoFrame → HasEnd layout view c runs x
     none-so none is = with-rest (end.since ++ none.answered.0.only.own) (only-so none.answered.0.only)
-        (subst (Ends (end.since ++ none.answered.0.only.own)) (sym is) (goes none.answered.0.alive, record {
-          available = subst (λ (w : Who). Saw view w places.Available 0) own none.answered.1;
-          behind = behind none.answered.0.only.own none.answered.0.only.such;
-          place = none.answered.2;
-          away = subst (λ (w : Who). SawState layout view w a.page none.answered.2 IsAway) own none.answered.3;
-        }))
+        (subst (Ends (end.since ++ none.answered.0.only.own)) (sym is) (
+          goes none.answered.0.alive,
+          record {
+            available = subst (λ (w : Who). Saw view w places.Available 0) own none.answered.1;
+            behind = behind none.answered.0.only.own none.answered.0.only.such;
+            place = none.answered.2;
+            away = subst (λ (w : Who). SawState layout view w a.page none.answered.2 IsAway) own none.answered.3;
+          },
+        ))
         (λ on. goes-on told none.lets.halts_none on)
 
     gone-so : (page : Page) → instruction_fits.IsOwnEnd base layout view a told (access_answers.Gone page) → x ≡ answers.Gone page → HasEnd layout view c runs x

@@ -1,8 +1,7 @@
 -- No store copies a page to itself: a translation that a fork froze has a twin, which leads to another page.
-use Rattle.std.proofs.Common.{◌≡◌, ◌≢◌, ◌&&◌, ℕ, ◌+◌, Bool, true, false, not, List, [], ◌∷◌, Option, None, Some, fold, option_and_then, option_map, slice_get, take, unwrap_or, if◌then◌else◌, refl, sym, ap, ◌∙◌, subst, true≢false}
+use Rattle.std.proofs.Common.{◌≡◌, ◌≢◌, ◌&&◌, ℕ, ◌+◌, Bool, true, false, not, List, [], ◌∷◌, Option, None, Some, fold, option_and_then, option_map, slice_get, unwrap_or, if◌then◌else◌, refl, sym, ap, ◌∙◌, subst, true≢false}
 use Rattle.std.specs.Prelude.{IsSomeAnd}
 use Rattle.std.proofs.lemmas.Option.{none-some, same_Some}
-use Rattle.hwp_law_records.specs.hwp_geom.Layout.{twin_of}
 use Rattle.hwp_law_records.specs.hwp_geom.declared.Layout.{Layout}
 use Rattle.hwp_law_records.specs.hwp_geom.declared.Page.{Page}
 use Rattle.hwp_law_records.specs.hwp_geom.declared.Thread.{Thread}
@@ -80,9 +79,9 @@ some-page layout slot v page is of = subst (λ (o : Option TransDecl). IsSomeAnd
 pair-apart : (layout : Layout) (slot twin : VSlot) (v w : TransDecl) → slice_get layout.trans slot.0 ≡ Some v → slice_get layout.trans twin.0 ≡ Some w → IsTwinFit layout slot twin → v.page.0 ≢ w.page.0
 pair-apart layout slot twin v w v_is w_is fit =
     let first = subst (λ (o : Option TransDecl). IsSomeAnd o (λ (a : TransDecl). IsSomeAnd (slice_get layout.trans twin.0) (λ (b : TransDecl).
-        (a.process ≡ b.process) × (a.page.0 ≢ b.page.0) × IsSomeAnd (slice_get layout.pages a.page.0) IsAnon × IsSomeAnd (slice_get layout.pages b.page.0) IsAnon))) v_is fit.paired in
+    (a.process ≡ b.process) × (a.page.0 ≢ b.page.0) × IsSomeAnd (slice_get layout.pages a.page.0) IsAnon × IsSomeAnd (slice_get layout.pages b.page.0) IsAnon))) v_is fit.paired in
     let both = subst (λ (o : Option TransDecl). IsSomeAnd o (λ (b : TransDecl).
-        (v.process ≡ b.process) × (v.page.0 ≢ b.page.0) × IsSomeAnd (slice_get layout.pages v.page.0) IsAnon × IsSomeAnd (slice_get layout.pages b.page.0) IsAnon)) w_is first in
+    (v.process ≡ b.process) × (v.page.0 ≢ b.page.0) × IsSomeAnd (slice_get layout.pages v.page.0) IsAnon × IsSomeAnd (slice_get layout.pages b.page.0) IsAnon)) w_is first in
     both.1
 
 module _ (script : Script) (report : Report) (valid : IsValid script) where
@@ -96,10 +95,10 @@ module _ (script : Script) (report : Report) (valid : IsValid script) where
       let at = frozen-from script.layout from 0 (answered_before script report who) of.frozen in
       let f : IsForked script report who.cpu from at.0 = (forked script report valid who.cpu from who.seq at.0 at.1).0 in
       let through : (if (cow_of script.layout (answered_before script report who) from).frozen then twin_or script.layout from else from) ≡ to =
-          ap (λ (x : Command). written from (acting script.layout (answered_before script report who) x)) (sym of.command_is)
-          ∙ ap (written from) (same_Some (acting script.layout (answered_before script report who) c) (commands.Store thread to line word) is) in
+      ap (λ (x : Command). written from (acting script.layout (answered_before script report who) x)) (sym of.command_is)
+      ∙ ap (written from) (same_Some (acting script.layout (answered_before script report who) c) (commands.Store thread to line word) is) in
       let twin : f.twin ≡ to =
-          sym (ap (λ (t : Option VSlot). unwrap_or t from) f.twin_is) ∙ sym (ap (λ (b : Bool). if b then twin_or script.layout from else from) of.frozen) ∙ through in
+      sym (ap (λ (t : Option VSlot). unwrap_or t from) f.twin_is) ∙ sym (ap (λ (b : Bool). if b then twin_or script.layout from else from) of.frozen) ∙ through in
       let same : f.v.page ≡ f.w.page = some-page script.layout from f.v page f.v_is here ∙ sym (some-page script.layout f.twin f.w page f.w_is (subst (IsOf script.layout page) (sym twin) there)) in
       pair-apart script.layout from f.twin f.v f.w f.v_is f.w_is (valid.twins.each from f.twin f.twin_is) (ap (λ (p : Page). p.0) same)
 

@@ -1,8 +1,7 @@
 -- The report shows the cause of the answer of each command, also of a store that copied a page first.
-use Rattle.std.proofs.Common.{◌≡◌, ◌⊎◌, inl, inr, ℕ, ◌<◌, List, [], ◌∷◌, ◌++◌, Option, None, Some, length, slice_get, option_and_then, take, append_assoc, refl, sym, ap, ◌∙◌, subst}
+use Rattle.std.proofs.Common.{◌≡◌, inl, inr, ℕ, ◌<◌, List, [], ◌∷◌, ◌++◌, Option, None, Some, length, slice_get, option_and_then, take, append_assoc, refl, sym, ap, ◌∙◌}
 use Rattle.std.proofs.lemmas.List.{length-map}
 use Rattle.hwp_law_records.specs.hwp_geom.declared.Cpu.{Cpu}
-use Rattle.hwp_law_records.specs.hwp_geom.declared.Frame.{Frame}
 use Rattle.hwp_law_records.specs.hwp_geom.declared.Page.{Page}
 use Rattle.hwp_law_records.specs.hwp_geom.declared.Thread.{Thread}
 use Rattle.hwp_law_records.specs.hwp_geom.declared.VSlot.{VSlot}
@@ -10,7 +9,6 @@ use Rattle.hwp_law_records.specs.hwp_geom.declared.Who.{Who}
 use Rattle.hwp_law_records.specs.hwp_banks.Banks.{Banks}
 use Rattle.hwp_law_records.specs.hwp_page.declared.At.{At}
 use Rattle.hwp_law_records.specs.hwp_page.declared.Met.TheVariants.{Sigbus}
-use Rattle.hwp_law_records.specs.hwp_page.declared.Outcome.{Outcome}
 use Rattle.hwp_law_records.specs.hwp_page.declared.What.{What}
 use Rattle.hwp_law_records.specs.hwp_page.declared.What.TheVariants as entries
 use Rattle.hwp_law_records.specs.hwp_core_rule.declared.Made.{Made}
@@ -37,10 +35,9 @@ use Rattle.hwp_law_records.specs.hwp_cpu_row.declared.Row.{Row}
 use Rattle.hwp_law_records.specs.hwp_cpu_check.declared.EventOutcome.{EventOutcome}
 use Rattle.hwp_law_records.specs.hwp_fault.declared.Request.{Request}
 use Rattle.hwp_law_records.specs.hwp_fault.Touches.{refusal_by}
-use Rattle.hwp_law_records.specs.hwp_cpu_copy.Copyings.{load_of, store_of}
 use Rattle.hwp_law_records.specs.hwp_cpu_copy.Runs.{made_by}
 use Rattle.hwp_law_records.specs.hwp_law_served.Causes.{IsCausedWith}
-use Rattle.hwp_law_records.specs.hwp_law_served.Copied.{IsCopyCaused, IsCopyEnded, IsRefused, store_by, sub_next}
+use Rattle.hwp_law_records.specs.hwp_law_served.Copied.{IsCopyCaused, IsCopyEnded, store_by, sub_next}
 use Rattle.hwp_law_records.specs.hwp_law_served.Rows.{offlined}
 use Rattle.hwp_law_records.specs.hwp_law_served.hwp_cpu_row.Acts.{event_at}
 use Rattle.hwp_law_records.specs.hwp_law_served.Runs.{row_at}

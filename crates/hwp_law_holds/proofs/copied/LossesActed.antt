@@ -8,7 +8,7 @@ use Rattle.hwp_law_records.specs.hwp_report_text.declared.CpuLine.{CpuLine}
 use Rattle.hwp_law_records.specs.hwp_report_text.declared.Report.{Report}
 use Rattle.hwp_law_records.specs.hwp_law.Acting.{acting_from, acting_script}
 use Rattle.hwp_law_records.specs.hwp_law.Lines.{answered, answers_in}
-use Rattle.hwp_law_records.specs.hwp_law.Losses.{IsNumber, LossesAgree, is_lost, is_lost_before, losses_such, numbers_after}
+use Rattle.hwp_law_records.specs.hwp_law.Losses.{LossesAgree, is_lost, is_lost_before, losses_such, numbers_after}
 use Rattle.hwp_law_records.proofs.of_hwp_law_run.of_hwp_law.ActedLaws.{list-at}
 use Rattle.hwp_law_records.proofs.of_hwp_law_served.copied.NumbersActed.{numbers-acted, pair-acted}
 

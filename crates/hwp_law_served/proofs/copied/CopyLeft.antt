@@ -14,11 +14,11 @@ use Rattle.hwp_law_run.specs.hwp_law_commands.Commands.{is_check}
 use Rattle.hwp_law_run.specs.hwp_report_text.declared.Answer.{Answer}
 use Rattle.hwp_law_run.specs.hwp_report_text.declared.Answer.TheVariants as answers
 use Rattle.hwp_cpu_row.specs.hwp_cpu_check.declared.EventOutcome.{EventOutcome}
-use Rattle.hwp_fault.specs.declared.AccessKind.{AccessKind}
-use Rattle.hwp_fault.specs.declared.AccessKind.TheVariants as kinds
-use Rattle.hwp_fault.specs.declared.Request.{Request}
-use Rattle.hwp_fault.specs.Touches.{refusal_by}
-use Rattle.hwp_fork.specs.declared.cow.Sub.{Sub}
+use Rattle.hwp_cpu_copy.specs.hwp_fault.declared.AccessKind.{AccessKind}
+use Rattle.hwp_cpu_copy.specs.hwp_fault.declared.AccessKind.TheVariants as kinds
+use Rattle.hwp_cpu_copy.specs.hwp_fault.declared.Request.{Request}
+use Rattle.hwp_cpu_copy.specs.hwp_fault.Touches.{refusal_by}
+use Rattle.hwp_cpu_copy.specs.hwp_fork.declared.cow.Sub.{Sub}
 use Rattle.hwp_cpu_copy.specs.Copyings.{request_by}
 use Rattle.hwp_cpu_copy.specs.Runs.{IsBetween, Run}
 use Rattle.hwp_law_served.specs.Copied.{IsBehind, IsCopyEnded, IsLeft, IsRefused}
@@ -44,7 +44,6 @@ module _ (store : Request) (page : Page) (sub : Sub) where
   }
 
   left-refused : (rest : List Made) (at : At) → IsRefused store page sub rest at → IsLeft (request_by store page sub) rest
-  unfolding left-behind
   left-refused rest at is = record {
     way = is.front;
     behind = is.last ∷ [];

@@ -20,11 +20,11 @@ use Rattle.hwp_law_run.specs.hwp_report_text.declared.Answer.{Answer}
 use Rattle.hwp_law_run.specs.hwp_report_text.declared.Answer.TheVariants as answers
 use Rattle.hwp_cpu_row.specs.hwp_cpu_check.declared.EventOutcome.{EventOutcome}
 use Rattle.hwp_cpu_row.specs.hwp_cpu_check.Checks.{AreChecks, Check, left_by}
-use Rattle.hwp_fault.specs.declared.Request.{Request}
-use Rattle.hwp_fork.specs.declared.cow.Cow.{Cow}
-use Rattle.hwp_fork.specs.declared.cow.Sub.{Sub}
-use Rattle.hwp_fork.specs.declared.cow.Sub.TheVariants as subs
-use Rattle.hwp_fork.specs.Cows as cows
+use Rattle.hwp_cpu_copy.specs.hwp_fault.declared.Request.{Request}
+use Rattle.hwp_cpu_copy.specs.hwp_fork.declared.cow.Cow.{Cow}
+use Rattle.hwp_cpu_copy.specs.hwp_fork.declared.cow.Sub.{Sub}
+use Rattle.hwp_cpu_copy.specs.hwp_fork.declared.cow.Sub.TheVariants as subs
+use Rattle.hwp_cpu_copy.specs.hwp_fork.Cows as cows
 use Rattle.hwp_cpu_copy.specs.Copyings.{load_of, request_by, store_of}
 use Rattle.hwp_cpu_copy.specs.Runs.{AreRuns, IsAccessRun, IsRun, Run}
 use Rattle.hwp_law_served.specs.Copied.{AreChecksOf, FoundEnded, FoundNone, HasCopied, IsCopyCaused, IsCopyEnded, IsCopyTold, IsGoing, WasStopped, store_by}

@@ -30,8 +30,8 @@ use Rattle.hwp_law_run.specs.hwp_law_commands.Commands.{command_at}
 use Rattle.hwp_law_run.specs.hwp_law.Copies.{own_in}
 use Rattle.hwp_law_run.specs.hwp_law.Lines.{answer_of}
 use Rattle.hwp_law_run.specs.hwp_law.Private.{last_word, word_in}
-use Rattle.hwp_fault.specs.declared.Request.{Request}
-use Rattle.hwp_fork.specs.Cows as cows
+use Rattle.hwp_cpu_copy.specs.hwp_fault.declared.Request.{Request}
+use Rattle.hwp_cpu_copy.specs.hwp_fork.Cows as cows
 use Rattle.hwp_cpu_copy.specs.Copyings.{load_of}
 use Rattle.hwp_cpu_copy.specs.Runs.{made_by}
 use Rattle.hwp_law_served.specs.Causes.{IsCausedWith}

@@ -89,7 +89,7 @@ module _ (script : Script) (report : Report) where
           let s = served cpu mine own some own_is in
           let given_is : answers_in (unwrap_or (slice_get report.cpus cpu.0) []) ≡ given own = ap (λ (o : Option (List CpuLine)). answers_in (unwrap_or o [])) s.1 ∙ answers-of-rows 0 own in
           let same : acted script.layout mine own ≡ list =
-              ap (acting_from script.layout [] mine) (sym given_is) ∙ same_Some (acting_from script.layout [] mine (answers_in (unwrap_or (slice_get report.cpus cpu.0) []))) list there in (
+          ap (acting_from script.layout [] mine) (sym given_is) ∙ same_Some (acting_from script.layout [] mine (answers_in (unwrap_or (slice_get report.cpus cpu.0) []))) list there in (
             subst (λ (l : List Command). IsServed script.layout (copied_at script report) (view_of last (seat cpu)) cpu l own) same
                 (served-acted script.layout mine own (copied_at script report) (view_of last (seat cpu)) cpu (copies-from cpu mine own some s.1) s.0),
             s.1,

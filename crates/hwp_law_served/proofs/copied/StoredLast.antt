@@ -15,13 +15,13 @@ use Rattle.hwp_law_run.specs.hwp_core_rule.declared.View.{View}
 use Rattle.hwp_law_run.specs.hwp_core_rule.Lists.{EachMember}
 use Rattle.hwp_law_run.specs.hwp_core_task.Known.{IsAt, deeds}
 use Rattle.hwp_cpu_row.specs.hwp_cpu_check.Checks.{left_by}
-use Rattle.hwp_fault.specs.declared.Request.{Request}
-use Rattle.hwp_fork.specs.declared.cow.Cow.{Cow}
-use Rattle.hwp_fork.specs.declared.cow.CowAt.{CowAt}
-use Rattle.hwp_fork.specs.declared.cow.CowAt.TheVariants as at
-use Rattle.hwp_fork.specs.declared.cow.Sub.{Sub}
-use Rattle.hwp_fork.specs.declared.cow.Sub.TheVariants as subs
-use Rattle.hwp_fork.specs.Cows as cows
+use Rattle.hwp_cpu_copy.specs.hwp_fault.declared.Request.{Request}
+use Rattle.hwp_cpu_copy.specs.hwp_fork.declared.cow.Cow.{Cow}
+use Rattle.hwp_cpu_copy.specs.hwp_fork.declared.cow.CowAt.{CowAt}
+use Rattle.hwp_cpu_copy.specs.hwp_fork.declared.cow.CowAt.TheVariants as at
+use Rattle.hwp_cpu_copy.specs.hwp_fork.declared.cow.Sub.{Sub}
+use Rattle.hwp_cpu_copy.specs.hwp_fork.declared.cow.Sub.TheVariants as subs
+use Rattle.hwp_cpu_copy.specs.hwp_fork.Cows as cows
 use Rattle.hwp_cpu_copy.specs.Copyings.{store_of}
 use Rattle.hwp_cpu_copy.specs.Runs.{AreRuns, IsAccessRun, IsFreeRun, IsRun, Run, made_by, words_of}
 use Rattle.hwp_law_served.specs.Copied.{HasCopied, HasSwitched, sub_next}
@@ -89,15 +89,15 @@ stored-last layout view store from word before has place is =
       behind = is.freed.made;
       mask = run.mask;
       all =
-        has.all
-        ∙ ap (λ (l : List Made). made_by has.runs ++ l) is.rest_is
-        ∙ append-nil (made_by has.runs)
-        ∙ ap made_by runs_are
-        ∙ flat_map-append (λ (r : Run). r.made) front (last ∷ is.freed ∷ [])
-        ∙ ap (λ (l : List Made). made_by front ++ (last.made ++ l)) (append-nil is.freed.made)
-        ∙ ap (λ (l : List Made). made_by front ++ (l ++ is.freed.made)) run.made_is
-        ∙ ap (λ (l : List Made). made_by front ++ l) (append_assoc run.before (run.last ∷ []) is.freed.made)
-        ∙ sym (append_assoc (made_by front) run.before (run.last ∷ is.freed.made));
+          has.all
+          ∙ ap (λ (l : List Made). made_by has.runs ++ l) is.rest_is
+          ∙ append-nil (made_by has.runs)
+          ∙ ap made_by runs_are
+          ∙ flat_map-append (λ (r : Run). r.made) front (last ∷ is.freed ∷ [])
+          ∙ ap (λ (l : List Made). made_by front ++ (last.made ++ l)) (append-nil is.freed.made)
+          ∙ ap (λ (l : List Made). made_by front ++ (l ++ is.freed.made)) run.made_is
+          ∙ ap (λ (l : List Made). made_by front ++ l) (append_assoc run.before (run.last ∷ []) is.freed.made)
+          ∙ sym (append_assoc (made_by front) run.before (run.last ∷ is.freed.made));
       page_is = ap (λ (p : At). p.page) (sym is.last.3) ∙ run.page_is;
       stands = subst (λ (p : At). IsAt store.page p.entry (entries.Store store.slot store.line (Word (record { 0 = run.mask }) word)) run.last) is.last.3 run.answers;
       freed = two.freeing.made_is;

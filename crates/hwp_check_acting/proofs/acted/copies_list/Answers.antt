@@ -1,4 +1,4 @@
-use Rattle.std.proofs.Common.{◌+◌, List, get_or, sym, ap, ◌∙◌, subst}
+use Rattle.std.proofs.Common.{◌+◌, List, Some, sym, ap, ◌∙◌, subst}
 use Rattle.std.proofs.lemmas.Option.{slice_get-get_or}
 use Rattle.hwp_law.specs.hwp_law_commands.Cows.{copied_from}
 use Rattle.hwp_law.specs.hwp_report_text.declared.Answer.{Answer}
@@ -9,7 +9,7 @@ use Rattle.hwp_check_acting.proofs.acted.copies_list.Goals as goal
 
 pub loop-number-preserved : goal.loop-number-preserved
 loop-number-preserved c =
-    subst (AreCopied c.args.layout.now c.args.pairs.now c.args.commands.now (c.loop-number.number + 1)) (sym c.branch-add.ensures)
-    (next-copied c.args.layout.now c.args.pairs.now c.args.commands.now c.loop-number.number c.loop-number.list (get_or c.args.commands.now c.loop-number.number _) c.copied_from.result c.loop-number.invariant
-    (slice_get-get_or c.args.commands.now c.loop-number.number _ c.loop-number-test.true)
-    (c.copied_from.ensures ∙ ap (λ (p : List (Command × Answer)). copied_from c.args.layout.now p (get_or c.args.commands.now c.loop-number.number _)) c.before.ensures))
+    subst (AreCopied c.args.layout.now c.args.pairs.now c.args.commands.now (c.loop-number.number + 1)) (sym c.in_ok-push.ensures.items)
+    (next-copied c.args.layout.now c.args.pairs.now c.args.commands.now c.loop-number.number c.loop-number.list.items c.index-commands-number.result c.copied_from.result c.loop-number.invariant
+    (slice_get-get_or c.args.commands.now c.loop-number.number _ c.loop-number-test.true ∙ ap Some (sym c.index-commands-number.is))
+    (c.copied_from.ensures ∙ ap (λ (p : List (Command × Answer)). copied_from c.args.layout.now p c.index-commands-number.result) c.before-in-loop-number.ensures))

@@ -21,5 +21,5 @@ returns c =
     let told : IsTrue c.is_elsewhere.result ↔ HasOther case.report.pages (copies_in copies) case.who (is_named naming.names case.who.seq) =
     subst (λ (w : Who). IsTrue c.is_elsewhere.result ↔ HasOther case.report.pages (copies_in copies) w (is_named naming.names w.seq)) c.who.ensures
     (subst (λ (ps : List (List Entry)). IsTrue c.is_elsewhere.result ↔ HasOther ps (copies_in copies) c.who.result (is_named naming.names c.who.result.seq)) pages c.is_elsewhere.ensures) in
-    subst (λ (v : AnswerValue). IsTrue c.is_elsewhere.result ↔ IsUnnamed v.copies v.report v.who v.answer) c.given.view_is
+    subst (λ (v : AnswerValue). IsTrue c.is_elsewhere.result ↔ IsUnnamed (copies_in v.copies) v.report v.who v.answer) c.given.view_is
     (λ t. unnamed_is (copies_in copies) case.report case.who answer naming known (told.0 t), λ u. told.1 (is_unnamed (copies_in copies) case.report case.who answer naming known u))

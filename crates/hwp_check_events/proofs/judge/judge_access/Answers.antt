@@ -1,4 +1,4 @@
-use Rattle.std.proofs.Common.{ℕ, length, sym, ◌∙◌, []}
+use Rattle.std.proofs.Common.{ℕ, sym, ◌∙◌, []}
 use Rattle.std.proofs.lemmas.List.{length-replicate}
 use Rattle.hwp_law.specs.Events.{access_lines}
 use Rattle.hwp_check_events.proofs.CopyLaws.{met-plain}

@@ -1,4 +1,3 @@
-use Rattle.std.proofs.Common.{◌∙◌}
 use Rattle.hwp_check_events.proofs.CopyLaws.{met-copied}
 use Rattle.hwp_check_events.proofs.JudgeLaws.{access-judged}
 use Rattle.hwp_check_events.proofs.judge.judge_copy.Goals as goal

@@ -1,4 +1,5 @@
-use Rattle.std.proofs.Common.{◌≡◌, ◌≤◌, ◌<◌, ◌+◌, ℕ, None, arith, length, subst, sym, ◌∙◌}
+use Rattle.std.proofs.Common.{◌≡◌, ◌≤◌, ◌<◌, ◌+◌, ℕ, None, Some, arith, ap, length, subst, sym, ◌∙◌}
+use Rattle.std.proofs.lemmas.Option.{slice_get-get_or}
 use Rattle.hwp_check_events.specs.Misfits.{IsFit}
 use Rattle.hwp_check_events.specs.Walked.{IsWalked}
 use Rattle.hwp_check_events.proofs.WalkSteps.{SoFar, answer-is, checks-are, checks-few, few-commands, fit-is, so-next}
@@ -26,6 +27,11 @@ command_faults-faults-requires-clause-answer c =
 pub command_faults-faults-requires-clause-fit : goal.command_faults-faults-requires-clause-fit
 command_faults-faults-requires-clause-fit c =
     subst IsFit (sym c.index-commands-number.is) (fit-is c.args.script.now (copies_in c.args.copies.now) c.args.report.now c.args.cpu c.args.commands.now c.args.rows.now c.requires.valid c.requires.of_script c.requires.of_report c.loop-number.number _ c.loop-number-test.true)
+
+pub command_faults-faults-requires-clause-copied : goal.command_faults-faults-requires-clause-copied
+command_faults-faults-requires-clause-copied c =
+    c.list_at.ensures
+    ∙ c.requires.copied c.loop-number.number c.index-commands-number.result c.loop-number-test.true (slice_get-get_or c.args.commands.now c.loop-number.number _ c.loop-number-test.true ∙ ap Some (sym c.index-commands-number.is))
 
 pub loop-number-preserved : goal.loop-number-preserved
 loop-number-preserved c =

@@ -1,7 +1,6 @@
 use Rattle.std.proofs.Common.{◌≡◌, ◌∙◌, ℕ, Option, MatchOption, ap, sym, subst, arith}
 use Rattle.hwp_check_rules.specs.Firsts.{soonest, IsFirstFault}
 use Rattle.hwp_check_rules.specs.Rules.{MarksFit}
-use Rattle.hwp_check_rules.specs.declared.Rule.TheVariants.{Answers, Marks, Shape}
 use Rattle.hwp_check_marks.proofs.SoftRule.{softs_low}
 use Rattle.hwp_check_marks.proofs.MarkRule.{marks-decided}
 use Rattle.hwp_check_frames.proofs.RecordLaws.{as-many}

@@ -1,6 +1,5 @@
 use Rattle.std.proofs.Common.{ℕ, MatchOption, Option, sym, subst}
 use Rattle.hwp_check_rules.specs.Rules.{LossesFit}
-use Rattle.hwp_check_rules.specs.declared.Rule.TheVariants.{Losses}
 use Rattle.hwp_check_state.proofs.LossRule.{rule-is}
 use Rattle.hwp_check_state.proofs.losses.losses_fault.Goals as goal
 use Rattle.hwp_check_rules.specs.Firsts.{IsFirstFault}

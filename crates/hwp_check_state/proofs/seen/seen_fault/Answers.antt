@@ -5,7 +5,6 @@ use Rattle.std.proofs.lemmas.List.Sorted.{All-permutation, IsNonDecreasingBy-fro
 use Rattle.hwp_check_state.specs.declared.sights.Sight.{Sight}
 use Rattle.hwp_check_rules.specs.Rules.{SeenFit}
 use Rattle.hwp_check_state.specs.Sights.{IsBelow, IsFirstOf, IsNotBelow, IsRight, IsSmall, IsWrong, key_of, pages_sights, sights}
-use Rattle.hwp_check_rules.specs.declared.Rule.TheVariants.{Seen}
 use Rattle.hwp_check_state.proofs.SeenRule.{seen-is}
 use Rattle.hwp_check_state.proofs.seen.seen_fault.Goals as goal
 use Rattle.hwp_check_rules.specs.Firsts.{IsFirstFault}
