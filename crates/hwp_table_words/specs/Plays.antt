@@ -36,11 +36,7 @@ pub record Call : Type 0 where
 -- a step of a machine that has nothing
 abbrev pub no_call : Call
 no_call = record {
-<<<<<<< HEAD
   layout = record { version = versions.One; cpus = 0; frames = 0; kernel = []; recovery = false; early = false; files = 0; procs = 0; threads = []; pages = []; trans = []; locked = []; twins = []; guests = [] };
-=======
-  layout = record { version = versions.One; cpus = 0; frames = 0; kernel = []; recovery = false; early = false; files = 0; procs = 0; threads = []; pages = []; trans = []; twins = []; locked = [] };
->>>>>>> fork
   cpu = 0;
   mine = opening_view 0;
   who = record { cpu = record { 0 = 0 }; seq = 0 };
