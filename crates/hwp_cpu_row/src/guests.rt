@@ -3,7 +3,7 @@ ghost use Rattle.std.specs.Option.{option_map};
 ghost use Rattle.hwp_guest.specs.GuestState.{admitted};
 ghost use Rattle.hwp_guest.specs.Guests.{outcome};
 ghost use Rattle.hwp_cpu_check.specs.hwp_law_commands.Guests.{denial, guest_access, guest_line, new_guest, stops};
-ghost use Rattle.hwp_cpu_row.specs.GuestLists.{CanMeet, MayMeet, access_by, denied_in, first_guests, guest_in, has_guests, line_in, met_in, told_in};
+ghost use Rattle.hwp_cpu_row.specs.GuestLists.{CanMeet, MayTell, access_by, denied_in, first_guests, guest_in, has_guests, line_in, met_in, told_in};
 
 use hwp_cpu_check::{
     Answer, Command, GuestLine, Layout, Line, Mode, OutOfMemory, Proc, Thread, VSlot,
@@ -93,7 +93,7 @@ impl Guests {
         command: &Command,
         answer: Answer,
     ) -> Option<GuestLine>
-        requires { MayMeet layout.now self.old command.now }
+        requires { MayTell layout.now self.old command.now answer }
         ensures line { result ≡ line_in layout.now seq command.now answer }
         ensures state { self.new ≡ told_in layout.now command.now answer self.old }
     {
