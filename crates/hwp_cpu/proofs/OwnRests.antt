@@ -79,6 +79,7 @@ module _ (layout : Layout) (old new : View) (command : Command) (copies : Option
       by (kinds.Evict e) own left next = ap (left_so_far on.base new) next.1 ∙ left
       by (kinds.Fsync g) own left next = ap (left_so_far on.base new) next.0 ∙ left
       by (kinds.Prctl p) own left next = ap (left_so_far on.base new) next.0 ∙ left
+      by (kinds.Denied p) own left next = ap (left_so_far on.base new) next.0 ∙ left
       by (kinds.Fork g) own left next = ap (left_so_far on.base new) next.0 ∙ left
       by (kinds.Log l) own left next = ap (left_so_far on.base new) next.0 ∙ left
       by (kinds.Raise r) own left next = ap (left_so_far on.base new) next.1 ∙ left

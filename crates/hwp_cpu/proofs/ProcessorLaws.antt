@@ -93,6 +93,7 @@ bare-change (kinds.Inject i) has = tt
 bare-change (kinds.Soft s) has = tt
 bare-change (kinds.Fsync f) has = tt
 bare-change (kinds.Prctl p) has = tt
+bare-change (kinds.Denied p) has = tt
 bare-change (kinds.Fork g) has = tt
 bare-change (kinds.Spoil s) has = tt
 bare-change (kinds.Nested n) has = tt

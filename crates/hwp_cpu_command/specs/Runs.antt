@@ -66,11 +66,11 @@ abbrev pub RunsAs : Layout → Who → Command → Option VSlot → Job → Type
 RunsAs layout who command copies j = BeginsAs layout who command copies (banks_before j []) (collects_now j) (anew j)
 
 -- or of an access that its guest doesn't admit
-abbrev pub RunsDenied : Layout → Who → Command → Job → Type 0
-RunsDenied layout who command j = (why : Denial) × IsDenied layout who command why (anew j)
+abbrev pub RunsDenied : Layout → Who → Command → Option VSlot → Job → Type 0
+RunsDenied layout who command copies j = (why : Denial) × IsDenied layout who command copies why (anew j)
 
 abbrev pub Runs : Layout → Who → Command → Option VSlot → Job → Type 0
-Runs layout who command copies j = RunsDenied layout who command j ⊎ RunsAs layout who command copies j
+Runs layout who command copies j = RunsDenied layout who command copies j ⊎ RunsAs layout who command copies j
 
 -- the processor holds nothing and owes no loss, and may begin the command, which has made no entry and marked no frame yet; each
 -- thread can be set once more, and a poison taken back once more

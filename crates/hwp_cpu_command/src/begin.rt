@@ -19,7 +19,7 @@ ghost use Rattle.hwp_evict.specs.Fsyncs as fsyncs;
 ghost use Rattle.hwp_cpu_raise.specs.declared.LocalChange.TheVariants as changes;
 ghost use Rattle.hwp_cpu_raise.specs.Logs as logs;
 ghost use Rattle.hwp_cpu_raise.specs.Raises as raises;
-ghost use Rattle.hwp_cpu_command.specs.Begins.{Begins, BeginsCopy, BeginsDenied, BeginsFork, BeginsLine, BeginsPrctl, BeginsRaiseUser, BeginsWith, CanCopy, CanCopyFrom, CanDeny, access_in, begun_access, denial_by, is_raise, line_access, request_of};
+ghost use Rattle.hwp_cpu_command.specs.Begins.{Begins, BeginsCopy, BeginsFork, BeginsLine, BeginsPrctl, BeginsRaiseUser, BeginsWith, CanCopy, CanCopyFrom, CanDeny, IsDeniedAnyhow, access_in, begun_access, denial_by, is_raise, line_access, request_of};
 ghost use Rattle.hwp_cpu_command.specs.FileHandles.{HasHandle, local_left};
 ghost use Rattle.hwp_cpu_command.specs.Jobs.{left_in};
 ghost use Rattle.hwp_cpu_command.specs.declared.job.Job.TheVariants as jobs;
@@ -124,7 +124,7 @@ fn deny(layout: &Layout, who: Who, command: &Command, answer: Answer, job: &mut 
     requires sound { IsSound layout.now }
     requires of { IsCommandOf layout.now who.cpu.0 command.now }
     requires access { IsSome (access_in command.now) }
-    ensures begins { BeginsDenied layout.now who command.now answer job.new }
+    ensures begins { IsDeniedAnyhow layout.now who command.now answer job.new }
     ensures handle { (handles : List ℕ) → HasHandle handles job.new }
     ensures banks { (banks : Banks) → left_in job.new banks ≡ banks }
 {

@@ -40,9 +40,12 @@ pub struct Guests {
 
 impl Model for Guests {
     ghost use Rattle.std.specs.Prelude.{List};
-    ghost use Rattle.hwp_guest.specs.GuestState.{GuestState};
+    ghost use Rattle.std.specs.Coded.{coded_list};
+    ghost use Rattle.hwp_guest.specs.GuestState.{GuestState, state_code};
 
     ghost Value = { List GuestState };
+
+    ghost coded = { coded_list state_code };
 
     ghost view = { λ g. g.guests.items };
 }
