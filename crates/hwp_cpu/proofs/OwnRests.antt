@@ -210,8 +210,9 @@ module _ (layout : Layout) (view : View) (cpu : Cpu) (list : List Command) (rows
     where
       -- of a copy the view tells it itself
       left-answered-so : (o : Option VSlot) → Runs layout at command o c.own → ArePriorWith layout command o base → left_so_far base view c.own ≡ left_beside c.due.offlined → left_by at view ≡ cons_option (left_itself command a) (left_beside c.due.offlined)
-      left-answered-so None runs plain left = left-command layout view at c.own a base fits has command runs plain ∙ ap (cons_option (left_itself command a)) (sym (left-plain layout at command c.own runs base view) ∙ left)
-      left-answered-so (Some from) runs none left =
+      left-answered-so o (inl denied) prior left = left-by-denied layout view at c.own a base fits has command o denied ∙ ap (cons_option (left_itself command a)) (sym (left-denied layout at command o c.own denied base view) ∙ left)
+      left-answered-so None (inr runs) plain left = left-command layout view at c.own a base fits has command runs plain ∙ ap (cons_option (left_itself command a)) (sym (left-plain layout at command c.own runs base view) ∙ left)
+      left-answered-so (Some from) (inr runs) none left =
           let copy = copy-kind layout at command from c.own runs in
-          let own : copy.0.store.who ≡ at = sym (ap jobs.who copy.1) ∙ runs-who layout at command (Some from) c.own runs in
+          let own : copy.0.store.who ≡ at = sym (ap jobs.who copy.1) ∙ runs-who layout at command (Some from) c.own (inr runs) in
           subst (λ (w : Who). left_by w view ≡ left_beside c.due.offlined) own (sym (ap (left_so_far base view) copy.1) ∙ left) ∙ ap (λ (l : Option At). cons_option l (left_beside c.due.offlined)) (sym (copy-leaves-none layout at command from c.own a runs))

@@ -336,7 +336,7 @@ module _ (base : List Made) (layout : Layout) (view : View) (who : Who) (command
   own-who = runs-who layout who command copies j runs
 
   pub failed-end : failures who view ≡ failed_now j
-  failed-end = subst (λ (w : Who). failures w view ≡ failed_now j) own-who (failures-at-end layout view j fits (prior-none layout who command copies j base runs prior) has (λ fails. subst (λ (w : Who). failures w view ≡ failed_now j) (sym own-who) (failed fails)))
+  failed-end = subst (λ (w : Who). failures w view ≡ failed_now j) own-who (failures-at-end layout view j fits (prior-none layout view who command copies j base runs fits prior) has (λ fails. subst (λ (w : Who). failures w view ≡ failed_now j) (sym own-who) (failed fails)))
 
   -- it owes no loss: a command that may make some owes none by then, and the others make none
   pub no-loss : view.owed.losses ≡ []
