@@ -65,7 +65,7 @@ module _ (script : Script) (report : Report) where
   pub acting-long : length (acting_script script report).lists ≡ length script.lists
   acting-long = lists-long script.layout report.cpus 0 script.lists
 
-  answered-are : (cpu : Cpu) (list : List Command) (own : List Row) → slice_get script.lists cpu.0 ≡ Some list → slice_get report.cpus cpu.0 ≡ Some (lines_from 0 own) → answered_on script report cpu ≡ answers_by list own
+  pub answered-are : (cpu : Cpu) (list : List Command) (own : List Row) → slice_get script.lists cpu.0 ≡ Some list → slice_get report.cpus cpu.0 ≡ Some (lines_from 0 own) → answered_on script report cpu ≡ answers_by list own
   answered-are cpu list own list_is lines_is =
       ap (λ (o : Option (List Command)). answered (unwrap_or o []) (unwrap_or (slice_get report.cpus cpu.0) [])) list_is
       ∙ ap (λ (o : Option (List CpuLine)). answered list (unwrap_or o [])) lines_is
