@@ -5,6 +5,7 @@ use Rattle.std.specs.List.{list_any}
 use Rattle.std.proofs.lemmas.Bool.{or_parts}
 use Rattle.std.proofs.lemmas.Option.{none-some, same_Some}
 use Rattle.hwp_law_records.specs.hwp_geom.Layout.{is_guest}
+use Rattle.hwp_law_records.specs.hwp_geom.declared.Cpu.{Cpu}
 use Rattle.hwp_law_records.specs.hwp_geom.declared.Layout.{Layout}
 use Rattle.hwp_law_records.specs.hwp_geom.declared.Page.{Page}
 use Rattle.hwp_law_records.specs.hwp_geom.declared.Proc.{Proc}
