@@ -33,6 +33,8 @@ use Rattle.hwp_cpu_course.specs.hwp_cpu_row.hwp_report_text.declared.Answer.TheV
 use Rattle.hwp_cpu_causes.proofs.DeniedCauses.{access-by, runs-kind}
 use Rattle.hwp_cpu_course.specs.hwp_cpu_command.declared.begin.LineAccess.{LineAccess}
 use Rattle.hwp_cpu_course.specs.hwp_cpu_command.Begins.{access_in}
+use Rattle.std.proofs.lemmas.Option.{none-some}
+use Rattle.hwp_cpu_course.proofs.of_hwp_cpu_command_laws.CommandRuns.{runs-admitted}
 
 abbrev is_copying : Job → Bool
 is_copying (kinds.Copying y) = true
@@ -177,6 +179,11 @@ raise-fails layout who command j runs can = absurd can
 pub collect-fails : (layout : Layout) (who : Who) (command : Command) (j : Job) → Runs layout who command None j → CanCollect command → can_fail j ≡ true
 collect-fails layout who command j (inl denied) can = absurd (no-collect command denied.1.access can)
 collect-fails layout who command j (inr runs) can = raise-fails layout who command j runs can
+
+-- its guest isn't asked
+pub collects-undenied : (layout : Layout) (who : Who) (command : Command) (j : Job) → Runs layout who command None j → CanCollect command → {due : Answer} → denial_of j ≡ Some due → ⊥
+collects-undenied layout who command j (inl denied) can is = no-collect command denied.1.access can
+collects-undenied layout who command j (inr runs) can {due} is = none-some due (sym (runs-admitted layout who command None j runs) ∙ is)
 
 -- it takes no frame out of use itself
 pub collect-left : (command : Command) (a : Answer) → CanCollect command → left_itself command a ≡ None

@@ -258,6 +258,7 @@ module _ (layout : Layout) (old new : View) (cpu : Cpu) (list : List Command) (r
         left = has.left;
         numbers = has.numbers;
         halted = has.halted;
+        denied = has.denied;
       }
 
       rest-due : (a : Answer) → jobs.answer k ≡ Some a → is_access k ≡ false → (frame : Frame) → next_due d.due ≡ Some frame → CanCollect command × (told_of k ≢ [])

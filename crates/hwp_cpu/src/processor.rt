@@ -8,8 +8,8 @@ ghost use Rattle.hwp_cpu_course.specs.hwp_cpu_command.FileHandles.{HasChangeWith
 ghost use Rattle.hwp_cpu.specs.Processors.{AreCommands, AtBeginning, BeginsAt, IsAnswered, IsReady, MayTellOf, at_number, command_now, left_of, line_of, told_local};
 
 use hwp_cpu_course::{
-    Answer, Body, Command, Course, Cpu, GuestLine, Layout, List, Local, OutOfMemory, Ranked, Row, Scheduled,
-    Step, Task, Turn, Who,
+    Answer, Body, Command, Course, Cpu, GuestLine, Layout, List, Local, OutOfMemory, Ranked, Row,
+    Scheduled, Step, Task, Turn, Who,
 };
 use std::alloc::{AllocError, Global};
 use std::sync::Arc;
@@ -129,9 +129,7 @@ fn remember(
         return None;
     };
     local.cows.told(layout, command, answer);
-    local
-        .guests
-        .told(layout, number as u32, command, answer)
+    local.guests.told(layout, number as u32, command, answer)
 }
 
 /// Whether one of the commands is a `watch`.
@@ -165,9 +163,7 @@ fn first(
     let copies = local.cows.copied_from(command);
     let acting = local.cows.acting(layout, command);
     let denied = local.guests.denied(layout, command);
-    Some(Course::new(
-        alloc, layout, who, acting, copies, denied, local,
-    ))
+    Some(Course::new(alloc, layout, who, acting, copies, denied, local))
 }
 
 /// The command of this number begins in the same way, in place of the one that runs; past the last none runs.

@@ -80,19 +80,21 @@ declared layout who thread slot line kind process sound has within is = which (s
     which None t_is o o_is access of = absurd access
     which (Some d) t_is None o_is access of = absurd access.1
     which (Some d) t_is (Some v) o_is access of =
-        let same : v.process ≡ process = access.1 ∙ same_Some d.process process of in
-        (v.page, record {
-          decl = v;
-          declared = o_is;
-          page_is = refl;
-          process_is = same;
-          page = (named v o_is).1;
-          process = subst (λ (p : Proc). p.0 < layout.procs) same (named v o_is).0;
-          thread = d;
-          thread_declared = t_is;
-          thread_of = same_Some d.process process of;
-          line = within;
-        })
+        let same : v.process ≡ process = access.1 ∙ same_Some d.process process of in (
+          v.page,
+          record {
+            decl = v;
+            declared = o_is;
+            page_is = refl;
+            process_is = same;
+            page = (named v o_is).1;
+            process = subst (λ (p : Proc). p.0 < layout.procs) same (named v o_is).0;
+            thread = d;
+            thread_declared = t_is;
+            thread_of = same_Some d.process process of;
+            line = within;
+          },
+        )
 
 -- ---- the task
 

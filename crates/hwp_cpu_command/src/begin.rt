@@ -29,8 +29,8 @@ use hwp_cpu_control::{Denial, Denied, Fork, Nested, Prctl, Spoil, Targets};
 use hwp_cpu_copy::{AccessKind, Copying, Instruction, Request};
 use hwp_cpu_raise::{LocalChange, Log, Raise, Raiser};
 use hwp_cpu_row::{
-    Answer, BANKS, Bank, Command, Event, Handles, Inject, Local, McgBits, Origin, PrctlArgs, Status,
-    Watching, no_events,
+    Answer, BANKS, Bank, Command, Event, Handles, Inject, Local, McgBits, Origin, PrctlArgs,
+    Status, Watching, no_events,
 };
 use hwp_evict::{
     Damage, Evict, FileNo, Frame, Fsync, Layout, Line, Mode, Page, Proc, Thread, VSlot, Who,
@@ -132,7 +132,10 @@ fn deny(layout: &Layout, who: Who, command: &Command, answer: Answer, job: &mut 
         unreachable!();
     };
     let process = process_of(layout, who, at.thread);
-    set(job, Job::Denied(Denied::new(who, process, denial_by(answer))));
+    set(
+        job,
+        Job::Denied(Denied::new(who, process, denial_by(answer))),
+    );
 }
 
 /// The process of a thread of the processor.

@@ -1,7 +1,8 @@
 ghost use Rattle.std.specs.Prelude.{◌≡◌, option_and_then, option_map};
 
 use hwp_cpu_control::{
-    Denial, Denied, DeniedAnswer, Fork, ForkAnswer, Nested, NestedAnswer, Prctl, PrctlAnswer, ReadStopAnswer, Spoil, SpoilAnswer,
+    Denial, Denied, DeniedAnswer, Fork, ForkAnswer, Nested, NestedAnswer, Prctl, PrctlAnswer,
+    ReadStopAnswer, Spoil, SpoilAnswer,
 };
 use hwp_cpu_copy::{Copying, Instruction, InstructionAnswer};
 use hwp_cpu_raise::{LocalChange, Log, Raise, RaiseAnswer};

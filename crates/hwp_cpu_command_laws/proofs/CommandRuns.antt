@@ -79,7 +79,7 @@ use Rattle.hwp_cpu_command.specs.Answers.{denial_answer}
 use Rattle.hwp_cpu_command.specs.Done.{can_fail}
 use Rattle.hwp_cpu_command.specs.Jobs.{FitsFrom, Next, banks_before, bare, claims, class, denial_of, left_in, who}
 use Rattle.hwp_cpu_command.specs.FileHandles.{HasChangeWithin, KnowsHandle}
-use Rattle.hwp_cpu_command.specs.Runs.{AtRest, CanFork, IsFresh, Runs, anew, collects_now}
+use Rattle.hwp_cpu_command.specs.Runs.{AtRest, CanFork, IsFresh, Runs, RunsAs, anew, collects_now}
 use Rattle.hwp_cpu_command.specs.Stays.{IsAtStop}
 
 -- ---- what a task asks for never changes
@@ -392,6 +392,10 @@ denied-begun layout by command copies why banks collects j begun = subst (HasBeg
   told = tt;
   within = tt;
 })
+
+-- no other task is one of such an access
+pub runs-admitted : (layout : Layout) (by : Who) (command : Command) (copies : Option VSlot) (j : Job) → RunsAs layout by command copies j → denial_of j ≡ None
+runs-admitted layout by command copies j runs = sym (denial-anew j) ∙ (as-begun layout by command copies (banks_before j []) (collects_now j) (anew j) runs).denial
 
 -- what a guest says that doesn't admit it, by the answer that it was asked for
 abbrev pub said_by : Option Answer → Option Answer

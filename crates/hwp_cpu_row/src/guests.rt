@@ -201,9 +201,13 @@ fn guest_access(layout: &Layout, command: &Command) -> Option<GuestAccess>
     ensures { result ≡ guest_access layout.now command.now }
 {
     match *command {
-        Command::Load { thread, slot, line } | Command::Store { thread, slot, line, .. } => {
-            access_by(layout, thread, slot, line, Access::Plain, Mode::User)
-        }
+        Command::Load { thread, slot, line }
+        | Command::Store {
+            thread,
+            slot,
+            line,
+            ..
+        } => { access_by(layout, thread, slot, line, Access::Plain, Mode::User) }
         Command::Fetch { thread, slot, line } => {
             access_by(layout, thread, slot, line, Access::Fetch, Mode::User)
         }
