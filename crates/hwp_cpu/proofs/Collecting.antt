@@ -31,8 +31,7 @@ use Rattle.hwp_cpu_course.specs.hwp_cpu_row.hwp_script_lines.declared.Command.Th
 use Rattle.hwp_cpu_course.specs.hwp_cpu_command.declared.job.Job.TheVariants as kinds
 use Rattle.hwp_cpu_course.specs.hwp_cpu_row.hwp_report_text.declared.Answer.TheVariants as answers
 use Rattle.hwp_cpu_causes.proofs.DeniedCauses.{access-by, runs-kind}
-use Rattle.hwp_cpu_course.specs.hwp_cpu_command.declared.begin.LineAccess.{LineAccess}
-use Rattle.hwp_cpu_course.specs.hwp_cpu_command.Begins.{access_in}
+use Rattle.hwp_cpu_course.specs.hwp_cpu_row.hwp_law_commands.Commands.{Access, access_of}
 use Rattle.std.proofs.lemmas.Option.{none-some}
 use Rattle.hwp_cpu_course.proofs.of_hwp_cpu_command_laws.CommandRuns.{runs-admitted}
 
@@ -159,7 +158,7 @@ plain-copies layout who command j runs y is = which runs
     by (commands.Unpoison frame) r = no-kind (of-unpoison j r.job_is).1 refl
 
 -- no access is such a one
-no-collect : (command : Command) {at : LineAccess} → access_in command ≡ Some at → CanCollect command → ⊥
+no-collect : (command : Command) {at : Access} → access_of command ≡ Some at → CanCollect command → ⊥
 no-collect command is = access-by (λ (c : Command). CanCollect c → ⊥) (λ thread slot line can. can) (λ thread slot line can. can) (λ thread slot line can. can) (λ thread slot line word can. can) command is
 
 -- such a one copies nothing
