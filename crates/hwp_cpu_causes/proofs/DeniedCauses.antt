@@ -1,5 +1,5 @@
 -- Why an access that its guest doesn't admit is answered so: it looked whether the machine and its process go on, and did nothing else.
-use Rattle.std.proofs.Common.{◌≡◌, ℕ, ◌<◌, All, true, false, List, [], Option, Some, None, inl, inr, length, filter, slice_get, option_map, true≢false, refl, sym, ap, ◌∙◌, subst}
+use Rattle.std.proofs.Common.{◌≡◌, ℕ, ◌+◌, ◌<◌, arith, All, true, false, List, [], Option, Some, None, inl, inr, length, filter, slice_get, option_map, true≢false, refl, sym, ap, ◌∙◌, subst}
 use Rattle.std.specs.Prelude.{IsSomeAnd}
 use Rattle.std.proofs.lemmas.List.Elements.{All-get_or}
 use Rattle.std.proofs.lemmas.Option.{get_or_from_slice_get, none-some, same_Some, slice_get_within}
@@ -110,8 +110,8 @@ pub record KnowsDenied (layout : Layout) (view : View) (who : Who) (command : Co
   pub has : denieds.FitsOver view who task.process own
   pub answer_is : denied_answer task.why own ≡ answer
 
-pub knows-denied : {base : List Made} {layout : Layout} {view : View} {who : Who} {command : Command} {copies : Option VSlot} (j : Job) {a : Answer} → RunsDenied layout who command copies j → FitsFrom base layout view j → answer j ≡ Some a → KnowsDenied layout view who command copies j a
-knows-denied {base} {layout} {view} {who} {command} {copies} j {a} runs fits is = record {
+pub knows-denied : (base : List Made) {layout : Layout} {view : View} {who : Who} {command : Command} {copies : Option VSlot} (j : Job) {a : Answer} → RunsDenied layout who command copies j → FitsFrom base layout view j → answer j ≡ Some a → KnowsDenied layout view who command copies j a
+knows-denied base {layout} {view} {who} {command} {copies} j {a} runs fits is = record {
   task = task.0;
   job_is = task.1;
   why = runs.0;
@@ -226,9 +226,11 @@ module _ {layout : Layout} {view : View} {who : Who} (thread : Thread) (slot : V
   ended denials.Stopped answers.Denied saw = (record { process_is = process_is; saw = saw }, refl, refl)
 
   pub copying-by : IsCopyCaused layout view who thread from slot line word before [] a
+  unfolding has
   copying-by = record { page = names.0; process = process; has = has; ended = subst (IsCopyEnded layout view store copied.0 (sub_next store from word []) [] [] []) k.answer_is (ended k.task.why k.own k.has) }
 
   pub copying-told : IsCopyTold layout view who thread from slot line word before [] before
+  unfolding has
   copying-told = record {
     page = names.0;
     process = process;
