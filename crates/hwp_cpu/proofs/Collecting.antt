@@ -128,10 +128,6 @@ plain-copies layout who command j runs y is = which runs
     no-kind : {k : Job} → j ≡ k → is_copying k ≡ false → ⊥
     no-kind other none = true≢false (sym (ap is_copying is) ∙ ap is_copying other ∙ none)
 
-    which : Runs layout who command None j → ⊥
-    which (inl denied) = no-kind (runs-kind j denied).1 refl
-    which (inr r) = by command r
-
     by : (x : Command) → RunsAs layout who x None j → ⊥
     by (commands.Load thread slot line) r = no-kind (of-instruction j r.job_is).1 refl
     by (commands.Fetch thread slot line) r = no-kind (of-instruction j r.job_is).1 refl
@@ -156,6 +152,10 @@ plain-copies layout who command j runs y is = which runs
     by (commands.Inject frame) r = no-kind (of-inject j r.job_is).1 refl
     by (commands.Soft frame) r = no-kind (of-soft j r.job_is).1 refl
     by (commands.Unpoison frame) r = no-kind (of-unpoison j r.job_is).1 refl
+
+    which : Runs layout who command None j → ⊥
+    which (inl denied) = no-kind (runs-kind j denied).1 refl
+    which (inr r) = by command r
 
 -- no access is such a one
 no-collect : (command : Command) {at : Access} → access_of command ≡ Some at → CanCollect command → ⊥
