@@ -25,7 +25,7 @@ use Rattle.hwp_cpu_course.specs.hwp_cpu_row.hwp_law_commands.Commands.{access_of
 use Rattle.hwp_cpu_course.specs.hwp_cpu_row.hwp_law_commands.Guests.{GuestAccess, guest_access}
 use Rattle.hwp_cpu_course.specs.hwp_cpu_row.hwp_report_text.declared.Answer.{Answer}
 use Rattle.hwp_cpu_course.proofs.of_hwp_cpu_row.GuestListLaws.{denied-none, of-access}
-use Rattle.hwp_cpu_course.specs.hwp_cpu_command.Begins.{CanCopy, CanDeny, access_in}
+use Rattle.hwp_cpu_course.specs.hwp_cpu_command.Begins.{CanCopy, CanDeny}
 use Rattle.hwp_cpu_course.specs.hwp_cpu_command.Runs.{CanFork}
 
 module _ (layout : Layout) (twins : AreTwinsFit layout) where
@@ -77,7 +77,7 @@ copied-fits layout cpu cows (commands.Store thread slot line word) has = by ((co
 copied-fits layout cpu cows command has = tt
 
 -- only an access can be denied, and it is acted on as one
-access-stays : (layout : Layout) (cows : List Cow) (command : Command) (a : access.Access) → access_of command ≡ Some a → IsSome (access_in (acting_in layout cows command))
+access-stays : (layout : Layout) (cows : List Cow) (command : Command) (a : access.Access) → access_of command ≡ Some a → IsSome (access_of (acting_in layout cows command))
 access-stays layout cows (commands.Load thread slot line) a is = refl
 access-stays layout cows (commands.Fetch thread slot line) a is = refl
 access-stays layout cows (commands.KLoad thread slot line) a is = refl
@@ -91,7 +91,7 @@ begins-denied layout cows guests own acting denied is said = subst (λ (c : Comm
     which None none = subst (CanDeny (acting_in layout cows own)) (sym (denied-none layout guests own none)) tt
     which (Some g) some = let of = of-access layout own g some in by (denied_in layout guests own) (access-stays layout cows own of.0 of.1)
       where
-        by : (o : Option Answer) → IsSome (access_in (acting_in layout cows own)) → CanDeny (acting_in layout cows own) o
+        by : (o : Option Answer) → IsSome (access_of (acting_in layout cows own)) → CanDeny (acting_in layout cows own) o
         by None has = tt
         by (Some answer) has = has
 

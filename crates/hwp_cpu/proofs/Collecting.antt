@@ -31,8 +31,7 @@ use Rattle.hwp_cpu_course.specs.hwp_cpu_row.hwp_script_lines.declared.Command.Th
 use Rattle.hwp_cpu_course.specs.hwp_cpu_command.declared.job.Job.TheVariants as kinds
 use Rattle.hwp_cpu_course.specs.hwp_cpu_row.hwp_report_text.declared.Answer.TheVariants as answers
 use Rattle.hwp_cpu_causes.proofs.DeniedCauses.{access-by, runs-kind}
-use Rattle.hwp_cpu_course.specs.hwp_cpu_command.declared.begin.LineAccess.{LineAccess}
-use Rattle.hwp_cpu_course.specs.hwp_cpu_command.Begins.{access_in}
+use Rattle.hwp_cpu_course.specs.hwp_cpu_row.hwp_law_commands.Commands.{Access, access_of}
 use Rattle.std.proofs.lemmas.Option.{none-some}
 use Rattle.hwp_cpu_course.proofs.of_hwp_cpu_command_laws.CommandRuns.{runs-admitted}
 
@@ -129,10 +128,6 @@ plain-copies layout who command j runs y is = which runs
     no-kind : {k : Job} → j ≡ k → is_copying k ≡ false → ⊥
     no-kind other none = true≢false (sym (ap is_copying is) ∙ ap is_copying other ∙ none)
 
-    which : Runs layout who command None j → ⊥
-    which (inl denied) = no-kind (runs-kind j denied).1 refl
-    which (inr r) = by command r
-
     by : (x : Command) → RunsAs layout who x None j → ⊥
     by (commands.Load thread slot line) r = no-kind (of-instruction j r.job_is).1 refl
     by (commands.Fetch thread slot line) r = no-kind (of-instruction j r.job_is).1 refl
@@ -158,8 +153,12 @@ plain-copies layout who command j runs y is = which runs
     by (commands.Soft frame) r = no-kind (of-soft j r.job_is).1 refl
     by (commands.Unpoison frame) r = no-kind (of-unpoison j r.job_is).1 refl
 
+    which : Runs layout who command None j → ⊥
+    which (inl denied) = no-kind (runs-kind j denied).1 refl
+    which (inr r) = by command r
+
 -- no access is such a one
-no-collect : (command : Command) {at : LineAccess} → access_in command ≡ Some at → CanCollect command → ⊥
+no-collect : (command : Command) {at : Access} → access_of command ≡ Some at → CanCollect command → ⊥
 no-collect command is = access-by (λ (c : Command). CanCollect c → ⊥) (λ thread slot line can. can) (λ thread slot line can. can) (λ thread slot line can. can) (λ thread slot line word can. can) command is
 
 -- such a one copies nothing

@@ -8,7 +8,7 @@ use Rattle.std.proofs.Common.{arith, inl, subst, ◌≡◌, refl, true, length, 
 use Rattle.hwp_cpu_course.specs.hwp_cpu_row.hwp_core_rule.declared.View.{View}
 use Rattle.hwp_cpu_course.specs.hwp_cpu_row.hwp_law_commands.Commands.{is_kernels}
 use Rattle.hwp_cpu.proofs.BesideTurns.{at_rest, own-behind, told-behind, begins-beside, HasNotedAll, goes-behind, way-behind, taken-few}
-use Rattle.hwp_cpu.proofs.Collecting.{collects-plain, collect-fails, collect-left, collect-numbers, collect-halted}
+use Rattle.hwp_cpu.proofs.Collecting.{collects-plain, collects-undenied, collect-fails, collect-left, collect-numbers, collect-halted}
 use Rattle.hwp_cpu_course.specs.Dues.{next_due}
 use Rattle.hwp_cpu_course.specs.hwp_cpu_command.Jobs.{told_of}
 use Rattle.hwp_cpu.proofs.OwnRests.{HoldsNone, answer-known, AnswerKnown}

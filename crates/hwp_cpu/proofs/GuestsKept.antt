@@ -7,6 +7,9 @@ use Rattle.hwp_cpu_course.specs.hwp_cpu_row.hwp_geom.declared.Cpu.{Cpu}
 use Rattle.hwp_cpu_course.specs.hwp_cpu_row.hwp_geom.declared.Layout.{Layout}
 use Rattle.hwp_cpu_course.specs.hwp_cpu_row.hwp_geom.declared.Who.{Who}
 use Rattle.hwp_cpu_course.specs.hwp_cpu_row.hwp_geom.Layout.{IsSound}
+use Rattle.hwp_cpu_course.specs.hwp_cpu_row.hwp_page.declared.At.{At}
+use Rattle.hwp_cpu_course.specs.hwp_cpu_row.hwp_page.History.{BodyValue}
+use Rattle.hwp_cpu_course.specs.hwp_cpu_row.hwp_core_task.declared.Turn.{Turn}
 use Rattle.hwp_cpu_course.specs.hwp_cpu_row.hwp_script_lines.declared.Command.{Command}
 use Rattle.hwp_cpu_course.specs.hwp_cpu_row.hwp_script_read.Valid.{IsCommandOf}
 use Rattle.hwp_cpu_course.specs.hwp_cpu_row.hwp_report_text.declared.Answer.{Answer}
@@ -102,7 +105,7 @@ admitted-now layout view cpu list rows guests c j sound commands alike kept = wh
         (denied-known layout (answers_by list rows) guests own kept.known ∙ sym is ∙ sym alike ∙ none)
 
 -- so it can where it is answered, by a turn
-pub tells-now : (layout of : Layout) (o : Option Command) (guests : States) (c d : Course) (found : ℕ) (got : _) (turn : _) (a : Answer) → courses.Next of c found got d turn → IsAdmitted layout o guests c.own → courses.answer d ≡ Some a → MayTellOf layout o a guests
+pub tells-now : (layout of : Layout) (o : Option Command) (guests : States) (c d : Course) (found : ℕ) (got : Option BodyValue) (turn : Turn) (a : Answer) → courses.Next of c found got d turn → IsAdmitted layout o guests c.own → courses.answer d ≡ Some a → MayTellOf layout o a guests
 tells-now layout of o guests c d found got turn a next admitted is = which o admitted
   where
     answered : (b : Option Soft) → answer_of b d.own ≡ Some a → jobs.answer d.own ≡ Some a
@@ -116,7 +119,7 @@ tells-now layout of o guests c d found got turn a next admitted is = which o adm
     by own None none can = may-tell layout guests own a (can (sym alike ∙ none))
     by own (Some due) some can = quiet a (unsignalled d.own some (answered d.beside is))
       where
-        quiet : (y : Answer) → ((at : _) → y ≡ answers.Sigbus at → ⊥) → MayTell layout guests own y
+        quiet : (y : Answer) → ((at : At) → y ≡ answers.Sigbus at → ⊥) → MayTell layout guests own y
         quiet (answers.Sigbus at) none = absurd (none at refl)
         quiet y none = tt
 

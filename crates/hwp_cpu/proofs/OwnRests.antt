@@ -58,6 +58,7 @@ use Rattle.hwp_cpu_course.specs.hwp_cpu_command.Jobs as jobs
 use Rattle.hwp_cpu_course.specs.hwp_cpu_command.hwp_cpu_access.Instructions as instructions
 use Rattle.hwp_cpu_course.specs.hwp_cpu_command.hwp_cpu_access.Fits as instruction_fits
 use Rattle.hwp_cpu_course.proofs.of_hwp_cpu_command_laws.DeniedAnswers.{unmade-denied}
+use Rattle.hwp_cpu_course.specs.hwp_cpu_row.hwp_core_task.Known.{HasMadeNone}
 
 -- ---- it goes on
 

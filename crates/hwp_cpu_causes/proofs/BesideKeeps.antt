@@ -392,6 +392,8 @@ module _ {layout : Layout} {who : Who} {step : Step} {put : Option Log} {old new
   user-stays earlier thread ripv eipv told own (answers.Gone page) some gone has = absurd (some (gone page refl))
   user-stays earlier thread ripv eipv told own (answers.Sigbus at) some gone (inl none) = absurd none
   user-stays earlier thread ripv eipv told own (answers.Sigbus at) some gone (inr none) = absurd none
+  user-stays earlier thread ripv eipv told own answers.GuestBad some gone has = absurd has.1
+  user-stays earlier thread ripv eipv told own answers.GuestStopped some gone has = absurd has.1
   user-stays earlier thread ripv eipv told own _ some gone has = absurd has
 
   kernel-stays : (earlier : List (Command × Answer)) (ripv eipv : Bool) (told : List EventOutcome) (own : Option FrameChange) (answer : Answer)
@@ -400,6 +402,8 @@ module _ {layout : Layout} {who : Who} {step : Step} {put : Option Log} {old new
   kernel-stays earlier ripv eipv told own (answers.Raised n) has = raised-stays (commands.RaiseKernel ripv eipv) told n has
   kernel-stays earlier ripv eipv told own (answers.Sigbus at) (inl none) = absurd none
   kernel-stays earlier ripv eipv told own (answers.Sigbus at) (inr none) = absurd none
+  kernel-stays earlier ripv eipv told own answers.GuestBad has = absurd has.1
+  kernel-stays earlier ripv eipv told own answers.GuestStopped has = absurd has.1
   kernel-stays earlier ripv eipv told own _ has = absurd has
 
   visits-caused : (earlier : List (Command × Answer)) (first last : Frame) (told : List EventOutcome) (own : Option FrameChange) (answer : Answer)
@@ -408,6 +412,8 @@ module _ {layout : Layout} {who : Who} {step : Step} {put : Option Log} {old new
   visits-caused earlier first last told own (answers.Scrubbed n) has = raised-stays (commands.Scrub first last) told n has
   visits-caused earlier first last told own (answers.Sigbus at) (inl none) = absurd none
   visits-caused earlier first last told own (answers.Sigbus at) (inr none) = absurd none
+  visits-caused earlier first last told own answers.GuestBad has = absurd has.1
+  visits-caused earlier first last told own answers.GuestStopped has = absurd has.1
   visits-caused earlier first last told own _ has = absurd has
 
   -- a machine check is not told of where the process had ended

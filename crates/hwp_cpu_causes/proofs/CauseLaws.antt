@@ -68,6 +68,6 @@ copying-caused layout view who command from j kept runs fits is = absurd runs
 
 pub caused : (layout : Layout) (earlier : List (Command × Answer)) (copied : Option VSlot) (view : View) (who : Who) (command : Command) (j : Job) {a : Answer} (base : List Made) (kept : Banks) → Runs layout who command copied j → FitsFrom base layout view j → ArePriorWith layout command copied base
     → answer j ≡ Some a → AreCounted (λ (t : Thread). settings layout t earlier) view j → (handles : List ℕ) → HasHandle handles j → IsCausedWith layout earlier copied view who command (banks_before j kept) (told_of j) (own_of j) a
-caused layout earlier copied view who command j base kept (inl denied) fits prior is counted handles has = denied-caused earlier copied j kept (knows-denied j denied fits is)
+caused layout earlier copied view who command j base kept (inl denied) fits prior is counted handles has = denied-caused earlier copied j kept (knows-denied base j denied fits is)
 caused layout earlier None view who command j base kept (inr runs) fits prior is counted handles has = plain-caused layout earlier view who command j base runs fits prior is counted handles has
 caused layout earlier (Some from) view who command j base kept (inr runs) fits prior is counted handles has = copying-caused layout view who command from j kept runs (from-none layout view j prior fits) is

@@ -112,7 +112,7 @@ copying-tells layout view who command from j kept runs fits is = absurd runs
 pub tells : (layout : Layout) (copied : Option VSlot) (view : View) (who : Who) (command : Command) (j : Job) {a : Answer} (base : List Made) (kept : Banks) → Runs layout who command copied j → FitsFrom base layout view j → ArePriorWith layout command copied base → answer j ≡ Some a
     → TellsRight layout copied view who command j a kept
 tells layout copied view who command j base kept (inl denied) fits prior is = record {
-  told = denied-told copied j kept (knows-denied j denied fits is);
+  told = denied-told copied j kept (knows-denied base j denied fits is);
   heeded = λ halted. absurd (true≢false (sym halted ∙ ap (λ (q : Job). halts (told_of q)) (runs-kind j denied).1));
 }
 tells layout None view who command j base kept (inr runs) fits prior is = plain-tells layout view who command j base kept runs fits prior is

@@ -1,5 +1,5 @@
 -- Why an access that its guest doesn't admit is answered so: it looked whether the machine and its process go on, and did nothing else.
-use Rattle.std.proofs.Common.{◌≡◌, ℕ, ◌<◌, All, true, false, List, [], Option, Some, None, inl, inr, length, filter, slice_get, option_map, true≢false, refl, sym, ap, ◌∙◌, subst}
+use Rattle.std.proofs.Common.{◌≡◌, ℕ, ◌+◌, ◌<◌, arith, All, true, false, List, [], Option, Some, None, inl, inr, length, filter, slice_get, option_map, true≢false, refl, sym, ap, ◌∙◌, subst}
 use Rattle.std.specs.Prelude.{IsSomeAnd}
 use Rattle.std.proofs.lemmas.List.Elements.{All-get_or}
 use Rattle.std.proofs.lemmas.Option.{get_or_from_slice_get, none-some, same_Some, slice_get_within}
@@ -27,7 +27,7 @@ use Rattle.hwp_law_served.specs.hwp_report_text.declared.Answer.TheVariants as r
 use Rattle.hwp_law_served.specs.hwp_banks.Banks.{Banks}
 use Rattle.hwp_law_served.specs.hwp_banks.declared.Origin.{Origin}
 use Rattle.hwp_law_served.specs.hwp_geom.declared.Mode.{Mode}
-use Rattle.hwp_law_served.specs.hwp_law_commands.Commands.{is_check, process_of_thread}
+use Rattle.hwp_law_served.specs.hwp_law_commands.Commands.{Access, access_of, is_check, process_of_thread}
 use Rattle.hwp_law_served.specs.hwp_cpu_check.declared.EventOutcome.{EventOutcome}
 use Rattle.hwp_law_served.specs.Causes.{FoundGone, HasOnlyBegun, IsAnswerCaused, IsCausedWith, SawProcess, WasDenied}
 use Rattle.hwp_law_served.specs.Copied.{HasCopied, IsCopyCaused, IsCopyEnded, IsCopyTold, IsLeft, store_by, sub_next}
@@ -45,9 +45,8 @@ use Rattle.hwp_cpu_command.specs.hwp_fault.Accesses.{IsDeclared}
 use Rattle.hwp_cpu_command.specs.hwp_cpu_copy.Copyings.{load_of}
 use Rattle.hwp_cpu_command.specs.declared.Job.{Job}
 use Rattle.hwp_cpu_command.specs.declared.Job.TheVariants as jobs
-use Rattle.hwp_cpu_command.specs.declared.begin.LineAccess.{LineAccess}
 use Rattle.hwp_cpu_command.specs.Answers.{denied_answer}
-use Rattle.hwp_cpu_command.specs.Begins.{IsDenied, access_in, request_of}
+use Rattle.hwp_cpu_command.specs.Begins.{IsDenied, request_of}
 use Rattle.hwp_cpu_command.specs.Jobs.{FitsFrom, answer, banks_after, banks_before, own_of, told_of}
 use Rattle.hwp_cpu_command.specs.Runs.{RunsDenied, anew}
 use Rattle.hwp_cpu_command.specs.Settings.{policies_now}
@@ -111,8 +110,8 @@ pub record KnowsDenied (layout : Layout) (view : View) (who : Who) (command : Co
   pub has : denieds.FitsOver view who task.process own
   pub answer_is : denied_answer task.why own ≡ answer
 
-pub knows-denied : {base : List Made} {layout : Layout} {view : View} {who : Who} {command : Command} {copies : Option VSlot} (j : Job) {a : Answer} → RunsDenied layout who command copies j → FitsFrom base layout view j → answer j ≡ Some a → KnowsDenied layout view who command copies j a
-knows-denied {base} {layout} {view} {who} {command} {copies} j {a} runs fits is = record {
+pub knows-denied : (base : List Made) {layout : Layout} {view : View} {who : Who} {command : Command} {copies : Option VSlot} (j : Job) {a : Answer} → RunsDenied layout who command copies j → FitsFrom base layout view j → answer j ≡ Some a → KnowsDenied layout view who command copies j a
+knows-denied base {layout} {view} {who} {command} {copies} j {a} runs fits is = record {
   task = task.0;
   job_is = task.1;
   why = runs.0;
@@ -139,7 +138,7 @@ knows-denied {base} {layout} {view} {who} {command} {copies} j {a} runs fits is 
 
 -- what is so of each access is so of a command that is one
 pub access-by : (P : Command → Type 0) → ((thread : Thread) (slot : VSlot) (line : ℕ) → P (commands.Load thread slot line)) → ((thread : Thread) (slot : VSlot) (line : ℕ) → P (commands.Fetch thread slot line))
-    → ((thread : Thread) (slot : VSlot) (line : ℕ) → P (commands.KLoad thread slot line)) → ((thread : Thread) (slot : VSlot) (line word : ℕ) → P (commands.Store thread slot line word)) → (command : Command) {at : LineAccess} → access_in command ≡ Some at → P command
+    → ((thread : Thread) (slot : VSlot) (line : ℕ) → P (commands.KLoad thread slot line)) → ((thread : Thread) (slot : VSlot) (line word : ℕ) → P (commands.Store thread slot line word)) → (command : Command) {at : Access} → access_of command ≡ Some at → P command
 access-by P load fetch kload store (commands.Load thread slot line) is = load thread slot line
 access-by P load fetch kload store (commands.Fetch thread slot line) is = fetch thread slot line
 access-by P load fetch kload store (commands.KLoad thread slot line) is = kload thread slot line
@@ -160,8 +159,8 @@ module _ {layout : Layout} {view : View} {who : Who} (earlier : List (Command ×
     goes saw = record { process = process; process_is = process_is; saw = saw }
 
   -- the access names this thread
-  of-thread : {command : Command} {copies : Option VSlot} {j : Job} {a : Answer} (k : KnowsDenied layout view who command copies j a) {at : LineAccess} → access_in command ≡ Some at → process_of_thread layout at.thread ≡ Some k.task.process
-  of-thread k is = ap (λ (x : LineAccess). process_of_thread layout x.thread) (same_Some _ _ (sym is ∙ k.begun.access)) ∙ k.process_is
+  of-thread : {command : Command} {copies : Option VSlot} {j : Job} {a : Answer} (k : KnowsDenied layout view who command copies j a) {at : Access} → access_of command ≡ Some at → process_of_thread layout at.thread ≡ Some k.task.process
+  of-thread k is = ap (λ (x : Access). process_of_thread layout x.thread) (same_Some _ _ (sym is ∙ k.begun.access)) ∙ k.process_is
 
   plain-by : (command : Command) {j : Job} {a : Answer} {copies : Option VSlot} → KnowsDenied layout view who command copies j a → IsAnswerCaused layout earlier view who command told None a
   plain-by command {j} {a} {copies} k = access-by (λ (c : Command). KnowsDenied layout view who c copies j a → IsAnswerCaused layout earlier view who c told None a)
@@ -227,9 +226,11 @@ module _ {layout : Layout} {view : View} {who : Who} (thread : Thread) (slot : V
   ended denials.Stopped answers.Denied saw = (record { process_is = process_is; saw = saw }, refl, refl)
 
   pub copying-by : IsCopyCaused layout view who thread from slot line word before [] a
+  unfolding has
   copying-by = record { page = names.0; process = process; has = has; ended = subst (IsCopyEnded layout view store copied.0 (sub_next store from word []) [] [] []) k.answer_is (ended k.task.why k.own k.has) }
 
   pub copying-told : IsCopyTold layout view who thread from slot line word before [] before
+  unfolding has
   copying-told = record {
     page = names.0;
     process = process;

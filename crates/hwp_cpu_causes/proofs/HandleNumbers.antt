@@ -24,14 +24,14 @@ use Rattle.hwp_law_served.specs.Handles.{KnowsNumber}
 use Rattle.hwp_cpu_command.specs.declared.Job.{Job}
 use Rattle.hwp_cpu_command.specs.declared.Job.TheVariants as jobs
 use Rattle.hwp_cpu_command.specs.Answers.{fsync_answer}
-use Rattle.hwp_cpu_command.specs.Begins.{BeginsFsync, access_in}
+use Rattle.hwp_cpu_command.specs.Begins.{BeginsFsync}
 use Rattle.hwp_cpu_command.specs.FileHandles.{HasHandle, IsToldBy, handles_after}
 use Rattle.hwp_cpu_command.specs.Jobs.{FitsFrom, answer}
 use Rattle.hwp_cpu_command.specs.Runs.{Runs, RunsAs, RunsDenied, anew}
 use Rattle.hwp_cpu_command.proofs.JobEnds.{fsync-over, mapped}
 use Rattle.hwp_cpu_command.proofs.OfKind.{of-copying, of-evict, of-fork, of-fsync, of-inject, of-instruction, of-log, of-nested, of-prctl, of-raise, of-scrub, of-soft, of-spoil, of-unpoison}
 use Rattle.hwp_cpu_causes.proofs.DeniedCauses.{access-by, runs-kind}
-use Rattle.hwp_cpu_command.specs.declared.begin.LineAccess.{LineAccess}
+use Rattle.hwp_law_served.specs.hwp_law_commands.Commands.{Access, access_of}
 
 -- a handle that had the number m has the number that the answer gives it; where the answer tells it, it was shown
 pub record IsNumbered (layout : Layout) (view : View) (who : Who) (command : Command) (a : Answer) (file : FileNo) (m : ℕ) (after : List ℕ) : Type 0 where
@@ -144,7 +144,7 @@ inside layout who (commands.Open other) j a file runs is = subst (λ (n : ℕ). 
 inside layout who _ j a file runs is = absurd (both_ways false refl is)
 
 -- an access tells none
-untold-denied : (command : Command) (a : Answer) (file : FileNo) {at : LineAccess} → access_in command ≡ Some at → tells_number file command a ≡ false
+untold-denied : (command : Command) (a : Answer) (file : FileNo) {at : Access} → access_of command ≡ Some at → tells_number file command a ≡ false
 untold-denied command a file is = access-by (λ (c : Command). tells_number file c a ≡ false) (λ thread slot line. refl) (λ thread slot line. refl) (λ thread slot line. refl) (λ thread slot line word. refl) command is
 
 pub tells-inside : (layout : Layout) (who : Who) (command : Command) (copied : Option VSlot) (j : Job) (a : Answer) (file : FileNo) → Runs layout who command copied j → tells_number file command a ≡ true → file.0 < layout.files

@@ -25,7 +25,7 @@ use Rattle.hwp_cpu_row.specs.hwp_script_lines.declared.Command.TheVariants as co
 use Rattle.hwp_cpu_row.specs.hwp_script_lines.declared.PrctlArgs.{PrctlArgs}
 use Rattle.hwp_cpu_row.specs.hwp_script_read.Valid.{IsAccess, IsCommandOf}
 use Rattle.hwp_cpu_row.specs.hwp_banks.Banks.{Banks}
-use Rattle.hwp_cpu_row.specs.hwp_law_commands.Commands.{arrival_of, process_of_thread}
+use Rattle.hwp_cpu_row.specs.hwp_law_commands.Commands.{Access, access_of, arrival_of, process_of_thread}
 use Rattle.hwp_cpu_row.specs.hwp_report_text.declared.Answer.{Answer}
 use Rattle.hwp_cpu_row.specs.hwp_report_text.declared.Answer.TheVariants as answers
 use Rattle.hwp_cpu_row.specs.hwp_banks.Banks.{raw_event}
@@ -271,8 +271,8 @@ pub record IsDenied (layout : Layout) (who : Who) (command : Command) (copies : 
   pub sound : IsSound layout
   pub named : IsCommandOf layout who.cpu.0 command
   pub can_copy : CanCopy layout who.cpu.0 command copies
-  pub at : LineAccess
-  pub access : access_in command ≡ Some at
+  pub at : Access
+  pub access : access_of command ≡ Some at
   pub process : Proc
   pub process_is : process_of_thread layout at.thread ≡ Some process
   pub within : process.0 < layout.procs
@@ -293,4 +293,4 @@ BeginsWith layout who command copies (Some answer) banks collects j = BeginsDeni
 -- only an access can be denied
 abbrev pub CanDeny : Command → Option Answer → Type 0
 CanDeny command None = Unit {0}
-CanDeny command (Some answer) = IsSome (access_in command)
+CanDeny command (Some answer) = IsSome (access_of command)

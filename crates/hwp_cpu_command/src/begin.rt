@@ -7,7 +7,7 @@ ghost use Rattle.hwp_cpu_row.specs.hwp_script_read.Valid.{IsAccess, IsCommandOf,
 ghost use Rattle.hwp_cpu_row.specs.hwp_banks.Banks.{Banks, empty_banks};
 ghost use Rattle.hwp_cpu_row.specs.hwp_banks.Banks.{raw_event};
 ghost use Rattle.hwp_cpu_row.specs.Locals.{collects, number_in};
-ghost use Rattle.hwp_cpu_row.specs.hwp_law_commands.Commands.{process_of_thread};
+ghost use Rattle.hwp_cpu_row.specs.hwp_law_commands.Commands.{access_of, process_of_thread};
 ghost use Rattle.hwp_cpu_row.specs.hwp_law_commands.Settings.{arguments};
 ghost use Rattle.hwp_cpu_control.specs.Nesteds as nesteds;
 ghost use Rattle.hwp_cpu_control.specs.Spoils as spoils;
@@ -123,7 +123,7 @@ fn collects(watching: &Option<Watching>) -> bool
 fn deny(layout: &Layout, who: Who, command: &Command, answer: Answer, job: &mut Job)
     requires sound { IsSound layout.now }
     requires of { IsCommandOf layout.now who.cpu.0 command.now }
-    requires access { IsSome (access_in command.now) }
+    requires access { IsSome (access_of command.now) }
     ensures begins { IsDeniedAnyhow layout.now who command.now answer job.new }
     ensures handle { (handles : List ℕ) → HasHandle handles job.new }
     ensures banks { (banks : Banks) → left_in job.new banks ≡ banks }
