@@ -31,6 +31,7 @@ fn two_processors(rt: &impl Abort, alloc: Global) -> Layout
         pages: List::new(alloc),
         trans: List::new(alloc),
         locked: List::new(alloc),
+        twins: List::new(alloc),
     }
 }
 
