@@ -128,7 +128,7 @@ module _ (script : Script) (report : Report) where
         let are : made ≡ acting_from script.layout [] w.0 (answers_to w.0 rows) = sym w.2 ∙ ap (acting_from script.layout [] w.0) (given-is cpu.0 w.0 rows of_report) in
         let pairs = answered-acted script.layout w.0 rows in
         let q = to-script script.layout file [] w.0 (answers_to w.0 rows) i p
-            (sym (ap (λ (l : Pairs). slice_get {X = Command × Answer} l i) pairs) ∙ subst (λ (l : List Command). slice_get {X = Command × Answer} (answered l rows) i ≡ Some p) are there) in
+        (sym (ap (λ (l : Pairs). slice_get {X = Command × Answer} l i) pairs) ∙ subst (λ (l : List Command). slice_get {X = Command × Answer} (answered l rows) i ≡ Some p) are there) in
         subst (λ (l : List Command). IsNumber (acting_script script report) report file cpu (answered l rows) i) (sym are)
         (same-number script (acting_script script report) report file cpu (answered w.0 rows) (answered (acting_from script.layout [] w.0 (answers_to w.0 rows)) rows) i refl
         (λ k. sym (ap (λ (l : Pairs). numbers_after file 0 (take k l)) pairs ∙ numbers-acted script.layout file k [] w.0 (answers_to w.0 rows) 0)) (losses.numbers file cpu w.0 rows within w.1 of_report i q.0 q.1 (q.2 ∙ tells)));
