@@ -15,4 +15,3 @@ mod Places
 mod Processors
 mod Reports
 mod OfflinedOrder
-mod AnswerCounts
