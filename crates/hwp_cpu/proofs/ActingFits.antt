@@ -2,7 +2,7 @@
 -- which it stands.
 use Rattle.hwp_cpu.specs.Processors.{AreCommands}
 use Rattle.hwp_cpu_course.specs.hwp_cpu_row.hwp_geom.declared.Cpu.{Cpu}
-use Rattle.std.proofs.Common.{◌≡◌, ◌≢◌, ℕ, ◌<◌, ◌&&◌, not, All, Bool, true, false, List, Option, Some, None, length, slice_get, if◌then◌else◌, refl, sym, ap, ◌∙◌, subst}
+use Rattle.std.proofs.Common.{◌≡◌, ◌≢◌, ℕ, ◌<◌, ◌&&◌, not, All, Bool, true, false, List, Option, Some, None, length, slice_get, if◌then◌else◌, refl, sym, ◌∙◌, subst}
 use Rattle.std.specs.Prelude.{IsSome, IsSomeAnd, unwrap_or}
 use Rattle.std.proofs.lemmas.List.Elements.{All-get_or}
 use Rattle.std.proofs.lemmas.Option.{get_or_from_slice_get, none-some, slice_get_within}
@@ -16,7 +16,7 @@ use Rattle.hwp_cpu_course.specs.hwp_cpu_row.hwp_geom.declared.Who.{Who}
 use Rattle.hwp_cpu_course.specs.hwp_cpu_row.hwp_core_rule.declared.View.{View}
 use Rattle.hwp_cpu_course.specs.hwp_cpu_row.hwp_script_lines.declared.Command.{Command}
 use Rattle.hwp_cpu_course.specs.hwp_cpu_row.hwp_script_lines.declared.Command.TheVariants as commands
-use Rattle.hwp_cpu_course.specs.hwp_cpu_row.hwp_script_read.Valid.{ArePaired, AreTwinsFit, IsAccess, IsAnon, IsCommandOf}
+use Rattle.hwp_cpu_course.specs.hwp_cpu_row.hwp_script_read.Valid.{AreTwinsFit, IsAccess, IsAnon, IsCommandOf}
 use Rattle.hwp_cpu_course.specs.hwp_cpu_row.hwp_law_commands.Cows.{Cow, twin_or}
 use Rattle.hwp_cpu_course.specs.hwp_cpu_row.CowLists.{acting_in, copied_in, cow_in}
 use Rattle.hwp_cpu_course.specs.hwp_cpu_row.GuestLists.{States, denied_in}

@@ -13,7 +13,7 @@ use Rattle.hwp_cpu_course.specs.Dues.{next_due}
 use Rattle.hwp_cpu_course.specs.hwp_cpu_command.Jobs.{told_of}
 use Rattle.hwp_cpu.proofs.OwnRests.{HoldsNone, answer-known, AnswerKnown}
 use Rattle.std.proofs.lemmas.List.{take_all, length-map}
-use Rattle.hwp_cpu.specs.Serving.{Pauses, KeepsWatch, noting, IsUnderWay, HasAnswered, noted_by, IsRunning, IsPaused, GivesUp, OwnGoesOn, Rests}
+use Rattle.hwp_cpu.specs.Serving.{Pauses, KeepsWatch, noting, IsUnderWay, HasAnswered, noted_by, IsRunning, GivesUp, OwnGoesOn, Rests}
 use Rattle.hwp_cpu_course.specs.hwp_cpu_row.declared.Offlining.{Offlining}
 use Rattle.hwp_cpu_causes.specs.hwp_law_served.Offlinings.{watched_at, left_beside}
 use Rattle.hwp_cpu_causes.specs.hwp_law_served.Causes.{IsAnswerCaused}

@@ -39,7 +39,7 @@ use Rattle.hwp_cpu_causes.specs.hwp_law_served.Handles.{answers_by, number_at}
 use Rattle.hwp_cpu.proofs.ProcessorNotes.{no-loss, failed-end}
 use Rattle.hwp_cpu.proofs.EachKind.{on-turn}
 use Rattle.hwp_cpu_course.specs.hwp_cpu_command.declared.job.Job.{Job}
-use Rattle.hwp_cpu_causes.specs.hwp_law_served.Offlinings.{left_beside, left_among, left_by, left_itself}
+use Rattle.hwp_cpu_causes.specs.hwp_law_served.Offlinings.{left_beside, left_by, left_itself}
 use Rattle.hwp_cpu_course.specs.hwp_cpu_command.hwp_cpu_access.declared.instruction.Pause.{Pause}
 use Rattle.hwp_cpu_course.specs.hwp_cpu_row.hwp_geom.declared.Who.{Who}
 use Rattle.hwp_cpu_course.specs.hwp_cpu_row.hwp_core_rule.declared.Made.{Made}

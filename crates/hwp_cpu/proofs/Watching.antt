@@ -18,7 +18,6 @@ use Rattle.hwp_cpu_course.specs.hwp_cpu_command.hwp_cpu_raise.declared.Log.{Log}
 use Rattle.hwp_cpu_course.specs.Courses.{begin, IsOfMachine}
 use Rattle.hwp_cpu_causes.specs.hwp_law_served.Offlinings.{KnowsDue, left_among, watched_at, AreDue, watched_along}
 use Rattle.hwp_cpu.specs.Serving.{noting, HasToldAll, OwnGoesOn, KeepsWatch, left_so_far}
-use Rattle.hwp_cpu_causes.specs.Beside.{ArePriorWith}
 use Rattle.hwp_cpu_course.specs.hwp_cpu_command.Runs.{Runs, RunsAs, RunsDenied}
 use Rattle.hwp_cpu_course.specs.hwp_cpu_row.hwp_law_commands.Commands.{is_watch}
 use Rattle.std.proofs.lemmas.List.{take-append-le, take_all, length-append, length-map, length-replicate, get_or-replicate}

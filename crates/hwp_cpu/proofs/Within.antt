@@ -1,11 +1,10 @@
 -- What each task of a command keeps, a command keeps whatever its course comes to: so the numbers of a collector that it begins stay within
 -- their limits, and so it stays denied, if it is.
-use Rattle.std.proofs.Common.{◌≡◌, false, ℕ, Option, true, subst, None, Bool, inr, Some, refl, sym, ap, ◌∙◌, inl}
+use Rattle.std.proofs.Common.{◌≡◌, false, ℕ, Option, true, subst, None, Bool, inr, Some, refl, sym, ◌∙◌, inl}
 use Rattle.hwp_cpu_course.specs.hwp_cpu_row.declared.Watching.{Watching}
 use Rattle.hwp_cpu_course.proofs.of_hwp_cpu_command_laws.Beside.{give-up-within, behind-within, within-stays}
 use Rattle.hwp_cpu_course.proofs.of_hwp_cpu_command_laws.DeniedAnswers.{denial-bare, denial-behind, denial-next, denial-up}
 use Rattle.hwp_cpu_course.specs.hwp_cpu_row.hwp_geom.declared.Layout.{Layout}
-use Rattle.hwp_cpu_course.specs.hwp_cpu_row.hwp_report_text.declared.Answer.{Answer}
 use Rattle.hwp_cpu_course.specs.hwp_cpu_command.hwp_soft.declared.Soft.{Soft}
 use Rattle.hwp_cpu_course.specs.Courses.{AfterRestBy, AfterOwn, AfterOwnIf, rests, AfterCollectingBy, AfterOwnBy, bare_of, going_on, IsGoingOn, AfterSoft, with_result, has_more}
 use Rattle.hwp_cpu_course.specs.hwp_cpu_row.hwp_geom.declared.Frame.{Frame}

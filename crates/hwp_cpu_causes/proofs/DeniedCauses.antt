@@ -1,5 +1,5 @@
 -- Why an access that its guest doesn't admit is answered so: it looked whether the machine and its process go on, and did nothing else.
-use Rattle.std.proofs.Common.{◌≡◌, ℕ, ◌+◌, ◌<◌, arith, All, true, false, List, [], Option, Some, None, inl, inr, length, filter, slice_get, option_map, true≢false, refl, sym, ap, ◌∙◌, subst}
+use Rattle.std.proofs.Common.{◌≡◌, ℕ, ◌+◌, ◌<◌, arith, List, [], Option, Some, None, inl, inr, length, filter, slice_get, option_map, refl, sym, ap, ◌∙◌, subst}
 use Rattle.std.specs.Prelude.{IsSomeAnd}
 use Rattle.std.proofs.lemmas.List.Elements.{All-get_or}
 use Rattle.std.proofs.lemmas.Option.{get_or_from_slice_get, none-some, same_Some, slice_get_within}
@@ -14,23 +14,21 @@ use Rattle.hwp_law_served.specs.hwp_geom.declared.Who.{Who}
 use Rattle.hwp_law_served.specs.hwp_geom.Layout.{IsSound}
 use Rattle.hwp_law_served.specs.hwp_geom.Limits.{line_limit}
 use Rattle.hwp_law_served.specs.hwp_page.Step.{IsOf}
-use Rattle.hwp_law_served.specs.hwp_page.declared.What.{What}
 use Rattle.hwp_law_served.specs.hwp_core_rule.declared.Made.{Made}
 use Rattle.hwp_law_served.specs.hwp_core_rule.declared.SharedWord.TheVariants as places
 use Rattle.hwp_law_served.specs.hwp_core_rule.declared.View.{View}
-use Rattle.hwp_law_served.specs.hwp_core_task.Known.{HasMadeNone, Saw, such_deeds}
+use Rattle.hwp_law_served.specs.hwp_core_task.Known.{HasMadeNone, Saw}
 use Rattle.hwp_law_served.specs.hwp_script_lines.declared.Command.{Command}
 use Rattle.hwp_law_served.specs.hwp_script_lines.declared.Command.TheVariants as commands
 use Rattle.hwp_law_served.specs.hwp_script_read.Valid.{IsAccess}
 use Rattle.hwp_law_served.specs.hwp_report_text.declared.Answer.{Answer}
-use Rattle.hwp_law_served.specs.hwp_report_text.declared.Answer.TheVariants as report_answers
 use Rattle.hwp_law_served.specs.hwp_banks.Banks.{Banks}
 use Rattle.hwp_law_served.specs.hwp_banks.declared.Origin.{Origin}
 use Rattle.hwp_law_served.specs.hwp_geom.declared.Mode.{Mode}
 use Rattle.hwp_law_served.specs.hwp_law_commands.Commands.{Access, access_of, is_check, process_of_thread}
 use Rattle.hwp_law_served.specs.hwp_cpu_check.declared.EventOutcome.{EventOutcome}
-use Rattle.hwp_law_served.specs.Causes.{FoundGone, HasOnlyBegun, IsAnswerCaused, IsCausedWith, SawProcess, WasDenied}
-use Rattle.hwp_law_served.specs.Copied.{HasCopied, IsCopyCaused, IsCopyEnded, IsCopyTold, IsLeft, store_by, sub_next}
+use Rattle.hwp_law_served.specs.Causes.{FoundGone, HasOnlyBegun, IsAnswerCaused, IsCausedWith, SawProcess}
+use Rattle.hwp_law_served.specs.Copied.{HasCopied, IsCopyCaused, IsCopyEnded, IsCopyTold, store_by, sub_next}
 use Rattle.hwp_law_served.specs.Told.{AreToldWith, IsAccessTold}
 use Rattle.hwp_cpu_command.specs.hwp_cpu_control.declared.Denial.{Denial}
 use Rattle.hwp_cpu_command.specs.hwp_cpu_control.declared.Denial.TheVariants as denials
@@ -49,7 +47,6 @@ use Rattle.hwp_cpu_command.specs.Answers.{denied_answer}
 use Rattle.hwp_cpu_command.specs.Begins.{IsDenied, request_of}
 use Rattle.hwp_cpu_command.specs.Jobs.{FitsFrom, answer, banks_after, banks_before, own_of, told_of}
 use Rattle.hwp_cpu_command.specs.Runs.{RunsDenied, anew}
-use Rattle.hwp_cpu_command.specs.Settings.{policies_now}
 use Rattle.hwp_cpu_command.proofs.JobEnds.{denied-over, mapped}
 use Rattle.hwp_cpu_command.proofs.OfKind.{of-denied}
 use Rattle.hwp_cpu_causes.proofs.StopCauses.{found-stopped, only-none}

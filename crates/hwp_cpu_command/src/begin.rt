@@ -19,7 +19,7 @@ ghost use Rattle.hwp_evict.specs.Fsyncs as fsyncs;
 ghost use Rattle.hwp_cpu_raise.specs.declared.LocalChange.TheVariants as changes;
 ghost use Rattle.hwp_cpu_raise.specs.Logs as logs;
 ghost use Rattle.hwp_cpu_raise.specs.Raises as raises;
-ghost use Rattle.hwp_cpu_command.specs.Begins.{Begins, BeginsCopy, BeginsFork, BeginsLine, BeginsPrctl, BeginsRaiseUser, BeginsWith, CanCopy, CanCopyFrom, CanDeny, IsDeniedAnyhow, access_in, begun_access, denial_by, is_raise, line_access, request_of};
+ghost use Rattle.hwp_cpu_command.specs.Begins.{Begins, BeginsAs, BeginsCopy, BeginsFork, BeginsLine, BeginsPrctl, BeginsRaiseUser, BeginsWith, CanCopy, CanCopyFrom, CanDeny, IsDeniedAnyhow, access_in, begun_access, denial_by, is_raise, line_access, request_of};
 ghost use Rattle.hwp_cpu_command.specs.FileHandles.{HasHandle, local_left};
 ghost use Rattle.hwp_cpu_command.specs.Jobs.{left_in};
 ghost use Rattle.hwp_cpu_command.specs.declared.job.Job.TheVariants as jobs;
@@ -85,10 +85,29 @@ impl Job {
         ensures handle { HasHandle local.old.handles self.new }
         ensures local { local.new ≡ local_left self.new local.old }
     {
-        if let Some(answer) = denied {
-            deny(layout, who, &command, answer, self);
-            return;
+        match denied {
+            Some(answer) => deny(layout, who, &command, answer, self),
+            None => self.begin_own(alloc, layout, who, command, copies, local),
         }
+    }
+
+    /// The same of a command that no guest denies.
+    fn begin_own(
+        &mut self,
+        alloc: Global,
+        layout: &Layout,
+        who: Who,
+        command: Command,
+        copies: Option<VSlot>,
+        local: &mut Local,
+    )
+        requires sound { IsSound layout.now }
+        requires of { IsCommandOf layout.now who.cpu.0 command }
+        requires copies { CanCopy layout.now who.cpu.0 command copies }
+        ensures begins { BeginsAs layout.now who command copies local.old.banks (collects local.old.watching) self.new }
+        ensures handle { HasHandle local.old.handles self.new }
+        ensures local { local.new ≡ local_left self.new local.old }
+    {
         let collects = collects(&local.watching);
         let banks = &mut local.banks;
         match copies {
