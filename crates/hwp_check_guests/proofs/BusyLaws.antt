@@ -26,7 +26,7 @@ fold-all f xs n first last past so = sym (ap (fold f last) (drop_all n xs past))
 
 -- ---- what is flagged
 
-is_some_event : List EventLine → Bool
+abbrev is_some_event : List EventLine → Bool
 is_some_event [] = false
 is_some_event (x ∷ xs) = true
 

@@ -71,8 +71,8 @@ line-is seq a line is = λ i. record {
     rest : (has_event a line ≡ true) × (has_outcome a.mode line ≡ true)
     rest = both (has_event a line) (has_outcome a.mode line) one.1
 
-    event : ((line.bank == 0) ≡ true) × (((line.status == own.status) && (line.addr == own.addr) && (line.misc == own.misc)) ≡ true)
-    event = both (line.bank == 0) ((line.status == own.status) && (line.addr == own.addr) && (line.misc == own.misc)) rest.0
+    event : ((line.bank == 0) ≡ true) × (((line.status == own.status) && ((line.addr == own.addr) && (line.misc == own.misc))) ≡ true)
+    event = both (line.bank == 0) ((line.status == own.status) && ((line.addr == own.addr) && (line.misc == own.misc))) rest.0
 
     status : ((line.status == own.status) ≡ true) × (((line.addr == own.addr) && (line.misc == own.misc)) ≡ true)
     status = both (line.status == own.status) ((line.addr == own.addr) && (line.misc == own.misc)) event.1
@@ -89,8 +89,10 @@ same-self n = eq-eqb n n refl
 -- a line is that of its own access
 own-line : (seq : ℕ) (a : GuestAccess) → is_line seq a (guest_line seq a) ≡ true
 own-line seq a =
-    ap (λ (b : Bool). b && (has_event a own && has_outcome a.mode own)) (same-self seq) ∙ ap (λ (b : Bool). b && ((own.addr == own.addr) && (own.misc == own.misc)) && has_outcome a.mode own) (same-self own.status)
-    ∙ ap (λ (b : Bool). (b && (own.misc == own.misc)) && has_outcome a.mode own) (same-self own.addr) ∙ ap (λ (b : Bool). b && has_outcome a.mode own) (same-self own.misc) ∙ own-outcome a.mode own refl refl
+    ap (λ (b : Bool). b && (has_event a own && has_outcome a.mode own)) (same-self seq)
+    ∙ ap (λ (b : Bool). b && has_outcome a.mode own)
+    (ap (λ (b : Bool). b && ((own.addr == own.addr) && (own.misc == own.misc))) (same-self own.status) ∙ ap (λ (b : Bool). b && (own.misc == own.misc)) (same-self own.addr) ∙ same-self own.misc)
+    ∙ own-outcome a.mode own refl refl
   where
     own : GuestLine
     own = guest_line seq a
@@ -100,11 +102,11 @@ is-line seq a line is = ap (is_line seq a) (sym is) ∙ own-line seq a
 
 -- ---- the lines that are due
 
-first_in : GuestLine → List GuestLine → GuestLine
+abbrev first_in : GuestLine → List GuestLine → GuestLine
 first_in d [] = d
 first_in d (x ∷ xs) = x
 
-is_one : List GuestLine → Bool
+abbrev is_one : List GuestLine → Bool
 is_one [] = false
 is_one (x ∷ xs) = true
 
@@ -162,10 +164,10 @@ guest-none seq [] none = refl
 guest-none seq (lines.Event event ∷ rs) none = guest-none seq rs none
 guest-none seq (lines.Offlined offlined ∷ rs) none = guest-none seq rs none
 guest-none seq (lines.Answer s answer ∷ rs) none = guest-none seq rs none
-guest-none seq (lines.Guest line ∷ rs) none = by (line.seq == seq) refl
+guest-none seq (lines.Guest line ∷ rs) none = by (line.seq == seq) refl (λ less. guest-none seq rs less)
   where
-    by : (b : Bool) → (line.seq == seq) ≡ b → list_any (is_guest_of seq) (lines.Guest line ∷ rs) ≡ false
-    by true same = absurd (true≢false (ap is_one (sym (ap (λ (b : Bool). cond b (line ∷ guests_among rs seq) (guests_among rs seq)) (turned seq line.seq ∙ same)) ∙ none)))
-    by false other =
+    by : (b : Bool) → (line.seq == seq) ≡ b → (guests_among rs seq ≡ [] → list_any (is_guest_of seq) rs ≡ false) → list_any (is_guest_of seq) (lines.Guest line ∷ rs) ≡ false
+    by true same less = absurd (true≢false (ap is_one (sym (ap (λ (b : Bool). cond b (line ∷ guests_among rs seq) (guests_among rs seq)) (turned seq line.seq ∙ same)) ∙ none)))
+    by false other less =
         ap (λ (b : Bool). b || list_any (is_guest_of seq) rs) other
-        ∙ guest-none seq rs (sym (ap (λ (b : Bool). cond b (line ∷ guests_among rs seq) (guests_among rs seq)) (turned seq line.seq ∙ other)) ∙ none)
+        ∙ less (sym (ap (λ (b : Bool). cond b (line ∷ guests_among rs seq) (guests_among rs seq)) (turned seq line.seq ∙ other)) ∙ none)

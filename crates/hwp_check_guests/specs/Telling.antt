@@ -18,7 +18,7 @@ use Rattle.hwp_check_rules.specs.hwp_law_commands.Guests.{GuestAccess, guest_acc
 -- the line has the event of the access, and what the guest makes of it
 abbrev pub has_event : GuestAccess → GuestLine → Bool
 has_event a line =
-    (line.bank == 0) && (line.status == own_status (origin_of a.kind)) && (line.addr == line_address (guest_frame a.slot) a.line) && (line.misc == line_misc)
+    (line.bank == 0) && ((line.status == own_status (origin_of a.kind)) && ((line.addr == line_address (guest_frame a.slot) a.line) && (line.misc == line_misc)))
 
 abbrev pub has_outcome : Mode → GuestLine → Bool
 has_outcome modes.User line = (line.row == 9) && not line.stops
@@ -26,7 +26,7 @@ has_outcome modes.Kernel line = (line.row == 10) && line.stops
 
 -- the line is that of the guest's machine check for the access of the command with this number
 abbrev pub is_line : ℕ → GuestAccess → GuestLine → Bool
-is_line seq a line = (line.seq == seq) && has_event a line && has_outcome a.mode line
+is_line seq a line = (line.seq == seq) && (has_event a line && has_outcome a.mode line)
 
 -- the access of a guest of which it has to be told, by the command and its answer
 abbrev pub due_by : Layout → Command → Answer → Option GuestAccess
