@@ -3,9 +3,9 @@
 use Rattle.hwp_cpu.specs.Processors.{AreCommands}
 use Rattle.hwp_cpu_course.specs.hwp_cpu_row.hwp_geom.declared.Cpu.{Cpu}
 use Rattle.std.proofs.Common.{◌≡◌, ◌≢◌, ℕ, ◌<◌, ◌&&◌, not, All, Bool, true, false, List, Option, Some, None, length, slice_get, if◌then◌else◌, refl, sym, ap, ◌∙◌, subst}
-use Rattle.std.specs.Prelude.{IsSomeAnd, unwrap_or}
+use Rattle.std.specs.Prelude.{IsSome, IsSomeAnd, unwrap_or}
 use Rattle.std.proofs.lemmas.List.Elements.{All-get_or}
-use Rattle.std.proofs.lemmas.Option.{get_or_from_slice_get, slice_get_within}
+use Rattle.std.proofs.lemmas.Option.{get_or_from_slice_get, none-some, slice_get_within}
 use Rattle.hwp_cpu_course.specs.hwp_cpu_row.hwp_geom.declared.Layout.{Layout}
 use Rattle.hwp_cpu_course.specs.hwp_cpu_row.hwp_geom.declared.Thread.{Thread}
 use Rattle.hwp_cpu_course.specs.hwp_cpu_row.hwp_geom.declared.ThreadDecl.{ThreadDecl}
@@ -19,7 +19,13 @@ use Rattle.hwp_cpu_course.specs.hwp_cpu_row.hwp_script_lines.declared.Command.Th
 use Rattle.hwp_cpu_course.specs.hwp_cpu_row.hwp_script_read.Valid.{ArePaired, AreTwinsFit, IsAccess, IsAnon, IsCommandOf}
 use Rattle.hwp_cpu_course.specs.hwp_cpu_row.hwp_law_commands.Cows.{Cow, twin_or}
 use Rattle.hwp_cpu_course.specs.hwp_cpu_row.CowLists.{acting_in, copied_in, cow_in}
-use Rattle.hwp_cpu_course.specs.hwp_cpu_command.Begins.{CanCopy}
+use Rattle.hwp_cpu_course.specs.hwp_cpu_row.GuestLists.{States, denied_in}
+use Rattle.hwp_cpu_course.specs.hwp_cpu_row.hwp_law_commands.Commands as access
+use Rattle.hwp_cpu_course.specs.hwp_cpu_row.hwp_law_commands.Commands.{access_of}
+use Rattle.hwp_cpu_course.specs.hwp_cpu_row.hwp_law_commands.Guests.{GuestAccess, guest_access}
+use Rattle.hwp_cpu_course.specs.hwp_cpu_row.hwp_report_text.declared.Answer.{Answer}
+use Rattle.hwp_cpu_course.proofs.of_hwp_cpu_row.GuestListLaws.{denied-none, of-access}
+use Rattle.hwp_cpu_course.specs.hwp_cpu_command.Begins.{CanCopy, CanDeny}
 use Rattle.hwp_cpu_course.specs.hwp_cpu_command.Runs.{CanFork}
 
 module _ (layout : Layout) (twins : AreTwinsFit layout) where
@@ -69,6 +75,25 @@ copied-fits layout cpu cows (commands.Store thread slot line word) has = by ((co
     by true = has.0
     by false = tt
 copied-fits layout cpu cows command has = tt
+
+-- only an access can be denied, and it is acted on as one
+access-stays : (layout : Layout) (cows : List Cow) (command : Command) (a : access.Access) → access_of command ≡ Some a → IsSome (access_of (acting_in layout cows command))
+access-stays layout cows (commands.Load thread slot line) a is = refl
+access-stays layout cows (commands.Fetch thread slot line) a is = refl
+access-stays layout cows (commands.KLoad thread slot line) a is = refl
+access-stays layout cows (commands.Store thread slot line word) a is = refl
+access-stays layout cows command a is = absurd (none-some a is)
+
+pub begins-denied : (layout : Layout) (cows : List Cow) (guests : States) (own acting : Command) (denied : Option Answer) → acting ≡ acting_in layout cows own → denied ≡ denied_in layout guests own → CanDeny acting denied
+begins-denied layout cows guests own acting denied is said = subst (λ (c : Command). CanDeny c denied) (sym is) (subst (CanDeny (acting_in layout cows own)) (sym said) (which (guest_access layout own) refl))
+  where
+    which : (o : Option GuestAccess) → guest_access layout own ≡ o → CanDeny (acting_in layout cows own) (denied_in layout guests own)
+    which None none = subst (CanDeny (acting_in layout cows own)) (sym (denied-none layout guests own none)) tt
+    which (Some g) some = let of = of-access layout own g some in by (denied_in layout guests own) (access-stays layout cows own of.0 of.1)
+      where
+        by : (o : Option Answer) → IsSome (access_of (acting_in layout cows own)) → CanDeny (acting_in layout cows own) o
+        by None has = tt
+        by (Some answer) has = has
 
 -- a fork is acted on as it stands
 pub fork-acted : (view : View) (who : Who) (layout : Layout) (cows : List Cow) (own : Command) → CanFork layout view who own → CanFork layout view who (acting_in layout cows own)

@@ -14,9 +14,9 @@ use Rattle.hwp_cpu_causes.specs.hwp_law_served.Offlinings.{left_among, left_itse
 use Rattle.hwp_cpu_course.specs.hwp_cpu_command.Done.{can_fail}
 use Rattle.hwp_cpu_course.specs.hwp_cpu_row.declared.FrameChange.{FrameChange}
 use Rattle.hwp_cpu_course.specs.hwp_cpu_row.hwp_geom.declared.FileNo.{FileNo}
-use Rattle.hwp_cpu_course.specs.hwp_cpu_command.Jobs.{told_of}
+use Rattle.hwp_cpu_course.specs.hwp_cpu_command.Jobs.{denial_of, told_of}
 use Rattle.hwp_cpu_course.specs.hwp_cpu_row.hwp_script_lines.declared.Command.{Command}
-use Rattle.hwp_cpu_course.specs.hwp_cpu_command.Runs.{Runs}
+use Rattle.hwp_cpu_course.specs.hwp_cpu_command.Runs.{Runs, RunsAs, RunsDenied}
 use Rattle.hwp_cpu_causes.proofs.HandleNumbers.{IsNumbered}
 use Rattle.hwp_cpu_course.specs.hwp_cpu_command.Stays.{IsHalted}
 use Rattle.hwp_cpu_course.specs.hwp_cpu_row.hwp_geom.declared.Layout.{Layout}
@@ -30,6 +30,10 @@ use Rattle.hwp_cpu_course.specs.hwp_cpu_row.hwp_core_rule.declared.View.{View}
 use Rattle.hwp_cpu_course.specs.hwp_cpu_row.hwp_script_lines.declared.Command.TheVariants as commands
 use Rattle.hwp_cpu_course.specs.hwp_cpu_command.declared.job.Job.TheVariants as kinds
 use Rattle.hwp_cpu_course.specs.hwp_cpu_row.hwp_report_text.declared.Answer.TheVariants as answers
+use Rattle.hwp_cpu_causes.proofs.DeniedCauses.{access-by, runs-kind}
+use Rattle.hwp_cpu_course.specs.hwp_cpu_row.hwp_law_commands.Commands.{Access, access_of}
+use Rattle.std.proofs.lemmas.Option.{none-some}
+use Rattle.hwp_cpu_course.proofs.of_hwp_cpu_command_laws.CommandRuns.{runs-admitted}
 
 abbrev is_copying : Job → Bool
 is_copying (kinds.Copying y) = true
@@ -39,7 +43,7 @@ abbrev pub IsAccess : Job → Type 0
 IsAccess j = ((i : Instruction) × (j ≡ kinds.Instruction i)) ⊎ ((y : Copying) × (j ≡ kinds.Copying y))
 
 -- a command is such a one, or an access or a copy, or tells of no event
-plain-kind : (layout : Layout) (who : Who) (command : Command) (j : Job) → Runs layout who command None j → CanCollect command ⊎ (IsAccess j ⊎ (told_of j ≡ []))
+plain-kind : (layout : Layout) (who : Who) (command : Command) (j : Job) → RunsAs layout who command None j → CanCollect command ⊎ (IsAccess j ⊎ (told_of j ≡ []))
 plain-kind layout who (commands.Load thread slot line) j runs = inr (inl (inl (let task = of-instruction j runs.job_is in (task.0, task.1))))
 plain-kind layout who (commands.Fetch thread slot line) j runs = inr (inl (inl (let task = of-instruction j runs.job_is in (task.0, task.1))))
 plain-kind layout who (commands.KLoad thread slot line) j runs = inr (inl (inl (let task = of-instruction j runs.job_is in (task.0, task.1))))
@@ -64,16 +68,17 @@ plain-kind layout who (commands.Inject frame) j runs = inr (inr (ap told_of (of-
 plain-kind layout who (commands.Soft frame) j runs = inr (inr (ap told_of (of-soft j runs.job_is).1))
 plain-kind layout who (commands.Unpoison frame) j runs = inr (inr (ap told_of (of-unpoison j runs.job_is).1))
 
-pub copy-kind : (layout : Layout) (who : Who) (command : Command) (from : VSlot) (j : Job) → Runs layout who command (Some from) j → (y : Copying) × (j ≡ kinds.Copying y)
+pub copy-kind : (layout : Layout) (who : Who) (command : Command) (from : VSlot) (j : Job) → RunsAs layout who command (Some from) j → (y : Copying) × (j ≡ kinds.Copying y)
 copy-kind layout who (commands.Store thread slot line word) from j runs = let task = of-copying j runs.job_is in (task.0, task.1)
 copy-kind layout who command from j runs = absurd runs
 
 pub tells-kind : (layout : Layout) (who : Who) (command : Command) (copies : Option VSlot) (j : Job) → Runs layout who command copies j → CanCollect command ⊎ (IsAccess j ⊎ (told_of j ≡ []))
-tells-kind layout who command None j runs = plain-kind layout who command j runs
-tells-kind layout who command (Some from) j runs = inr (inl (inr (copy-kind layout who command from j runs)))
+tells-kind layout who command copies j (inl denied) = inr (inr (ap told_of (runs-kind j denied).1))
+tells-kind layout who command None j (inr runs) = plain-kind layout who command j runs
+tells-kind layout who command (Some from) j (inr runs) = inr (inl (inr (copy-kind layout who command from j runs)))
 
 -- it takes no frame out of use itself
-pub copy-leaves-none : (layout : Layout) (who : Who) (command : Command) (from : VSlot) (j : Job) (a : Answer) → Runs layout who command (Some from) j → left_itself command a ≡ None
+pub copy-leaves-none : (layout : Layout) (who : Who) (command : Command) (from : VSlot) (j : Job) (a : Answer) → RunsAs layout who command (Some from) j → left_itself command a ≡ None
 copy-leaves-none layout who (commands.Store thread slot line word) from j a runs = refl
 copy-leaves-none layout who command from j a runs = absurd runs
 
@@ -81,7 +86,7 @@ copy-leaves-none layout who command from j a runs = absurd runs
 of-kind : (base : List Made) (view : View) {j k : Job} → j ≡ k → left_so_far base view k ≡ left_among base → left_so_far base view j ≡ left_among base
 of-kind base view is left = ap (left_so_far base view) is ∙ left
 
-pub left-plain : (layout : Layout) (who : Who) (command : Command) (j : Job) → Runs layout who command None j → (base : List Made) (view : View) → left_so_far base view j ≡ left_among base
+pub left-plain : (layout : Layout) (who : Who) (command : Command) (j : Job) → RunsAs layout who command None j → (base : List Made) (view : View) → left_so_far base view j ≡ left_among base
 left-plain layout who (commands.Load thread slot line) j runs base view = of-kind base view (of-instruction j runs.job_is).1 refl
 left-plain layout who (commands.Fetch thread slot line) j runs base view = of-kind base view (of-instruction j runs.job_is).1 refl
 left-plain layout who (commands.KLoad thread slot line) j runs base view = of-kind base view (of-instruction j runs.job_is).1 refl
@@ -106,19 +111,28 @@ left-plain layout who (commands.Inject frame) j runs base view = of-kind base vi
 left-plain layout who (commands.Soft frame) j runs base view = of-kind base view (of-soft j runs.job_is).1 refl
 left-plain layout who (commands.Unpoison frame) j runs base view = of-kind base view (of-unpoison j runs.job_is).1 refl
 
+-- nor of an access that its guest doesn't admit
+pub left-denied : (layout : Layout) (who : Who) (command : Command) (copies : Option VSlot) (j : Job) → RunsDenied layout who command copies j → (base : List Made) (view : View) → left_so_far base view j ≡ left_among base
+left-denied layout who command copies j denied base view = of-kind base view (runs-kind j denied).1 refl
+
 -- an access copies nothing, where a copy is a task of its own
 pub access-plain : (layout : Layout) (who : Who) (command : Command) (copies : Option VSlot) (j : Job) → Runs layout who command copies j → (i : Instruction) → j ≡ kinds.Instruction i → copies ≡ None
-access-plain layout who command None j runs i is = refl
-access-plain layout who command (Some from) j runs i is = absurd (true≢false (sym (ap is_copying (copy-kind layout who command from j runs).1) ∙ ap is_copying is))
+access-plain layout who command copies j (inl denied) i is = absurd (none-some _ (sym (ap denial_of is) ∙ ap denial_of (runs-kind j denied).1))
+access-plain layout who command None j (inr runs) i is = refl
+access-plain layout who command (Some from) j (inr runs) i is = absurd (true≢false (sym (ap is_copying (copy-kind layout who command from j runs).1) ∙ ap is_copying is))
 
 -- and a command that copies nothing is no copy
 pub plain-copies : (layout : Layout) (who : Who) (command : Command) (j : Job) → Runs layout who command None j → (y : Copying) → j ≡ kinds.Copying y → ⊥
-plain-copies layout who command j runs y is = by command runs
+plain-copies layout who command j runs y is = which runs
   where
     no-kind : {k : Job} → j ≡ k → is_copying k ≡ false → ⊥
     no-kind other none = true≢false (sym (ap is_copying is) ∙ ap is_copying other ∙ none)
 
-    by : (x : Command) → Runs layout who x None j → ⊥
+    which : Runs layout who command None j → ⊥
+    which (inl denied) = no-kind (runs-kind j denied).1 refl
+    which (inr r) = by command r
+
+    by : (x : Command) → RunsAs layout who x None j → ⊥
     by (commands.Load thread slot line) r = no-kind (of-instruction j r.job_is).1 refl
     by (commands.Fetch thread slot line) r = no-kind (of-instruction j r.job_is).1 refl
     by (commands.KLoad thread slot line) r = no-kind (of-instruction j r.job_is).1 refl
@@ -143,18 +157,32 @@ plain-copies layout who command j runs y is = by command runs
     by (commands.Soft frame) r = no-kind (of-soft j r.job_is).1 refl
     by (commands.Unpoison frame) r = no-kind (of-unpoison j r.job_is).1 refl
 
+-- no access is such a one
+no-collect : (command : Command) {at : Access} → access_of command ≡ Some at → CanCollect command → ⊥
+no-collect command is = access-by (λ (c : Command). CanCollect c → ⊥) (λ thread slot line can. can) (λ thread slot line can. can) (λ thread slot line can. can) (λ thread slot line word can. can) command is
+
 -- such a one copies nothing
 pub collects-plain : (layout : Layout) (who : Who) (command : Command) (copies : Option VSlot) (j : Job) → Runs layout who command copies j → CanCollect command → copies ≡ None
 collects-plain layout who command None j runs can = refl
 collects-plain layout who (commands.Store thread slot line word) (Some from) j runs can = absurd can
-collects-plain layout who command (Some from) j runs can = absurd runs
+collects-plain layout who command (Some from) j (inl denied) can = absurd (no-collect command denied.1.access can)
+collects-plain layout who command (Some from) j (inr runs) can = absurd runs
 
 -- its memory can fail
+raise-fails : (layout : Layout) (who : Who) (command : Command) (j : Job) → RunsAs layout who command None j → CanCollect command → can_fail j ≡ true
+raise-fails layout who (commands.RaiseUser thread ripv eipv) j runs can = ap can_fail (of-raise j runs.job_is).1
+raise-fails layout who (commands.RaiseKernel ripv eipv) j runs can = ap can_fail (of-raise j runs.job_is).1
+raise-fails layout who (commands.Scrub first last) j runs can = ap can_fail (of-scrub j runs.job_is).1
+raise-fails layout who command j runs can = absurd can
+
 pub collect-fails : (layout : Layout) (who : Who) (command : Command) (j : Job) → Runs layout who command None j → CanCollect command → can_fail j ≡ true
-collect-fails layout who (commands.RaiseUser thread ripv eipv) j runs can = ap can_fail (of-raise j runs.job_is).1
-collect-fails layout who (commands.RaiseKernel ripv eipv) j runs can = ap can_fail (of-raise j runs.job_is).1
-collect-fails layout who (commands.Scrub first last) j runs can = ap can_fail (of-scrub j runs.job_is).1
-collect-fails layout who command j runs can = absurd can
+collect-fails layout who command j (inl denied) can = absurd (no-collect command denied.1.access can)
+collect-fails layout who command j (inr runs) can = raise-fails layout who command j runs can
+
+-- its guest isn't asked
+pub collects-undenied : (layout : Layout) (who : Who) (command : Command) (j : Job) → Runs layout who command None j → CanCollect command → {due : Answer} → denial_of j ≡ Some due → ⊥
+collects-undenied layout who command j (inl denied) can is = no-collect command denied.1.access can
+collects-undenied layout who command j (inr runs) can {due} is = none-some due (sym (runs-admitted layout who command None j runs) ∙ is)
 
 -- it takes no frame out of use itself
 pub collect-left : (command : Command) (a : Answer) → CanCollect command → left_itself command a ≡ None
@@ -164,11 +192,15 @@ collect-left (commands.Scrub first last) a can = refl
 collect-left command a can = absurd can
 
 -- each handle stays as it was
+raise-numbers : (layout : Layout) (view : View) (who : Who) (command : Command) (j : Job) (a : Answer) (handles : List ℕ) (file : FileNo) (m : ℕ) → RunsAs layout who command None j → CanCollect command → slice_get handles file.0 ≡ Some m → IsNumbered layout view who command a file m (handles_after j handles)
+raise-numbers layout view who (commands.RaiseUser thread ripv eipv) j a handles file m runs can there = record { has = ap (λ (x : Job). slice_get (handles_after x handles) file.0) (of-raise j runs.job_is).1 ∙ there; knows = λ told. absurd (both_ways false refl told) }
+raise-numbers layout view who (commands.RaiseKernel ripv eipv) j a handles file m runs can there = record { has = ap (λ (x : Job). slice_get (handles_after x handles) file.0) (of-raise j runs.job_is).1 ∙ there; knows = λ told. absurd (both_ways false refl told) }
+raise-numbers layout view who (commands.Scrub first last) j a handles file m runs can there = record { has = ap (λ (x : Job). slice_get (handles_after x handles) file.0) (of-scrub j runs.job_is).1 ∙ there; knows = λ told. absurd (both_ways false refl told) }
+raise-numbers layout view who command j a handles file m runs can there = absurd can
+
 pub collect-numbers : (layout : Layout) (view : View) (who : Who) (command : Command) (j : Job) (a : Answer) (handles : List ℕ) (file : FileNo) (m : ℕ) → Runs layout who command None j → CanCollect command → slice_get handles file.0 ≡ Some m → IsNumbered layout view who command a file m (handles_after j handles)
-collect-numbers layout view who (commands.RaiseUser thread ripv eipv) j a handles file m runs can there = record { has = ap (λ (x : Job). slice_get (handles_after x handles) file.0) (of-raise j runs.job_is).1 ∙ there; knows = λ told. absurd (both_ways false refl told) }
-collect-numbers layout view who (commands.RaiseKernel ripv eipv) j a handles file m runs can there = record { has = ap (λ (x : Job). slice_get (handles_after x handles) file.0) (of-raise j runs.job_is).1 ∙ there; knows = λ told. absurd (both_ways false refl told) }
-collect-numbers layout view who (commands.Scrub first last) j a handles file m runs can there = record { has = ap (λ (x : Job). slice_get (handles_after x handles) file.0) (of-scrub j runs.job_is).1 ∙ there; knows = λ told. absurd (both_ways false refl told) }
-collect-numbers layout view who command j a handles file m runs can there = absurd can
+collect-numbers layout view who command j a handles file m (inl denied) can there = absurd (no-collect command denied.1.access can)
+collect-numbers layout view who command j a handles file m (inr runs) can there = raise-numbers layout view who command j a handles file m runs can there
 
 -- where it is answered `stopped`, the machine has stopped
 halts : (layout : Layout) (view : View) (who : Who) (command : Command) → FoundStopped layout view who command → IsHalted view

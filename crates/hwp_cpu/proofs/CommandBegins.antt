@@ -59,7 +59,7 @@ use Rattle.hwp_cpu_causes.proofs.of_hwp_law_served.Handles.{number-last, numbers
 use Rattle.hwp_cpu_causes.proofs.of_hwp_law_served.lines.ScrubBank.{empty-free}
 use Rattle.hwp_cpu_causes.proofs.HandleNumbers.{tells-inside}
 use Rattle.hwp_cpu_causes.proofs.RowServed.{row-served}
-use Rattle.hwp_cpu.specs.Processors.{AreCommands, BeginsAt, at_number, left_of, told_local}
+use Rattle.hwp_cpu.specs.Processors.{AreCommands, BeginsAt, at_number, left_of, told_local, with_guest}
 use Rattle.hwp_cpu.specs.Serving.{IsActedOn, Remembers, AreNumbered, FitsAt, HasAccount, HasStopped, HasStoppedIt, IsDone, IsListed, IsRunning, Serves, IsUnderWay, marked_beside, marked_so_far, GivesUp, GoesOn}
 use Rattle.hwp_cpu.proofs.ProcessorKeeps.{can}
 use Rattle.hwp_cpu.proofs.ProcessorNotes.{account-starts, noted-end, noted-starts, owes-nothing, spoils-end, unmarked-starts}
@@ -85,6 +85,8 @@ use Rattle.hwp_cpu_course.proofs.of_hwp_cpu_command_laws.Beside.{marked-parts}
 use Rattle.hwp_cpu_course.specs.hwp_cpu_row.hwp_cpu_check.Done.{marked_in}
 use Rattle.hwp_cpu_course.specs.hwp_cpu_command.hwp_soft.declared.Soft.{Soft}
 use Rattle.hwp_cpu_course.specs.Courses as courses
+use Rattle.hwp_cpu_course.specs.hwp_cpu_row.hwp_report_text.declared.GuestLine.{GuestLine}
+use Rattle.hwp_cpu_course.specs.hwp_cpu_row.GuestLists.{denied_in, line_in}
 
 -- ---- the turn
 
@@ -112,19 +114,19 @@ stop-acted layout earlier (commands.Load thread slot line) told can = can
 stop-acted layout earlier own told can = can
 
 -- it is answered `stopped`, as the first of its processor
-own-stop : (layout : Layout) (cpu : Cpu) (list : List Command) (rows : List Row) (own command : Command) (copies : Option VSlot) (j : Job) (a : Answer) (offlined : List Offlining) → slice_get list (length rows) ≡ Some own → command ≡ acting layout (answers_by list rows) own
+own-stop : (layout : Layout) (cpu : Cpu) (list : List Command) (rows : List Row) (own command : Command) (copies : Option VSlot) (j : Job) (a : Answer) (offlined : List Offlining) (guest : Option GuestLine) → slice_get list (length rows) ≡ Some own → command ≡ acting layout (answers_by list rows) own
     → Runs layout (at_number cpu (length rows)) command copies j → jobs.answer j ≡ Some a
-    → (who : Who) → HasStoppedIt layout command rows j who → IsOwnStop layout cpu list (rows ++ jobs.row_of j a offlined ∷ []) who
-own-stop layout cpu list rows own command copies j a offlined there acts runs has who it = subst (IsOwnStop layout cpu list (rows ++ jobs.row_of j a offlined ∷ [])) (sym named) (record {
+    → (who : Who) → HasStoppedIt layout command rows j who → IsOwnStop layout cpu list (rows ++ with_guest (jobs.row_of j a offlined) guest ∷ []) who
+own-stop layout cpu list rows own command copies j a offlined guest there acts runs has who it = subst (IsOwnStop layout cpu list (rows ++ with_guest (jobs.row_of j a offlined) guest ∷ [])) (sym named) (record {
   cpu_is = refl;
   command = own;
   there = there;
-  row = jobs.row_of j a offlined;
+  row = with_guest (jobs.row_of j a offlined) guest;
   can = stop-acted layout (answers_by list rows) own (told_of j) (subst (λ (x : Command). CanStop layout x (told_of j)) acts it.can);
   answered = record {
-    row_is = at_last rows (jobs.row_of j a offlined);
+    row_is = at_last rows (with_guest (jobs.row_of j a offlined) guest);
     stopped = same_Some a answers.Stopped (sym has ∙ has-stopped j it.has);
-    first = λ i earlier less is stopped. it.first (i, earlier, at_front rows (jobs.row_of j a offlined ∷ []) i earlier less is, stopped);
+    first = λ i earlier less is stopped. it.first (i, earlier, at_front rows (with_guest (jobs.row_of j a offlined) guest ∷ []) i earlier less is, stopped);
   };
 })
   where
@@ -132,8 +134,8 @@ own-stop layout cpu list rows own command copies j a offlined there acts runs ha
     named = sym it.who_is ∙ runs-who layout (at_number cpu (length rows)) command copies j runs
 
 -- a command that begins is the processor's next
-begins-who : (layout : Layout) (by : Who) (command : Command) (copies : Option VSlot) (banks : Banks) (collecting : Bool) (j : Job) → BeginsWith layout by command copies banks collecting j → jobs.who j ≡ by
-begins-who layout by command copies banks collecting j begins = runs-who layout by command copies j (begins-runs layout by command copies banks collecting j begins)
+begins-who : (layout : Layout) (by : Who) (command : Command) (copies : Option VSlot) (denied : Option Answer) (banks : Banks) (collecting : Bool) (j : Job) → BeginsWith layout by command copies denied banks collecting j → jobs.who j ≡ by
+begins-who layout by command copies denied banks collecting j begins = runs-who layout by command copies j (begins-runs layout by command copies denied banks collecting j begins)
 
 -- ---- the answer
 
@@ -158,8 +160,12 @@ module _ (layout : Layout) (new : View) (cpu : Cpu) (list : List Command) (rows 
   abbrev earlier : List (Command × Answer)
   earlier = answers_by list rows
 
+  -- the guest's line, and the row
+  abbrev guest : Option GuestLine
+  guest = line_in layout n own a
+
   abbrev row : Row
-  row = row_of c a
+  row = with_guest (row_of c a) guest
 
   abbrev longer : List Row
   longer = rows ++ row ∷ []
@@ -185,7 +191,18 @@ module _ (layout : Layout) (new : View) (cpu : Cpu) (list : List Command) (rows 
       ∙ append_cancel_left (filter_map marked_in (told_of c.own)) (marked_beyond c.own) (cons_option (own_marking (jobs.own_of c.own)) []) (sym (marked-parts c.own) ∙ now.known.does.marked))
 
   served : IsRowServed layout earlier copies new at command (banks_before c.own local.banks) row after.banks
-  served = row-served layout earlier copies new at command c.own local.banks c.due.offlined now.known.served now.known.does running (now.way.account.marked ∙ marks) now.known.failed now.way.account.set now.known.left now.way.collected.offlined
+  served = record {
+    caused = so.caused;
+    accounted = record { marked = so.accounted.marked; failed = so.accounted.failed; set = so.accounted.set; own = so.accounted.own };
+    told = so.told;
+    heeded = so.heeded;
+    running = so.running;
+    beside = so.beside;
+    offlined = so.offlined;
+  }
+    where
+      so : IsRowServed layout earlier copies new at command (banks_before c.own local.banks) (row_of c a) after.banks
+      so = row-served layout earlier copies new at command c.own local.banks c.due.offlined now.known.served now.known.does running (now.way.account.marked ∙ marks) now.known.failed now.way.account.set now.known.left now.way.collected.offlined
 
   -- and so the script's command
   acted : IsRowActed layout earlier new at own (banks_before c.own local.banks) row after.banks
@@ -207,7 +224,7 @@ module _ (layout : Layout) (new : View) (cpu : Cpu) (list : List Command) (rows 
   noting = noted-end new cpu rows c row now.way.noted marks
 
   spoiling : EachMember (IsOwnSpoil cpu list longer) new.spoiled
-  spoiling i s there = spoils-end layout cpu list rows own command copies c.own a c.due.offlined s now.way.next.there now.way.next.acts now.way.runs now.known.answered (now.way.spoiled i s there)
+  spoiling i s there = spoils-end layout cpu list rows own command copies c.own a c.due.offlined guest s now.way.next.there now.way.next.acts now.way.runs now.known.answered (now.way.spoiled i s there)
 
   -- what each thread had set is what the commands so far set
   policies : (thread : Thread) → policies_in thread new ≡ settings layout thread (answers_by list longer)
@@ -253,7 +270,7 @@ module _ (layout : Layout) (new : View) (cpu : Cpu) (list : List Command) (rows 
     where
       which : IsOwnStop layout cpu list rows who ⊎ HasStoppedIt layout command rows c.own who → IsOwnStop layout cpu list longer who
       which (inl early) = stop-more layout cpu list rows row who early
-      which (inr it) = own-stop layout cpu list rows own command copies c.own a c.due.offlined now.way.next.there now.way.next.acts now.way.runs now.known.answered who it
+      which (inr it) = own-stop layout cpu list rows own command copies c.own a c.due.offlined guest now.way.next.there now.way.next.acts now.way.runs now.known.answered who it
 
   -- the collector that the next command begins with
   watching-now : IsWatching layout.frames (watched_at layout list longer (length longer)) after.watching
@@ -285,12 +302,15 @@ module _ (layout : Layout) (new : View) (cpu : Cpu) (list : List Command) (rows 
           let at_end : length longer ≡ n + 1 = number in
           omega arith
 
-  module _ (coming : Command) (b : Course) (there : slice_get list (n + 1) ≡ Some coming) (begins : BeginsCourse layout (at_number cpu (n + 1)) (acting_in layout after.cows coming) (copied_in after.cows coming) after b) where
+  module _ (coming : Command) (b : Course) (there : slice_get list (n + 1) ≡ Some coming) (begins : BeginsCourse layout (at_number cpu (n + 1)) (acting_in layout after.cows coming) (copied_in after.cows coming) (denied_in layout after.guests coming) after b) where
     abbrev next : Command
     next = acting_in layout after.cows coming
 
     abbrev copied : Option VSlot
     copied = copied_in after.cows coming
+
+    abbrev denied : Option Answer
+    denied = denied_in layout after.guests coming
 
     comes : IsActedOn layout list longer next copied
     comes = record {
@@ -305,13 +325,13 @@ module _ (layout : Layout) (new : View) (cpu : Cpu) (list : List Command) (rows 
         (can-fork layout cpu list longer are.forks are.once new policies coming (subst (λ (i : ℕ). slice_get list i ≡ Some coming) (sym number) there) (at-least (IsCommandOf layout cpu.0) list (n + 1) coming are.named there)))
 
     start : IsAtStop b.own
-    start = begins-stop layout (at_number cpu (n + 1)) next copied after.banks (collects after.watching) b.own begins.begins
+    start = begins-stop layout (at_number cpu (n + 1)) next copied denied after.banks (collects after.watching) b.own begins.begins
 
     within : n + 1 < length list
     within = slice_get_within list (n + 1) coming there
 
     own-fits : jobs.FitsFrom [] layout new b.own
-    own-fits = begins-fits layout new (at_number cpu (n + 1)) next copied after.banks (collects after.watching) b.own begins.begins (banks-acted layout [] new cpu 0 empty_banks list longer after.banks serves.rows_are empty-free) (record {
+    own-fits = begins-fits layout new (at_number cpu (n + 1)) next copied denied after.banks (collects after.watching) b.own begins.begins (banks-acted layout [] new cpu 0 empty_banks list longer after.banks serves.rows_are empty-free) (record {
       on_turn = next-turn new cpu n (ap (λ (h : Hand). h.bodies) now.known.hand_is) now.known.on_turn;
       hand_is = now.known.hand_is;
       paid = ap (λ (d : Debts). d.losses) unowing;
@@ -327,9 +347,9 @@ module _ (layout : Layout) (new : View) (cpu : Cpu) (list : List Command) (rows 
 
     way : IsUnderWay layout new cpu list longer (local_left b after) next copied b
     way = record {
-      serves = subst (λ (l : Banks). Serves layout new cpu list longer l after.handles after.cows) (sym (before-begins layout (at_number cpu (n + 1)) next copied after.banks (collects after.watching) b.own begins.begins)) serves;
+      serves = subst (λ (l : Banks). Serves layout new cpu list longer l after.handles after.cows) (sym (before-begins layout (at_number cpu (n + 1)) next copied denied after.banks (collects after.watching) b.own begins.begins)) serves;
       next = comes;
-      runs = subst (λ (i : ℕ). Runs layout (at_number cpu i) next copied b.own) (sym number) (begins-runs layout (at_number cpu (n + 1)) next copied after.banks (collects after.watching) b.own begins.begins);
+      runs = subst (λ (i : ℕ). Runs layout (at_number cpu i) next copied b.own) (sym number) (begins-runs layout (at_number cpu (n + 1)) next copied denied after.banks (collects after.watching) b.own begins.begins);
       handle = begins.handle;
       policies = counted-starts (λ (thread : Thread). settings layout thread (answers_by list longer)) new b.own start policies;
       stopped = λ some. (inl start, untold-at-start b.own start);
@@ -344,12 +364,12 @@ module _ (layout : Layout) (new : View) (cpu : Cpu) (list : List Command) (rows 
 
     begun : courses.Fits layout new b × (IsRunning layout new cpu list longer (local_left b after) b ⊎ GivesUp layout new cpu list longer b)
     begun = (
-      course-begins layout new (at_number cpu (n + 1)) next copied after b begins own-fits (of-machine layout (watched_at layout list longer (length longer)) after.watching watching-now),
+      course-begins layout new (at_number cpu (n + 1)) next copied denied after b begins own-fits (of-machine layout (watched_at layout list longer (length longer)) after.watching watching-now),
       inl (record {
         command = next;
         copies = copied;
         way = way;
-        on = subst (GoesOn layout new cpu list longer (local_left b after) next copied b) (sym (ap (λ (d : Course). d.beside) begins.is)) (own-starts layout new next copied b after.watching begins.is start own-fits (subst (HasMadeNone new) (sym (begins-who layout (at_number cpu (n + 1)) next copied after.banks (collects after.watching) b.own begins.begins)) (later-none (n + 1) (omega arith))));
+        on = subst (GoesOn layout new cpu list longer (local_left b after) next copied b) (sym (ap (λ (d : Course). d.beside) begins.is)) (own-starts layout new next copied b after.watching begins.is start own-fits (subst (HasMadeNone new) (sym (begins-who layout (at_number cpu (n + 1)) next copied denied after.banks (collects after.watching) b.own begins.begins)) (later-none (n + 1) (omega arith))));
       }),
     )
 

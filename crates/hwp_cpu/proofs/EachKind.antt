@@ -1,5 +1,5 @@
 -- What is so of each kind of command.
-use Rattle.std.proofs.Common.{◌≡◌, ℕ, true, sym, ap, ◌∙◌, subst, [], List, false, Option, None, Some}
+use Rattle.std.proofs.Common.{◌≡◌, ℕ, true, sym, ap, ◌∙◌, subst, [], List, false, Option, None, Some, inl, inr}
 use Rattle.hwp_cpu_course.specs.hwp_cpu_row.hwp_geom.declared.Damage.{Damage}
 use Rattle.hwp_cpu_course.specs.hwp_cpu_row.hwp_geom.declared.Damage.TheVariants as damages
 use Rattle.hwp_cpu_course.specs.hwp_cpu_row.hwp_geom.declared.Frame.{Frame}
@@ -21,7 +21,7 @@ use Rattle.hwp_cpu_course.specs.hwp_cpu_command.hwp_scrub.declared.Scrub.{Scrub}
 use Rattle.hwp_cpu_course.specs.hwp_cpu_command.declared.job.Job.{Job}
 use Rattle.hwp_cpu_course.specs.hwp_cpu_command.declared.job.Job.TheVariants as kinds
 use Rattle.hwp_cpu_course.specs.hwp_cpu_command.Jobs as jobs
-use Rattle.hwp_cpu_course.specs.hwp_cpu_command.Runs.{Runs, anew}
+use Rattle.hwp_cpu_course.specs.hwp_cpu_command.Runs.{Runs, RunsAs, anew}
 use Rattle.hwp_cpu_course.specs.hwp_cpu_command.Stays as stays
 use Rattle.hwp_cpu_course.proofs.of_hwp_cpu_command.OfKind.{of-copying, of-evict, of-fork, of-fsync, of-inject, of-instruction, of-log, of-nested, of-prctl, of-raise, of-scrub, of-soft, of-spoil, of-unpoison}
 use Rattle.hwp_cpu_course.proofs.of_hwp_cpu_command_laws.CommandStops.{unrecovered}
@@ -30,6 +30,7 @@ use Rattle.hwp_cpu_course.specs.hwp_cpu_command.Done.{can_fail}
 use Rattle.hwp_cpu_causes.specs.Beside.{ArePrior, ArePriorWith}
 use Rattle.hwp_cpu_course.specs.hwp_cpu_row.hwp_core_rule.declared.Made.{Made}
 use Rattle.std.proofs.lemmas.Bool.{both_ways}
+use Rattle.hwp_cpu_causes.proofs.DeniedCauses.{runs-kind}
 
 -- a command that fits is that of the turn
 pub on-turn : (base : List Made) (layout : Layout) (view : View) (j : Job) → jobs.FitsFrom base layout view j → IsOnTurn view (jobs.who j)
@@ -38,6 +39,7 @@ on-turn base layout view (kinds.Copying y) fits = fits.on_turn
 on-turn base layout view (kinds.Evict e) fits = fits.on_turn
 on-turn base layout view (kinds.Fsync f) fits = fits.1.on_turn
 on-turn base layout view (kinds.Prctl p) fits = fits.1.on_turn
+on-turn base layout view (kinds.Denied p) fits = fits.1.on_turn
 on-turn base layout view (kinds.Fork g) fits = fits.1.on_turn
 on-turn base layout view (kinds.Log l) fits = fits.1.read.on_turn
 on-turn base layout view (kinds.Raise r) fits = fits.1.on_turn
@@ -51,7 +53,7 @@ on-turn base layout view (kinds.Unpoison u) fits = fits.1.on_turn
 -- ---- a command of which memory can't fail
 
 -- had made no entry before its own task
-plain-none : (layout : Layout) (who : Who) (command : Command) (j : Job) (base : List Made) → Runs layout who command None j → ArePrior layout command base → can_fail j ≡ false → base ≡ []
+plain-none : (layout : Layout) (who : Who) (command : Command) (j : Job) (base : List Made) → RunsAs layout who command None j → ArePrior layout command base → can_fail j ≡ false → base ≡ []
 plain-none layout who (commands.Load thread slot line) j base runs prior cannot = absurd (both_ways (can_fail j) cannot (ap can_fail (of-instruction j runs.job_is).1))
 plain-none layout who (commands.Fetch thread slot line) j base runs prior cannot = absurd (both_ways (can_fail j) cannot (ap can_fail (of-instruction j runs.job_is).1))
 plain-none layout who (commands.KLoad thread slot line) j base runs prior cannot = absurd (both_ways (can_fail j) cannot (ap can_fail (of-instruction j runs.job_is).1))
@@ -76,9 +78,10 @@ plain-none layout who (commands.Soft frame) j base runs prior cannot = prior
 plain-none layout who (commands.Unpoison frame) j base runs prior cannot = prior
 plain-none layout who commands.RaiseNested j base runs prior cannot = prior
 
-pub prior-none : (layout : Layout) (who : Who) (command : Command) (copies : Option VSlot) (j : Job) (base : List Made) → Runs layout who command copies j → ArePriorWith layout command copies base → can_fail j ≡ false → base ≡ []
-prior-none layout who command None j base runs prior cannot = plain-none layout who command j base runs prior cannot
-prior-none layout who command (Some from) j base runs prior cannot = prior
+pub prior-none : (layout : Layout) (view : View) (who : Who) (command : Command) (copies : Option VSlot) (j : Job) (base : List Made) → Runs layout who command copies j → jobs.FitsFrom base layout view j → ArePriorWith layout command copies base → can_fail j ≡ false → base ≡ []
+prior-none layout view who command copies j base (inl denied) fits prior cannot = (subst (jobs.FitsFrom base layout view) (runs-kind j denied).1 fits).0
+prior-none layout view who command None j base (inr runs) fits prior cannot = plain-none layout who command j base runs prior cannot
+prior-none layout view who command (Some from) j base (inr runs) fits prior cannot = prior
 
 -- ---- a command that stops the machine
 
@@ -97,7 +100,7 @@ module _ (j : Job) (has : stays.HasStopped j) where
   scrub-halts is = let task = of-scrub j is in ap (λ (k : Job). halts (jobs.told_of k)) task.1 ∙ (subst stays.HasStopped task.1 has).1
 
 -- is one that can
-plain-stop : (base : List Made) (layout : Layout) (view : View) (who : Who) (command : Command) (j : Job) → Runs layout who command None j → jobs.FitsFrom base layout view j → stays.HasStopped j → CanStop layout command (jobs.told_of j)
+plain-stop : (base : List Made) (layout : Layout) (view : View) (who : Who) (command : Command) (j : Job) → RunsAs layout who command None j → jobs.FitsFrom base layout view j → stays.HasStopped j → CanStop layout command (jobs.told_of j)
 plain-stop base layout view who (commands.Load thread slot line) j runs fits has = instruction-halts j has runs.job_is
 plain-stop base layout view who (commands.Fetch thread slot line) j runs fits has = instruction-halts j has runs.job_is
 plain-stop base layout view who (commands.KLoad thread slot line) j runs fits has = instruction-halts j has runs.job_is
@@ -122,13 +125,14 @@ plain-stop base layout view who (commands.Weak frame line) j runs fits has = abs
 plain-stop base layout view who (commands.Soft frame) j runs fits has = absurd (subst stays.HasStopped (of-soft j runs.job_is).1 has)
 plain-stop base layout view who (commands.Unpoison frame) j runs fits has = absurd (subst stays.HasStopped (of-unpoison j runs.job_is).1 has)
 
-copy-stop : (layout : Layout) (who : Who) (command : Command) (from : VSlot) (j : Job) → Runs layout who command (Some from) j → stays.HasStopped j → CanStop layout command (jobs.told_of j)
+copy-stop : (layout : Layout) (who : Who) (command : Command) (from : VSlot) (j : Job) → RunsAs layout who command (Some from) j → stays.HasStopped j → CanStop layout command (jobs.told_of j)
 copy-stop layout who (commands.Store thread slot line word) from j runs has = copying-halts j has runs.job_is
 copy-stop layout who command from j runs has = absurd runs
 
 pub can-stop : (base : List Made) (layout : Layout) (view : View) (who : Who) (command : Command) (copies : Option VSlot) (j : Job) → Runs layout who command copies j → jobs.FitsFrom base layout view j → stays.HasStopped j → CanStop layout command (jobs.told_of j)
-can-stop base layout view who command None j runs fits has = plain-stop base layout view who command j runs fits has
-can-stop base layout view who command (Some from) j runs fits has = copy-stop layout who command from j runs has
+can-stop base layout view who command copies j (inl denied) fits has = absurd (subst stays.HasStopped (runs-kind j denied).1 has)
+can-stop base layout view who command None j (inr runs) fits has = plain-stop base layout view who command j runs fits has
+can-stop base layout view who command (Some from) j (inr runs) fits has = copy-stop layout who command from j runs has
 
 -- ---- a command that spoils a line
 
@@ -153,7 +157,7 @@ module _ (j : Job) (s : Spoiled) (has : stays.HasSpoiled j s) where
   none : {k : Job} → j ≡ k → stays.HasSpoiled k s
   none is = subst (λ (x : Job). stays.HasSpoiled x s) is has
 
-plain-spoils : (layout : Layout) (who : Who) (command : Command) (j : Job) (s : Spoiled) → Runs layout who command None j → stays.HasSpoiled j s → (s.stamp.who ≡ who) × (command ≡ spoiling s.damage s.frame s.line)
+plain-spoils : (layout : Layout) (who : Who) (command : Command) (j : Job) (s : Spoiled) → RunsAs layout who command None j → stays.HasSpoiled j s → (s.stamp.who ≡ who) × (command ≡ spoiling s.damage s.frame s.line)
 plain-spoils layout who (commands.Bad frame line) j s runs has = spoil-is j s has damages.Bad runs.job_is
 plain-spoils layout who (commands.Weak frame line) j s runs has = spoil-is j s has damages.Weak runs.job_is
 plain-spoils layout who (commands.Load thread slot line) j s runs has = absurd (none j s has (of-instruction j runs.job_is).1)
@@ -178,10 +182,11 @@ plain-spoils layout who (commands.Inject frame) j s runs has = absurd (none j s 
 plain-spoils layout who (commands.Soft frame) j s runs has = absurd (none j s has (of-soft j runs.job_is).1)
 plain-spoils layout who (commands.Unpoison frame) j s runs has = absurd (none j s has (of-unpoison j runs.job_is).1)
 
-copy-spoils : (layout : Layout) (who : Who) (command : Command) (from : VSlot) (j : Job) (s : Spoiled) → Runs layout who command (Some from) j → stays.HasSpoiled j s → ⊥
+copy-spoils : (layout : Layout) (who : Who) (command : Command) (from : VSlot) (j : Job) (s : Spoiled) → RunsAs layout who command (Some from) j → stays.HasSpoiled j s → ⊥
 copy-spoils layout who (commands.Store thread slot line word) from j s runs has = none j s has (of-copying j runs.job_is).1
 copy-spoils layout who command from j s runs has = absurd runs
 
 pub spoils-line : (layout : Layout) (who : Who) (command : Command) (copies : Option VSlot) (j : Job) (s : Spoiled) → Runs layout who command copies j → stays.HasSpoiled j s → (s.stamp.who ≡ who) × (command ≡ spoiling s.damage s.frame s.line)
-spoils-line layout who command None j s runs has = plain-spoils layout who command j s runs has
-spoils-line layout who command (Some from) j s runs has = absurd (copy-spoils layout who command from j s runs has)
+spoils-line layout who command copies j s (inl denied) has = absurd (none j s has (runs-kind j denied).1)
+spoils-line layout who command None j s (inr runs) has = plain-spoils layout who command j s runs has
+spoils-line layout who command (Some from) j s (inr runs) has = absurd (copy-spoils layout who command from j s runs has)

@@ -22,13 +22,17 @@ use Rattle.hwp_cpu_course.specs.hwp_cpu_row.hwp_core_task.Boards.{AreSeated, vie
 use Rattle.hwp_cpu_causes.specs.hwp_law_served.Served.{HasServed}
 use Rattle.hwp_cpu.specs.declared.processor.Processor.{Processor}
 use Rattle.hwp_cpu.specs.Processors.{AreCommands, AtBeginning, Follows, Next, NextOf, bare, who}
-use Rattle.hwp_cpu.specs.Serving.{Fits, FitsAt}
+use Rattle.hwp_cpu.specs.Serving.{Fits, FitsAt, KeepsGuests}
 use Rattle.hwp_cpu.proofs.ProcessorOpens.{begun}
 use Rattle.hwp_cpu.proofs.ProcessorServes.{served}
 use Rattle.hwp_cpu.proofs.ProcessorLaws.{own-cpu}
 use Rattle.hwp_cpu_course.specs.declared.Course.{Course}
 use Rattle.hwp_cpu_causes.specs.hwp_law_served.hwp_soft.declared.soft.SoftAt.TheVariants as at
 use Rattle.hwp_cpu_course.specs.Courses as courses
+use Rattle.hwp_cpu_course.specs.hwp_cpu_row.hwp_geom.Layout.{IsSound}
+use Rattle.hwp_cpu.proofs.GuestsKept.{guests-begun}
+use Rattle.std.specs.List.{list_any}
+use Rattle.hwp_cpu_course.specs.hwp_cpu_row.hwp_law_commands.Commands.{is_watch}
 
 -- ---- the beginning
 
@@ -49,8 +53,16 @@ opening-fits layout cpu list p at = subst (λ (v : View). Fits layout v p) (sym 
       (subst (λ (l : List Row). FitsAt layout (opening_view cpu.0) cpu list l p.local p.course) (sym at.no_row)
       (subst (λ (l : Local). FitsAt layout (opening_view cpu.0) cpu list [] l p.course) (sym at.local_is)
       (begun layout cpu list commands at.first at.is_first p.course at.begins))));
+  guests = subst (λ (c : Cpu). KeepsGuests layout (opening_view cpu.0) c p.commands p.rows.items p.local.guests p.course) (sym at.cpu_is)
+      (subst (λ (l : List Command). KeepsGuests layout (opening_view cpu.0) cpu l p.rows.items p.local.guests p.course) (sym at.commands_are)
+      (subst (λ (l : List Row). KeepsGuests layout (opening_view cpu.0) cpu list l p.local.guests p.course) (sym at.no_row)
+      (subst (λ (l : Local). KeepsGuests layout (opening_view cpu.0) cpu list [] l.guests p.course) (sym at.local_is)
+      (guests-begun layout cpu list sound (opening_view cpu.0) (list_any is_watch list) at.first at.is_first p.course at.begins))));
 })
   where
+    sound : IsSound layout
+    sound = subst IsSound at.layout_is at.ready.sound
+
     commands : AreCommands layout cpu list
     commands = subst (λ (l : Layout). AreCommands l cpu list) at.layout_is (subst (λ (c : Cpu). AreCommands (arc_value p.layout) c list) at.cpu_is (subst (AreCommands (arc_value p.layout) p.cpu) at.commands_are at.ready.commands))
 
@@ -78,5 +90,7 @@ next-keeps layout p after found got turn next = which (option_map courses.bare p
 
 pub served-of : (layout : Layout) (last : State) (seat : Cpu → ℕ) → Holds layout last → AreSeated layout last seat → (p : Processor) → p.cpu.0 < layout.cpus
     → Fits layout (view_of last (seat p.cpu)) p → p.course ≡ None → HasServed layout (view_of last (seat p.cpu)) p.cpu p.commands p.rows.items
-served-of layout last seat holds seated p inside fits none =
-    served layout last seat holds seated p.cpu inside p.commands p.rows.items p.local (subst (FitsAt layout (view_of last (seat p.cpu)) p.cpu p.commands p.rows.items p.local) none fits.at)
+served-of layout last seat holds seated p inside fits none = record {
+  acted = served layout last seat holds seated p.cpu inside p.commands p.rows.items p.local (subst (FitsAt layout (view_of last (seat p.cpu)) p.cpu p.commands p.rows.items p.local) none fits.at);
+  guests = fits.guests.rows_are;
+}

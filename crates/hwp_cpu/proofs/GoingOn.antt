@@ -118,6 +118,7 @@ module _ (layout : Layout) (view : View) (cpu : Cpu) (list : List Command) (rows
     left = holds.left ∙ ap (λ (o : Option At). cons_option o (left_beside c.due.offlined)) (sym (collect-left command has.answer has.collects));
     numbers = λ file inside. collect-numbers layout view at command c.own has.answer local.handles file (number_at file list rows (length rows)) plain-runs has.collects (way.serves.handles_are.each file inside);
     halted = λ stopped. collect-halted layout (answers_by list rows) view at command (told_of c.own) (jobs.own_of c.own) has.collects (subst (IsAnswerCaused layout (answers_by list rows) view at command (told_of c.own) (jobs.own_of c.own)) stopped has.served.caused);
+    denied = λ due is. absurd (collects-undenied layout at command c.own plain-runs has.collects is);
   }
     where
       -- such a command copies nothing

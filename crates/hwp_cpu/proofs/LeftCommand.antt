@@ -4,7 +4,7 @@ use Rattle.hwp_cpu_course.specs.hwp_cpu_row.hwp_geom.declared.Who.{Who}
 use Rattle.hwp_cpu_course.specs.hwp_cpu_command.declared.job.Job.{Job}
 use Rattle.hwp_cpu_course.specs.hwp_cpu_row.hwp_core_rule.declared.View.{View}
 use Rattle.hwp_cpu_causes.specs.hwp_law_served.hwp_page.declared.At.{At}
-use Rattle.std.proofs.Common.{refl, ◌≡◌, Option, None, ap, ◌++◌, subst, sym, Some, List, ◌∙◌, []}
+use Rattle.std.proofs.Common.{refl, ◌≡◌, Option, None, ap, ◌++◌, subst, sym, Some, List, ◌∙◌, [], inl, inr}
 use Rattle.hwp_cpu_course.proofs.of_hwp_cpu_command.OfKind.{of-evict, of-fork, of-scrub, of-instruction, of-soft, of-fsync, of-raise, of-spoil, of-unpoison, of-prctl, of-inject, of-nested, of-log}
 use Rattle.hwp_cpu_causes.specs.Beside.{ArePrior}
 use Rattle.hwp_cpu_course.specs.hwp_cpu_row.hwp_geom.declared.Layout.{Layout}
@@ -19,17 +19,19 @@ use Rattle.hwp_cpu_course.specs.hwp_cpu_command.Answers.{soft_answer}
 use Rattle.hwp_cpu_course.specs.hwp_cpu_row.hwp_report_text.declared.Answer.{Answer}
 use Rattle.hwp_cpu_course.proofs.of_hwp_cpu_command.JobEnds.{mapped}
 use Rattle.hwp_cpu_course.specs.hwp_cpu_command.hwp_soft.declared.Soft.{Soft}
-use Rattle.hwp_cpu_course.specs.hwp_cpu_command.Runs.{Runs}
+use Rattle.hwp_cpu_course.specs.hwp_cpu_command.Runs.{RunsAs, RunsDenied}
 use Rattle.hwp_cpu_course.specs.hwp_cpu_command.Jobs as jobs
 use Rattle.hwp_cpu_course.specs.hwp_cpu_command.hwp_soft.Softs as softs
 use Rattle.hwp_cpu_course.specs.hwp_cpu_command.declared.job.Job.TheVariants as kinds
 use Rattle.hwp_cpu_course.specs.hwp_cpu_row.hwp_script_lines.declared.Command.TheVariants as commands
 use Rattle.hwp_cpu_course.specs.hwp_cpu_command.hwp_soft.declared.SoftAnswer.TheVariants as soft_answers
+use Rattle.hwp_cpu_causes.proofs.DeniedCauses.{access-by, runs-kind}
+use Rattle.hwp_cpu_course.specs.hwp_cpu_row.hwp_geom.declared.VSlot.{VSlot}
 
 module _ (layout : Layout) (view : View) (who : Who) (j : Job) (a : Answer) (base : List Made) (fits : jobs.FitsFrom base layout view j) (has : jobs.answer j ≡ Some a) where
   -- of another command
-  plain : (command : Command) {k : Job} → Runs layout who command None j → j ≡ k → IsNoSoft k → left_by who view ≡ left_among base
-  plain command {k} runs is apart = subst (λ (w : Who). left_by w view ≡ left_among base) (runs-who layout who command None j runs) (left-answered base layout view j (subst IsNoSoft (sym is) apart) fits has)
+  plain : (command : Command) {k : Job} → RunsAs layout who command None j → j ≡ k → IsNoSoft k → left_by who view ≡ left_among base
+  plain command {k} runs is apart = subst (λ (w : Who). left_by w view ≡ left_among base) (runs-who layout who command None j (inr runs)) (left-answered base layout view j (subst IsNoSoft (sym is) apart) fits has)
 
   itself : (frame : Frame) (x : SoftAnswer) → moved_at x ≡ left_itself (commands.Soft frame) (soft_answer x)
   itself frame soft_answers.Stopped = refl
@@ -41,8 +43,8 @@ module _ (layout : Layout) (view : View) (who : Who) (j : Job) (a : Answer) (bas
   itself frame (soft_answers.Moved to place cycle) = refl
 
   -- and of that one
-  own-page : (frame : Frame) → Runs layout who (commands.Soft frame) None j → base ≡ [] → left_by who view ≡ cons_option (left_itself (commands.Soft frame) a) (left_among base)
-  own-page frame runs none = subst (λ (w : Who). left_by w view ≡ cons_option (left_itself (commands.Soft frame) a) (left_among base)) (sym (ap jobs.who task.1) ∙ runs-who layout who (commands.Soft frame) None j runs)
+  own-page : (frame : Frame) → RunsAs layout who (commands.Soft frame) None j → base ≡ [] → left_by who view ≡ cons_option (left_itself (commands.Soft frame) a) (left_among base)
+  own-page frame runs none = subst (λ (w : Who). left_by w view ≡ cons_option (left_itself (commands.Soft frame) a) (left_among base)) (sym (ap jobs.who task.1) ∙ runs-who layout who (commands.Soft frame) None j (inr runs))
       (left-moved task.0 came.0 (subst (jobs.FitsFrom base layout view) task.1 fits) came.1
       ∙ ap (λ (b : List Made). left_among b ++ cons_option (moved_at came.0) []) none
       ∙ ap (λ (o : Option At). cons_option o []) (itself frame came.0 ∙ ap (left_itself (commands.Soft frame)) came.2)
@@ -55,7 +57,7 @@ module _ (layout : Layout) (view : View) (who : Who) (j : Job) (a : Answer) (bas
       came = mapped soft_answer (softs.answer task.0) (sym (ap jobs.answer task.1) ∙ has)
 
   -- where it copies nothing
-  pub left-command : (command : Command) → Runs layout who command None j → ArePrior layout command base → left_by who view ≡ cons_option (left_itself command a) (left_among base)
+  pub left-command : (command : Command) → RunsAs layout who command None j → ArePrior layout command base → left_by who view ≡ cons_option (left_itself command a) (left_among base)
   left-command (commands.Load thread slot line) runs prior = plain (commands.Load thread slot line) runs (of-instruction j runs.job_is).1 tt
   left-command (commands.Fetch thread slot line) runs prior = plain (commands.Fetch thread slot line) runs (of-instruction j runs.job_is).1 tt
   left-command (commands.KLoad thread slot line) runs prior = plain (commands.KLoad thread slot line) runs (of-instruction j runs.job_is).1 tt
@@ -79,3 +81,9 @@ module _ (layout : Layout) (view : View) (who : Who) (j : Job) (a : Answer) (bas
   left-command (commands.Inject frame) runs prior = plain (commands.Inject frame) runs (of-inject j runs.job_is).1 tt
   left-command (commands.Soft frame) runs prior = own-page frame runs prior
   left-command (commands.Unpoison frame) runs prior = plain (commands.Unpoison frame) runs (of-unpoison j runs.job_is).1 tt
+
+  -- one that its guest doesn't admit made no page leave a frame itself
+  pub left-by-denied : (command : Command) (copies : Option VSlot) → RunsDenied layout who command copies j → left_by who view ≡ cons_option (left_itself command a) (left_among base)
+  left-by-denied command copies denied =
+      subst (λ (w : Who). left_by w view ≡ left_among base) (runs-who layout who command copies j (inl denied)) (left-answered base layout view j (subst IsNoSoft (sym (runs-kind j denied).1) tt) fits has)
+      ∙ ap (λ (o : Option At). cons_option o (left_among base)) (access-by (λ (c : Command). None ≡ left_itself c a) (λ thread slot line. refl) (λ thread slot line. refl) (λ thread slot line. refl) (λ thread slot line word. refl) command denied.1.access)

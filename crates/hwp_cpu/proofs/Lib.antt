@@ -22,6 +22,7 @@ pub mod OwnTurns
 pub mod Watching
 pub mod Within
 pub mod CourseBegins
+pub mod GuestsKept
 pub mod ProcessorLaws
 pub mod ProcessorCosts
 pub mod ProcessorTells

@@ -6,7 +6,7 @@ use Rattle.hwp_cpu_course.specs.hwp_cpu_command.hwp_fault.declared.Request.{Requ
 use Rattle.hwp_cpu_course.proofs.of_hwp_cpu_command.of_hwp_cpu_copy.CopyResting as copy-resting
 use Rattle.hwp_cpu_course.proofs.of_hwp_cpu_command.of_hwp_cpu_copy.CopyLaws.{own-after}
 use Rattle.hwp_cpu.proofs.CopyLeaves.{copy-leaves}
-use Rattle.hwp_cpu.proofs.Collecting.{access-plain, copy-kind, copy-leaves-none, left-plain}
+use Rattle.hwp_cpu.proofs.Collecting.{access-plain, copy-kind, copy-leaves-none, left-denied, left-plain}
 use Rattle.hwp_cpu_course.specs.hwp_cpu_row.hwp_page.declared.At.{At}
 use Rattle.hwp_cpu_course.specs.hwp_cpu_row.hwp_geom.declared.VSlot.{VSlot}
 use Rattle.hwp_cpu_course.proofs.of_hwp_cpu_command.JobEnds.{ends}
@@ -18,7 +18,7 @@ use Rattle.hwp_cpu_course.proofs.of_hwp_cpu_command.of_hwp_cpu_access.Resting.{r
 use Rattle.hwp_cpu_course.proofs.of_hwp_cpu_command.JobLaws as jobbing
 use Rattle.hwp_cpu.specs.Serving.{HasCopyPaused, left_so_far, IsUnderWay, HasToldAll, IsPaused, OwnGoesOn}
 use Rattle.hwp_cpu_course.specs.hwp_cpu_row.declared.Local.{Local}
-use Rattle.std.proofs.Common.{Option, None, refl, ◌<◌, length, is_some, Some, subst, sym, true, ap, ◌≡◌, List, ◌∙◌, [], ℕ}
+use Rattle.std.proofs.Common.{Option, None, inl, inr, refl, ◌<◌, length, is_some, Some, subst, sym, true, ap, ◌≡◌, List, ◌∙◌, [], ℕ}
 use Rattle.hwp_cpu_course.specs.hwp_cpu_command.hwp_cpu_access.declared.Instruction.{Instruction}
 use Rattle.hwp_cpu_course.specs.hwp_cpu_command.FileHandles.{handles_after}
 use Rattle.hwp_cpu_causes.specs.Beside.{IsOwnServed, ArePriorWith, DoesSo}
@@ -44,7 +44,7 @@ use Rattle.hwp_cpu_course.specs.hwp_cpu_command.hwp_cpu_access.declared.instruct
 use Rattle.hwp_cpu_course.specs.hwp_cpu_row.hwp_geom.declared.Who.{Who}
 use Rattle.hwp_cpu_course.specs.hwp_cpu_row.hwp_core_rule.declared.Made.{Made}
 use Rattle.std.specs.List.{cons_option}
-use Rattle.hwp_cpu.proofs.LeftCommand.{left-command}
+use Rattle.hwp_cpu.proofs.LeftCommand.{left-by-denied, left-command}
 use Rattle.hwp_cpu_course.specs.hwp_cpu_row.hwp_core_rule.declared.View.{View}
 use Rattle.hwp_cpu_course.proofs.of_hwp_cpu_command_laws.CommandStops.{stopped-halts}
 use Rattle.hwp_cpu_course.specs.declared.Course.{Course}
@@ -57,6 +57,7 @@ use Rattle.hwp_cpu_course.specs.hwp_cpu_row.hwp_report_text.declared.Answer.TheV
 use Rattle.hwp_cpu_course.specs.hwp_cpu_command.Jobs as jobs
 use Rattle.hwp_cpu_course.specs.hwp_cpu_command.hwp_cpu_access.Instructions as instructions
 use Rattle.hwp_cpu_course.specs.hwp_cpu_command.hwp_cpu_access.Fits as instruction_fits
+use Rattle.hwp_cpu_course.proofs.of_hwp_cpu_command_laws.DeniedAnswers.{unmade-denied}
 
 -- ---- it goes on
 
@@ -79,6 +80,7 @@ module _ (layout : Layout) (old new : View) (command : Command) (copies : Option
       by (kinds.Evict e) own left next = ap (left_so_far on.base new) next.1 ∙ left
       by (kinds.Fsync g) own left next = ap (left_so_far on.base new) next.0 ∙ left
       by (kinds.Prctl p) own left next = ap (left_so_far on.base new) next.0 ∙ left
+      by (kinds.Denied p) own left next = ap (left_so_far on.base new) next.0 ∙ left
       by (kinds.Fork g) own left next = ap (left_so_far on.base new) next.0 ∙ left
       by (kinds.Log l) own left next = ap (left_so_far on.base new) next.0 ∙ left
       by (kinds.Raise r) own left next = ap (left_so_far on.base new) next.1 ∙ left
@@ -183,6 +185,7 @@ pub record AnswerKnown (layout : Layout) (view : View) (cpu : Cpu) (list : List 
   pub left : left_by (at_number cpu (length rows)) view ≡ cons_option (left_itself command a) (left_beside c.due.offlined)
   pub numbers : (file : FileNo) → file.0 < layout.files → IsNumbered layout view (at_number cpu (length rows)) command a file (number_at file list rows (length rows)) (handles_after c.own local.handles)
   pub halted : a ≡ answers.Stopped → IsHalted view
+  pub denied : (due : Answer) → jobs.denial_of c.own ≡ Some due → HasMadeNone view (at_number cpu (length rows))
 
 module _ (layout : Layout) (view : View) (cpu : Cpu) (list : List Command) (rows : List Row) (local : Local) (command : Command) (copies : Option VSlot) (c : Course) (way : IsUnderWay layout view cpu list rows local command copies c) (base : List Made) (fits : jobs.FitsFrom base layout view c.own)
     (prior : ArePriorWith layout command copies base) (left : left_so_far base view c.own ≡ left_beside c.due.offlined) (a : Answer) (has : jobs.answer c.own ≡ Some a) where
@@ -205,12 +208,14 @@ module _ (layout : Layout) (view : View) (cpu : Cpu) (list : List Command) (rows
     left = left-answered-so copies way.runs prior left;
     numbers = λ file inside. numbered base layout view at c.own fits has local.handles file (number_at file list rows (length rows)) (way.serves.handles_are.each file inside) command copies way.runs way.handle;
     halted = λ stopped. stopped-halts base layout view c.own fits (has ∙ ap (λ (x : Answer). Some x) stopped);
+    denied = λ due is. subst (HasMadeNone view) owner (unmade-denied base layout view c.own is fits);
   }
     where
       -- of a copy the view tells it itself
       left-answered-so : (o : Option VSlot) → Runs layout at command o c.own → ArePriorWith layout command o base → left_so_far base view c.own ≡ left_beside c.due.offlined → left_by at view ≡ cons_option (left_itself command a) (left_beside c.due.offlined)
-      left-answered-so None runs plain left = left-command layout view at c.own a base fits has command runs plain ∙ ap (cons_option (left_itself command a)) (sym (left-plain layout at command c.own runs base view) ∙ left)
-      left-answered-so (Some from) runs none left =
+      left-answered-so o (inl denied) prior left = left-by-denied layout view at c.own a base fits has command o denied ∙ ap (cons_option (left_itself command a)) (sym (left-denied layout at command o c.own denied base view) ∙ left)
+      left-answered-so None (inr runs) plain left = left-command layout view at c.own a base fits has command runs plain ∙ ap (cons_option (left_itself command a)) (sym (left-plain layout at command c.own runs base view) ∙ left)
+      left-answered-so (Some from) (inr runs) none left =
           let copy = copy-kind layout at command from c.own runs in
-          let own : copy.0.store.who ≡ at = sym (ap jobs.who copy.1) ∙ runs-who layout at command (Some from) c.own runs in
+          let own : copy.0.store.who ≡ at = sym (ap jobs.who copy.1) ∙ runs-who layout at command (Some from) c.own (inr runs) in
           subst (λ (w : Who). left_by w view ≡ left_beside c.due.offlined) own (sym (ap (left_so_far base view) copy.1) ∙ left) ∙ ap (λ (l : Option At). cons_option l (left_beside c.due.offlined)) (sym (copy-leaves-none layout at command from c.own a runs))

@@ -181,6 +181,7 @@ module _ (layout : Layout) (old new : View) (cpu : Cpu) (list : List Command) (r
           all-told (kinds.Evict e) is = absurd (true≢false (sym is))
           all-told (kinds.Fsync f) is = absurd (true≢false (sym is))
           all-told (kinds.Prctl p) is = absurd (true≢false (sym is))
+          all-told (kinds.Denied p) is = absurd (true≢false (sym is))
           all-told (kinds.Fork g) is = absurd (true≢false (sym is))
           all-told (kinds.Log l) is = absurd (true≢false (sym is))
           all-told (kinds.Raise r) is = absurd (true≢false (sym is))
@@ -257,6 +258,7 @@ module _ (layout : Layout) (old new : View) (cpu : Cpu) (list : List Command) (r
         left = has.left;
         numbers = has.numbers;
         halted = has.halted;
+        denied = has.denied;
       }
 
       rest-due : (a : Answer) → jobs.answer k ≡ Some a → is_access k ≡ false → (frame : Frame) → next_due d.due ≡ Some frame → CanCollect command × (told_of k ≢ [])

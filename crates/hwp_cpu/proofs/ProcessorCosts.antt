@@ -27,9 +27,9 @@ use Rattle.hwp_cpu_course.specs.hwp_cpu_command.Jobs as jobs
 use Rattle.hwp_cpu_course.proofs.of_hwp_cpu_command_laws.Below.{begins-few}
 use Rattle.hwp_cpu_course.proofs.of_hwp_cpu_command_laws.CommandRuns.{has-begun}
 use Rattle.hwp_cpu.specs.declared.processor.Processor.{Processor}
-use Rattle.hwp_cpu.specs.Processors.{carried_on, BeginsAt, Follows, IsAnswered, NextOf, aborts, aborts_of, at_number, bare, claims, claims_of, class, class_of, cost, cost_of, plan, plan_of, put_of, who_of}
+use Rattle.hwp_cpu.specs.Processors.{carried_on, BeginsAt, Follows, IsAnswered, NextOf, aborts, aborts_of, at_number, bare, claims, claims_of, class, class_of, cost, cost_of, plan, plan_of, put_of, who_of, row_now}
 use Rattle.hwp_cpu.specs.Serving.{Fits, FitsAt, task}
-use Rattle.hwp_cpu_course.specs.Courses.{part_of, BeginsCourse, part, row_of, gives_up}
+use Rattle.hwp_cpu_course.specs.Courses.{part_of, BeginsCourse, part, gives_up}
 use Rattle.hwp_cpu_course.specs.hwp_cpu_row.hwp_core_rule.declared.View.{View}
 use Rattle.hwp_cpu_course.specs.hwp_cpu_command.hwp_soft.declared.Soft.{Soft}
 use Rattle.hwp_cpu_course.specs.hwp_cpu_row.hwp_core_rule.declared.Step.{Step}
@@ -38,15 +38,16 @@ use Rattle.hwp_cpu_course.specs.hwp_cpu_row.Locals.{collects}
 use Rattle.hwp_cpu_course.specs.declared.Course.{Course}
 use Rattle.hwp_cpu_course.specs.Courses as courses
 use Rattle.hwp_cpu_course.specs.hwp_cpu_command.declared.job.Job.TheVariants as kinds
+use Rattle.hwp_cpu_course.specs.hwp_cpu_row.GuestLists.{denied_in}
 
 -- ---- one command
 
 -- one that begins has few turns, holds nothing and claims nothing
-begun-cost : (layout : Layout) (a : State) → Holds layout a → (by : Who) (command : Command) (copies : Option VSlot) (local : Local) (c : Course) → BeginsCourse layout by command copies local c → courses.cost c (words_at layout a) < command_weight
-begun-cost layout a rule by command copies local c begins = subst (λ (o : Option Soft). courses.cost_of c o (words_at layout a) < command_weight) (sym (ap (λ (d : Course). d.beside) begins.is)) (which (jobs.plan c.own))
+begun-cost : (layout : Layout) (a : State) → Holds layout a → (by : Who) (command : Command) (copies : Option VSlot) (denied : Option Answer) (local : Local) (c : Course) → BeginsCourse layout by command copies denied local c → courses.cost c (words_at layout a) < command_weight
+begun-cost layout a rule by command copies denied local c begins = subst (λ (o : Option Soft). courses.cost_of c o (words_at layout a) < command_weight) (sym (ap (λ (d : Course). d.beside) begins.is)) (which (jobs.plan c.own))
   where
     few : jobs.cost c.own (words_at layout a) < 131 * failure_weight
-    few = begins-few layout a by command copies local.banks (collects local.watching) c.own rule begins.begins
+    few = begins-few layout a by command copies denied local.banks (collects local.watching) c.own rule begins.begins
 
     flat-few : (j : Job) → courses.flat j ≤ courses.soft_weight * courses.due_room
     flat-few (kinds.Raise r) = omega arith
@@ -63,7 +64,7 @@ begun-cost layout a rule by command copies local c begins = subst (λ (o : Optio
 
 begun-idle : (layout : Layout) (a : State) → Holds layout a → (by : Who) (o : Option Command) (local : Local) (x : Option Course) → BeginsAt layout by o local x → (cost_of x (words_at layout a) < command_weight) × (class_of x ≡ 4) × (claims_of x ≡ None)
 begun-idle layout a rule by (Some command) local (Some c) begins = (
-  begun-cost layout a rule by (acting_in layout local.cows command) (copied_in local.cows command) local c begins,
+  begun-cost layout a rule by (acting_in layout local.cows command) (copied_in local.cows command) (denied_in layout local.guests command) local c begins,
   subst (λ (b : Option Soft). jobs.class (part_of b c.own) ≡ 4) (sym alone) idle.0,
   subst (λ (b : Option Soft). jobs.claims (part_of b c.own) ≡ None) (sym alone) idle.1,
 )
@@ -72,7 +73,7 @@ begun-idle layout a rule by (Some command) local (Some c) begins = (
     alone = ap (λ (d : Course). d.beside) begins.is
 
     idle : (jobs.class c.own ≡ 4) × (jobs.claims c.own ≡ None)
-    idle = (has-begun layout by (acting_in layout local.cows command) (copied_in local.cows command) local.banks (collects local.watching) c.own begins.begins).idle
+    idle = (has-begun layout by (acting_in layout local.cows command) (copied_in local.cows command) (denied_in layout local.guests command) local.banks (collects local.watching) c.own begins.begins).idle
 begun-idle layout a rule by None local None begins = (omega arith, refl, refl)
 begun-idle layout a rule by (Some command) local None begins = absurd begins
 begun-idle layout a rule by None local (Some c) begins = absurd begins
@@ -106,7 +107,7 @@ module _ {layout : Layout} {seat : ℕ} {a b : State} {p q : Processor} {turn : 
   answered-falls c k answer at answered =
       let within : length rows < length p.commands = known-within layout (view_of a seat) p.cpu p.commands rows p.local c at in
       let count : length q.commands ≡ length p.commands = ap length answered.commands_are in
-      let one : length q.rows.items ≡ length rows + 1 = ap length answered.rows_are ∙ length-append rows (row_of k answer ∷ []) in
+      let one : length q.rows.items ≡ length rows + 1 = ap length answered.rows_are ∙ length-append rows (row_now (bare p) k answer ∷ []) in
       let few : cost_of q.course (words_at layout b) < command_weight = (answered-idle k answer answered).0 in
       omega (arith, within, count, one, few)
 

@@ -1,7 +1,7 @@
 -- A processor is a task: where it fits, its step can be made, and what follows fits.
 use Rattle.hwp_cpu_course.specs.hwp_cpu_row.hwp_geom.declared.VSlot.{VSlot}
 use Rattle.hwp_cpu_course.proofs.CourseLaws.{lawful}
-use Rattle.std.proofs.Common.{◌≡◌, ℕ, ◌+◌, ◌≤◌, List, [], ◌∷◌, ◌++◌, Option, Some, None, length, option_map, slice_get, vec_capacity, refl, sym, ap, ◌∙◌, subst, inr, false, true, true≢false, ◌⊎◌, ◌<◌, inl, Bool}
+use Rattle.std.proofs.Common.{◌≡◌, ◌≢◌, ℕ, ◌+◌, ◌≤◌, arith, List, [], ◌∷◌, ◌++◌, Option, Some, None, length, option_map, slice_get, vec_capacity, refl, sym, ap, ◌∙◌, subst, inr, false, true, true≢false, ◌⊎◌, ◌<◌, inl, Bool}
 use Rattle.std.proofs.lemmas.Option.{none-some, slice_get_within}
 use Rattle.std.specs.Arc.{arc_value}
 use Rattle.hwp_cpu_course.specs.hwp_cpu_row.hwp_geom.declared.Cpu.{Cpu}
@@ -23,8 +23,8 @@ use Rattle.hwp_cpu_course.proofs.of_hwp_cpu_command_laws.CommandRuns.{runs-who, 
 use Rattle.hwp_cpu_course.specs.hwp_cpu_row.declared.Row.{Row}
 use Rattle.hwp_cpu_course.specs.hwp_cpu_row.declared.Local.{Local}
 use Rattle.hwp_cpu.specs.declared.processor.Processor.{Processor}
-use Rattle.hwp_cpu.specs.Processors.{carried_on, told_local, AreCommands, BeginsAt, Follows, IsAnswered, IsReady, Next, NextOf, Shows, ShowsOf, at_number, bare, left_of, plan, plan_of, put, put_of, who, who_of}
-use Rattle.hwp_cpu.specs.Serving.{IsActedOn, Fits, FitsAt, IsRunning, GivesUp, OwnGoesOn, GoesOn, RunsBeside}
+use Rattle.hwp_cpu.specs.Processors.{carried_on, told_local, line_of, row_now, with_guest, AreCommands, BeginsAt, Follows, IsAdmitted, IsAnswered, IsReady, Next, NextOf, Shows, ShowsOf, at_number, bare, left_of, plan, plan_of, put, put_of, who, who_of}
+use Rattle.hwp_cpu.specs.Serving.{IsActedOn, Fits, FitsAt, IsRunning, GivesUp, KeepsGuests, OwnGoesOn, GoesOn, RunsBeside}
 use Rattle.hwp_cpu.proofs.CommandBegins.{settled}
 use Rattle.hwp_cpu.proofs.ProcessorKeeps.{later-none}
 use Rattle.hwp_cpu_course.specs.Courses.{local_after, FitsOf, IsGoing, rests, row_of, AfterOwn, AfterOwnIf, FitsOwn, AfterSoft, bare_of, AfterOwnBy, answer_of, part, with_result, part_of, answer, passed}
@@ -44,6 +44,10 @@ use Rattle.hwp_cpu_course.specs.hwp_cpu_row.hwp_geom.declared.Frame.{Frame}
 use Rattle.hwp_cpu_course.specs.hwp_cpu_command.declared.job.Job.TheVariants as kinds
 use Rattle.hwp_cpu_course.specs.Courses as courses
 use Rattle.hwp_cpu_course.specs.hwp_cpu_command.hwp_soft.Softs as softs
+use Rattle.hwp_cpu_course.specs.hwp_cpu_row.GuestLists.{line_in}
+use Rattle.hwp_cpu_causes.proofs.of_hwp_law_served.CommandKeeps.{made-none-later}
+use Rattle.hwp_cpu.proofs.GuestsKept.{admitted-now, guests-answered, guests-turn}
+use Rattle.hwp_cpu.proofs.Within.{bare-denial, course-denial}
 
 pub can : (layout : Layout) (view : View) (p : Processor) (step : Step) → Fits layout view p → plan p ≡ Some step → CanMake layout (who p) step (put p) view
 can layout view p step fits is = which p.course fits.at is
@@ -93,6 +97,7 @@ bare-change (kinds.Inject i) has = tt
 bare-change (kinds.Soft s) has = tt
 bare-change (kinds.Fsync f) has = tt
 bare-change (kinds.Prctl p) has = tt
+bare-change (kinds.Denied p) has = tt
 bare-change (kinds.Fork g) has = tt
 bare-change (kinds.Spoil s) has = tt
 bare-change (kinds.Nested n) has = tt
@@ -203,7 +208,7 @@ module _ (layout : Layout) (old new : View) (cpu : Cpu) (list : List Command) (r
 -- ---- a turn of the processor
 
 module _ (layout : Layout) (old new : View) (p : Processor) (step : Step) (found : ℕ) (got : Option BodyValue) (ready : IsReady p) (same : arc_value p.layout ≡ layout) (c : Course)
-    (at : FitsAt layout old p.cpu p.commands p.rows.items p.local (Some c)) (is : jobs.plan (part c) ≡ Some step) (made : Steps layout (jobs.who c.own) step (logs (jobs.put (part c))) old new found got) where
+    (at : FitsAt layout old p.cpu p.commands p.rows.items p.local (Some c)) (kept : KeepsGuests layout old p.cpu p.commands p.rows.items p.local.guests (Some c)) (is : jobs.plan (part c) ≡ Some step) (made : Steps layout (jobs.who c.own) step (logs (jobs.put (part c))) old new found got) where
   abbrev rows : List Row
   rows = p.rows.items
 
@@ -217,6 +222,14 @@ module _ (layout : Layout) (old new : View) (p : Processor) (step : Step) (found
       which : IsRunning layout old p.cpu p.commands rows p.local c ⊎ GivesUp layout old p.cpu p.commands rows c → (command : Command) × (copies : Option VSlot) × IsActedOn layout p.commands rows command copies × Runs layout (at_number p.cpu (length rows)) command copies c.own
       which (inl run) = (run.command, run.copies, run.way.next, run.way.runs)
       which (inr up) = (up.command, up.copies, up.next, up.runs)
+
+  -- what it keeps of guests stays so over the turn
+  other : (i : ℕ) → i < length rows → at_number p.cpu i ≢ jobs.who c.own
+  other i less same_who = let at_end : i ≡ length rows = ap (λ (w : Who). w.seq) (same_who ∙ runs-who layout (at_number p.cpu (length rows)) known.0 known.1 c.own known.3) in absurd (omega (arith, less, at_end))
+
+  still : (d : Course) (t : Turn) → courses.Next layout (courses.bare c) found got d t → KeepsGuests layout new p.cpu p.commands rows p.local.guests (Some d)
+  still d t next = guests-turn layout old new p.cpu p.commands rows p.local.guests c d (λ i less none. made-none-later (lawful.can layout old c step at.0 is) made (at_number p.cpu i) (other i less) none)
+      (course-denial layout (courses.bare c) found got d t next ∙ bare-denial c) kept
 
   -- the turn of the command that runs, and what the processor comes to by it
   follows : (d : Course) (t : Turn) → courses.Next layout (courses.bare c) found got d t → (o : Option Answer) → answer d ≡ o → (after : Processor) (turn : Turn) → Follows (bare p) d o t after turn
@@ -232,11 +245,11 @@ module _ (layout : Layout) (old new : View) (p : Processor) (step : Step) (found
       which : (x : Option Answer) → answer d ≡ x → Follows (bare p) d x t after turn → Fits layout new after × ((who after).cpu ≡ (jobs.who c.own).cpu)
       which None none (after_is, turn_is) =
           subst (λ (q : Processor). Fits layout new q × ((who q).cpu ≡ (jobs.who c.own).cpu)) (sym after_is) (
-            record { ready = record { sound = ready.sound; commands = ready.commands; room = ready.room }; layout_is = same; at = (rule_after, subst (Turned layout new p.cpu p.commands rows p.local d) none came.0) },
+            record { ready = record { sound = ready.sound; commands = ready.commands; room = ready.room }; layout_is = same; at = (rule_after, subst (Turned layout new p.cpu p.commands rows p.local d) none came.0); guests = still d t next },
             (of-course.1 d t next).1,
           )
       which (Some a) some (answered, turn_is) = (
-        record { ready = ready-after p after d a ready those; layout_is = answered.layout_is ∙ same; at = there },
+        record { ready = ready-after p after d a ready those; layout_is = answered.layout_is ∙ same; at = there; guests = kept-there },
         own-cpu layout new after.cpu after.commands after.rows.items after.local after.course there ∙ answered.cpu_is ∙ sym (own-cpu layout old p.cpu p.commands rows p.local (Some c) at),
       )
         where
@@ -259,17 +272,35 @@ module _ (layout : Layout) (old new : View) (p : Processor) (step : Step) (found
           carried : carried_on p d a ≡ told_local layout (Some ends.way.next.own) a (local_after d a p.local)
           carried = ap (λ (l : Layout). told_local l (slice_get p.commands (length rows)) a (local_after d a p.local)) same ∙ ap (λ (o : Option Command). told_local layout o a (local_after d a p.local)) ends.way.next.there
 
-          here : FitsAt layout new p.cpu p.commands (rows ++ row_of d a ∷ []) (left_of after.course (carried_on p d a)) after.course
-          here = subst (λ (l : Local). FitsAt layout new p.cpu p.commands (rows ++ row_of d a ∷ []) (left_of after.course l) after.course) (sym carried)
-              (settled layout new p.cpu p.commands rows p.local d a ends came.1 (subst (λ (l : Layout). AreCommands l p.cpu p.commands) same ready.commands) answered.round after.course
-              (subst (λ (l : Local). BeginsAt layout (at_number p.cpu (length rows + 1)) (slice_get p.commands (length rows + 1)) l after.course) carried
-              (subst (λ (l : Layout). BeginsAt l (at_number p.cpu (length rows + 1)) (slice_get p.commands (length rows + 1)) (carried_on p d a) after.course) same answered.begins)))
+          -- its row, with the line of its guest
+          row-is : row_now p d a ≡ with_guest (row_of d a) (line_in layout (length rows) ends.way.next.own a)
+          row-is = ap (λ (l : Layout). with_guest (row_of d a) (line_of l (length rows) (slice_get p.commands (length rows)) a)) same ∙ ap (λ (o : Option Command). with_guest (row_of d a) (line_of layout (length rows) o a)) ends.way.next.there
+
+          coming : BeginsAt layout (at_number p.cpu (length rows + 1)) (slice_get p.commands (length rows + 1)) (told_local layout (Some ends.way.next.own) a (local_after d a p.local)) after.course
+          coming = subst (λ (l : Local). BeginsAt layout (at_number p.cpu (length rows + 1)) (slice_get p.commands (length rows + 1)) l after.course) carried
+              (subst (λ (l : Layout). BeginsAt l (at_number p.cpu (length rows + 1)) (slice_get p.commands (length rows + 1)) (carried_on p d a) after.course) same answered.begins)
+
+          here : FitsAt layout new p.cpu p.commands (rows ++ row_now p d a ∷ []) (left_of after.course (carried_on p d a)) after.course
+          here = subst (λ (r : Row). FitsAt layout new p.cpu p.commands (rows ++ r ∷ []) (left_of after.course (carried_on p d a)) after.course) (sym row-is)
+              (subst (λ (l : Local). FitsAt layout new p.cpu p.commands (rows ++ with_guest (row_of d a) (line_in layout (length rows) ends.way.next.own a) ∷ []) (left_of after.course l) after.course) (sym carried)
+              (settled layout new p.cpu p.commands rows p.local d a ends came.1 (subst (λ (l : Layout). AreCommands l p.cpu p.commands) same ready.commands) answered.round after.course coming))
+
+          kept-here : KeepsGuests layout new p.cpu p.commands (rows ++ row_now p d a ∷ []) (left_of after.course (carried_on p d a)).guests after.course
+          kept-here = subst (λ (r : Row). KeepsGuests layout new p.cpu p.commands (rows ++ r ∷ []) (left_of after.course (carried_on p d a)).guests after.course) (sym row-is)
+              (subst (λ (l : Local). KeepsGuests layout new p.cpu p.commands (rows ++ with_guest (row_of d a) (line_in layout (length rows) ends.way.next.own a) ∷ []) (left_of after.course l).guests after.course) (sym carried)
+              (guests-answered layout new p.cpu p.commands rows p.local d a ends (still d t next) after.course coming))
+
+          kept-there : KeepsGuests layout new after.cpu after.commands after.rows.items after.local.guests after.course
+          kept-there = subst (λ (n : Cpu). KeepsGuests layout new n after.commands after.rows.items after.local.guests after.course) (sym answered.cpu_is)
+              (subst (λ (l : List Command). KeepsGuests layout new p.cpu l after.rows.items after.local.guests after.course) (sym answered.commands_are)
+              (subst (λ (l : List Row). KeepsGuests layout new p.cpu p.commands l after.local.guests after.course) (sym answered.rows_are)
+              (subst (λ (l : Local). KeepsGuests layout new p.cpu p.commands (rows ++ row_now p d a ∷ []) l.guests after.course) (sym answered.local_is) kept-here)))
 
           there : FitsAt layout new after.cpu after.commands after.rows.items after.local after.course
           there = subst (λ (n : Cpu). FitsAt layout new n after.commands after.rows.items after.local after.course) (sym answered.cpu_is)
               (subst (λ (l : List Command). FitsAt layout new p.cpu l after.rows.items after.local after.course) (sym answered.commands_are)
               (subst (λ (l : List Row). FitsAt layout new p.cpu p.commands l after.local after.course) (sym answered.rows_are)
-              (subst (λ (l : Local). FitsAt layout new p.cpu p.commands (rows ++ row_of d a ∷ []) l after.course) (sym answered.local_is) here)))
+              (subst (λ (l : Local). FitsAt layout new p.cpu p.commands (rows ++ row_now p d a ∷ []) l after.course) (sym answered.local_is) here)))
 
   bare-within : HasChangeWithin c.own → HasChangeWithin (courses.bare c).own
   bare-within has = which c.beside
@@ -278,19 +309,23 @@ module _ (layout : Layout) (old new : View) (p : Processor) (step : Step) (found
       which None = bare-change c.own has
       which (Some s) = has
 
+  admitted : IsAdmitted (arc_value p.layout) (slice_get p.commands (length rows)) p.local.guests (courses.bare c).own
+  admitted = subst (λ (l : Layout). IsAdmitted l (slice_get p.commands (length rows)) p.local.guests (courses.bare c).own) (sym same)
+      (admitted-now layout old p.cpu p.commands rows p.local.guests c (courses.bare c).own (subst IsSound same ready.sound) (subst (λ (l : Layout). AreCommands l p.cpu p.commands) same ready.commands) (bare-denial c) kept)
+
   running : ShowsOf (bare p) (Some (courses.bare c)) found got
       × ((after : Processor) (turn : Turn) → NextOf layout (bare p) (Some (courses.bare c)) found got after turn → Fits layout new after × ((who after).cpu ≡ (jobs.who c.own).cpu))
   running = (
-    (of-course.0, bare-within (runs-within layout (at_number p.cpu (length rows)) known.0 known.1 c.own known.3), record { sound = ready.sound; commands = ready.commands; room = ready.room }, slice_get_within p.commands (length rows) known.2.own known.2.there),
+    (of-course.0, bare-within (runs-within layout (at_number p.cpu (length rows)) known.0 known.1 c.own known.3), record { sound = ready.sound; commands = ready.commands; room = ready.room }, slice_get_within p.commands (length rows) known.2.own known.2.there, admitted),
     λ after turn next. follows next.0 next.1 next.2 (answer next.0) refl after turn next.3,
   )
 
 pub stays : (layout : Layout) (old new : View) (p : Processor) (step : Step) (found : ℕ) (got : Option BodyValue) → Fits layout old p → plan p ≡ Some step → Steps layout (who p) step (logs (put p)) old new found got
     → Shows (bare p) found got × ((after : Processor) (turn : Turn) → Next layout (bare p) found got after turn → Fits layout new after × ((who after).cpu ≡ (who p).cpu))
-stays layout old new p step found got fits is made = which p.course fits.at is made
+stays layout old new p step found got fits is made = which p.course fits.at fits.guests is made
   where
-    which : (x : Option Course) → FitsAt layout old p.cpu p.commands p.rows.items p.local x → plan_of x ≡ Some step → Steps layout (who_of p.cpu x) step (logs (put_of x)) old new found got
+    which : (x : Option Course) → FitsAt layout old p.cpu p.commands p.rows.items p.local x → KeepsGuests layout old p.cpu p.commands p.rows.items p.local.guests x → plan_of x ≡ Some step → Steps layout (who_of p.cpu x) step (logs (put_of x)) old new found got
         → ShowsOf (bare p) (option_map courses.bare x) found got
         × ((after : Processor) (turn : Turn) → NextOf layout (bare p) (option_map courses.bare x) found got after turn → Fits layout new after × ((who after).cpu ≡ (who_of p.cpu x).cpu))
-    which (Some c) at e m = running layout old new p step found got fits.ready fits.layout_is c at e m
-    which None at e m = absurd (none-some step e)
+    which (Some c) at kept e m = running layout old new p step found got fits.ready fits.layout_is c at kept e m
+    which None at kept e m = absurd (none-some step e)

@@ -85,12 +85,13 @@ use Rattle.hwp_cpu_causes.proofs.of_hwp_law_served.PoisonMarks.{same-who}
 use Rattle.hwp_cpu_causes.proofs.of_hwp_law_served.Picked.{picked-has}
 use Rattle.hwp_cpu_causes.proofs.of_hwp_law_served.losses.LossesOwed.{owes-own}
 use Rattle.hwp_cpu_causes.proofs.of_hwp_law_served.marks.Marked.{same-self}
-use Rattle.hwp_cpu.specs.Processors.{at_number}
+use Rattle.hwp_cpu.specs.Processors.{at_number, with_guest}
 use Rattle.hwp_cpu.specs.Serving.{AreNoted, HasAccount, IsListed, marked_so_far}
 use Rattle.hwp_cpu.proofs.Marks.{GrowAlike, beside-alike, regrown}
 use Rattle.hwp_cpu.proofs.Rows.{notes-more, spoil-more}
 use Rattle.hwp_cpu.proofs.EachKind.{spoils-line, prior-none}
 use Rattle.hwp_cpu_course.specs.hwp_cpu_row.hwp_core_task.Hands.{empty}
+use Rattle.hwp_cpu_course.specs.hwp_cpu_row.hwp_report_text.declared.GuestLine.{GuestLine}
 
 -- ---- over a step
 
@@ -297,14 +298,14 @@ spoiling-acted layout earlier (commands.Free slot) s is = absurd (no-spoil s.dam
 spoiling-acted layout earlier own s is = is
 
 -- a line that the command has spoiled is one of a command that is answered
-pub spoils-end : (layout : Layout) (cpu : Cpu) (list : List Command) (rows : List Row) (own command : Command) (copies : Option VSlot) (j : Job) (a : Answer) (offlined : List Offlining) (s : Spoiled) → slice_get list (length rows) ≡ Some own → command ≡ acting layout (answers_by list rows) own → Runs layout (at_number cpu (length rows)) command copies j
-    → jobs.answer j ≡ Some a → IsOwnSpoil cpu list rows s ⊎ HasSpoiled j s → IsOwnSpoil cpu list (rows ++ jobs.row_of j a offlined ∷ []) s
-spoils-end layout cpu list rows own command copies j a offlined s there acts runs is (inl early) = spoil-more cpu list rows (jobs.row_of j a offlined) s early
-spoils-end layout cpu list rows own command copies j a offlined s there acts runs is (inr has) = record {
+pub spoils-end : (layout : Layout) (cpu : Cpu) (list : List Command) (rows : List Row) (own command : Command) (copies : Option VSlot) (j : Job) (a : Answer) (offlined : List Offlining) (guest : Option GuestLine) (s : Spoiled) → slice_get list (length rows) ≡ Some own → command ≡ acting layout (answers_by list rows) own → Runs layout (at_number cpu (length rows)) command copies j
+    → jobs.answer j ≡ Some a → IsOwnSpoil cpu list rows s ⊎ HasSpoiled j s → IsOwnSpoil cpu list (rows ++ with_guest (jobs.row_of j a offlined) guest ∷ []) s
+spoils-end layout cpu list rows own command copies j a offlined guest s there acts runs is (inl early) = spoil-more cpu list rows (with_guest (jobs.row_of j a offlined) guest) s early
+spoils-end layout cpu list rows own command copies j a offlined guest s there acts runs is (inr has) = record {
   cpu_is = ap (λ (w : Who). w.cpu) by.0;
   there = ap (slice_get list) number ∙ there ∙ ap (λ (c : Command). Some c) (spoiling-acted layout (answers_by list rows) own s (sym acts ∙ by.1));
-  row = jobs.row_of j a offlined;
-  row_is = ap (slice_get (rows ++ jobs.row_of j a offlined ∷ [])) number ∙ at_last rows (jobs.row_of j a offlined);
+  row = with_guest (jobs.row_of j a offlined) guest;
+  row_is = ap (slice_get (rows ++ with_guest (jobs.row_of j a offlined) guest ∷ [])) number ∙ at_last rows (with_guest (jobs.row_of j a offlined) guest);
   answered = same_Some a answers.Done (sym is ∙ has-spoiled j s has);
 }
   where
@@ -336,7 +337,7 @@ module _ (base : List Made) (layout : Layout) (view : View) (who : Who) (command
   own-who = runs-who layout who command copies j runs
 
   pub failed-end : failures who view ≡ failed_now j
-  failed-end = subst (λ (w : Who). failures w view ≡ failed_now j) own-who (failures-at-end layout view j fits (prior-none layout who command copies j base runs prior) has (λ fails. subst (λ (w : Who). failures w view ≡ failed_now j) (sym own-who) (failed fails)))
+  failed-end = subst (λ (w : Who). failures w view ≡ failed_now j) own-who (failures-at-end layout view j fits (prior-none layout view who command copies j base runs fits prior) has (λ fails. subst (λ (w : Who). failures w view ≡ failed_now j) (sym own-who) (failed fails)))
 
   -- it owes no loss: a command that may make some owes none by then, and the others make none
   pub no-loss : view.owed.losses ≡ []

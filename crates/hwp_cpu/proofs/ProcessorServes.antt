@@ -18,7 +18,7 @@ use Rattle.hwp_cpu_course.proofs.of_hwp_cpu_row.of_hwp_core_rule.NotLater.{one-v
 use Rattle.hwp_cpu_course.specs.hwp_cpu_row.hwp_core_task.Boards.{AreSeated, view_of}
 use Rattle.hwp_cpu_course.specs.hwp_cpu_row.hwp_core_task.Hands.{Hand}
 use Rattle.hwp_cpu_course.specs.hwp_cpu_row.hwp_core_task.Known.{HasMadeNone}
-use Rattle.hwp_cpu_causes.specs.hwp_law_served.Served.{IsBegun, HasServed}
+use Rattle.hwp_cpu_causes.specs.hwp_law_served.Served.{HasActed, IsBegun}
 use Rattle.hwp_cpu_causes.proofs.of_hwp_law_served.RunEnds.{of-deeds}
 use Rattle.hwp_cpu.specs.Processors.{at_number}
 use Rattle.hwp_cpu.specs.Serving.{IsDone}
@@ -54,7 +54,7 @@ module _ (layout : Layout) (last : State) (seat : Cpu → ℕ) (holds : Holds la
       which (inl less) = less
       which (inr past) = absurd (of-deeds (λ (x : Made). ⊥) view (at_number cpu m.entry.who.seq) i m (subst (EachMember (λ (x : Made). ⊥)) (sym (none m.entry.who.seq past)) (λ j x e. none-some x e)) at by)
 
-  pub served : (list : List Command) (rows : List Row) (local : Local) → IsDone layout view cpu list rows local → HasServed layout view cpu list rows
+  pub served : (list : List Command) (rows : List Row) (local : Local) → IsDone layout view cpu list rows local → HasActed layout view cpu list rows
   served list rows local done = record {
     count = done.all;
     banks = local.banks;

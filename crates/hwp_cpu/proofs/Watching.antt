@@ -19,7 +19,7 @@ use Rattle.hwp_cpu_course.specs.Courses.{begin, IsOfMachine}
 use Rattle.hwp_cpu_causes.specs.hwp_law_served.Offlinings.{KnowsDue, left_among, watched_at, AreDue, watched_along}
 use Rattle.hwp_cpu.specs.Serving.{noting, HasToldAll, OwnGoesOn, KeepsWatch, left_so_far}
 use Rattle.hwp_cpu_causes.specs.Beside.{ArePriorWith}
-use Rattle.hwp_cpu_course.specs.hwp_cpu_command.Runs.{Runs}
+use Rattle.hwp_cpu_course.specs.hwp_cpu_command.Runs.{Runs, RunsAs, RunsDenied}
 use Rattle.hwp_cpu_course.specs.hwp_cpu_row.hwp_law_commands.Commands.{is_watch}
 use Rattle.std.proofs.lemmas.List.{take-append-le, take_all, length-append, length-map, length-replicate, get_or-replicate}
 use Rattle.hwp_cpu_course.specs.hwp_cpu_row.hwp_law_commands.Watched.{told, due, Watched, watched_after}
@@ -47,6 +47,7 @@ use Rattle.hwp_cpu_course.specs.hwp_cpu_row.hwp_script_lines.declared.Command.Th
 use Rattle.hwp_cpu_course.specs.hwp_cpu_command.declared.job.Job.TheVariants as kinds
 use Rattle.hwp_cpu_course.specs.hwp_cpu_row.hwp_report_text.declared.Answer.TheVariants as answers
 use Rattle.hwp_cpu_course.specs.hwp_cpu_command.hwp_cpu_raise.declared.LocalChange.TheVariants as changes
+use Rattle.hwp_cpu_causes.proofs.DeniedCauses.{access-by, runs-kind}
 
 -- ---- the rows
 
@@ -158,7 +159,7 @@ module _ (frames : ℕ) (notes : List Frame) (watched : Option Watched) (w : Opt
   of-job command a j k same left = subst (λ (x : Job). Left command a (watching_after x a w)) (sym same) left
 
   -- after a command with this answer
-  plain-ends : (layout : Layout) (who : Who) (command : Command) (j : Job) (a : Answer) → Runs layout who command None j → StandsOn j a w → (is_watch command ≡ true → IsSome w) → Left command a (watching_after j a w)
+  plain-ends : (layout : Layout) (who : Who) (command : Command) (j : Job) (a : Answer) → RunsAs layout who command None j → StandsOn j a w → (is_watch command ≡ true → IsSome w) → Left command a (watching_after j a w)
   plain-ends layout who (commands.Load thread slot line) j a runs stands room = let task = of-instruction j runs.job_is in of-job (commands.Load thread slot line) a j _ task.1 is
   plain-ends layout who (commands.Fetch thread slot line) j a runs stands room = let task = of-instruction j runs.job_is in of-job (commands.Fetch thread slot line) a j _ task.1 is
   plain-ends layout who (commands.KLoad thread slot line) j a runs stands room = let task = of-instruction j runs.job_is in of-job (commands.KLoad thread slot line) a j _ task.1 is
@@ -184,13 +185,19 @@ module _ (frames : ℕ) (notes : List Frame) (watched : Option Watched) (w : Opt
       of-job (commands.Watch threshold window) a j _ task.1 (subst (λ (c : LocalChange). Left (commands.Watch threshold window) a (watched_by c a w)) (sym (ap (λ (l : Log). l.change) task.2)) (watch-left threshold window a (room refl)))
   plain-ends layout who (commands.Scrub first last) j a runs stands room = let task = of-scrub j runs.job_is in of-job (commands.Scrub first last) a j _ task.1 (scrub-left first last a (subst (λ (x : Job). StandsOn x a w) task.1 stands))
 
-  copy-ends : (layout : Layout) (who : Who) (command : Command) (from : VSlot) (j : Job) (a : Answer) → Runs layout who command (Some from) j → Left command a (watching_after j a w)
+  copy-ends : (layout : Layout) (who : Who) (command : Command) (from : VSlot) (j : Job) (a : Answer) → RunsAs layout who command (Some from) j → Left command a (watching_after j a w)
   copy-ends layout who (commands.Store thread slot line word) from j a runs = let task = of-copying j runs.job_is in of-job (commands.Store thread slot line word) a j _ task.1 is
   copy-ends layout who command from j a runs = absurd runs
 
+  denied-ends : (layout : Layout) (who : Who) (command : Command) (copies : Option VSlot) (j : Job) (a : Answer) → RunsDenied layout who command copies j → Left command a (watching_after j a w)
+  denied-ends layout who command copies j a denied = let task = (runs-kind j denied).1 in
+      access-by (λ (c : Command). Left c a (watching_after j a w)) (λ thread slot line. of-job (commands.Load thread slot line) a j _ task is) (λ thread slot line. of-job (commands.Fetch thread slot line) a j _ task is)
+      (λ thread slot line. of-job (commands.KLoad thread slot line) a j _ task is) (λ thread slot line word. of-job (commands.Store thread slot line word) a j _ task is) command denied.1.access
+
   pub watching-ends : (layout : Layout) (who : Who) (command : Command) (copies : Option VSlot) (j : Job) (a : Answer) → Runs layout who command copies j → StandsOn j a w → (is_watch command ≡ true → IsSome w) → Left command a (watching_after j a w)
-  watching-ends layout who command None j a runs stands room = plain-ends layout who command j a runs stands room
-  watching-ends layout who command (Some from) j a runs stands room = copy-ends layout who command from j a runs
+  watching-ends layout who command copies j a (inl denied) stands room = denied-ends layout who command copies j a denied
+  watching-ends layout who command None j a (inr runs) stands room = plain-ends layout who command j a runs stands room
+  watching-ends layout who command (Some from) j a (inr runs) stands room = copy-ends layout who command from j a runs
 
 -- a collector stays one
 pub room-stays : (j : Job) (a : Answer) (w : Option Watching) → IsSome w → IsSome (watching_after j a w)

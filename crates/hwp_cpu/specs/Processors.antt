@@ -21,13 +21,18 @@ use Rattle.hwp_cpu_course.specs.hwp_cpu_row.hwp_core_task.declared.Turn.{Turn}
 use Rattle.hwp_cpu_course.specs.hwp_cpu_row.hwp_core_task.declared.Turn.TheVariants as turns
 use Rattle.hwp_cpu_course.specs.hwp_cpu_row.hwp_core_task.Ranks.{command_weight}
 use Rattle.hwp_cpu_course.specs.hwp_cpu_command.FileHandles.{HasChangeWithin, StandsOn}
+use Rattle.hwp_cpu_course.specs.hwp_cpu_command.declared.Job.{Job}
 use Rattle.hwp_cpu_course.specs.hwp_cpu_command.Jobs as jobs
 use Rattle.hwp_cpu_course.specs.declared.Course.{Course}
 use Rattle.hwp_cpu_course.specs.Courses as courses
 use Rattle.hwp_cpu_course.specs.Courses.{BeginsCourse, local_after, local_left, part, row_of}
 use Rattle.hwp_cpu_course.specs.hwp_cpu_row.declared.Local.{Local}
 use Rattle.hwp_cpu_course.specs.hwp_cpu_row.CowLists.{acting_in, copied_in, told_in}
+use Rattle.hwp_cpu_course.specs.hwp_cpu_row.GuestLists as guests
+use Rattle.hwp_cpu_course.specs.hwp_cpu_row.GuestLists.{MayMeet, MayTell, States, denied_in, line_in}
 use Rattle.hwp_cpu_course.specs.hwp_cpu_row.Locals.{IsFirst}
+use Rattle.hwp_cpu_course.specs.hwp_cpu_row.declared.Row.{Row}
+use Rattle.hwp_cpu_course.specs.hwp_cpu_row.hwp_report_text.declared.GuestLine.{GuestLine}
 use Rattle.hwp_cpu.specs.declared.processor.Processor.{Processor}
 
 -- the command of this number of the processor
@@ -54,10 +59,10 @@ pub record IsReady (p : Processor) : Type 0 where
   pub room : length p.commands ≤ vec_capacity p.rows
 
 -- the command is at its beginning, of a processor that carries this: it is acted on through the translations that stand for those it names,
--- and copies from one that is frozen; it begins with what the banks hold, and with the number of its file's handle, knows whether the
+-- and copies from one that is frozen; one that its guest doesn't admit is answered by that guest; it begins with what the banks hold, and with the number of its file's handle, knows whether the
 -- processor collects, and has the collector while it runs; past the last command none runs
 abbrev pub BeginsAt : Layout → Who → Option Command → Local → Option Course → Type 0
-BeginsAt layout who (Some command) local (Some c) = BeginsCourse layout who (acting_in layout local.cows command) (copied_in local.cows command) local c
+BeginsAt layout who (Some command) local (Some c) = BeginsCourse layout who (acting_in layout local.cows command) (copied_in local.cows command) (denied_in layout local.guests command) local c
 BeginsAt layout who None local None = Unit {0}
 BeginsAt layout who _ local _ = ⊥
 
@@ -137,22 +142,48 @@ cost p words = command_weight * (length p.commands - length p.rows.items) + cost
 
 -- ---- what a turn comes to
 
+-- the script's command that has come
+abbrev pub command_now : Processor → Option Command
+command_now p = slice_get p.commands (length p.rows.items)
+
+-- where it is answered so, its access can meet a bad line as one of a guest
+abbrev pub MayTellOf : Layout → Option Command → Answer → States → Type 0
+MayTellOf layout None answer guests = Unit {0}
+MayTellOf layout (Some command) answer guests = MayTell layout guests command answer
+
+-- so it is of any answer, unless its guest doesn't admit it
+abbrev pub IsAdmitted : Layout → Option Command → States → Job → Type 0
+IsAdmitted layout None guests j = Unit {0}
+IsAdmitted layout (Some command) guests j = jobs.denial_of j ≡ None → MayMeet layout guests command
+
 -- what the command shows, where there is a command that can be answered and ended
 abbrev pub ShowsOf : Processor → Option Course → ℕ → Option BodyValue → Type 0
-ShowsOf p (Some c) found got = courses.Shows c found got × HasChangeWithin c.own × IsReady p × (length p.rows.items < length p.commands)
+ShowsOf p (Some c) found got = courses.Shows c found got × HasChangeWithin c.own × IsReady p × (length p.rows.items < length p.commands) × IsAdmitted (arc_value p.layout) (command_now p) p.local.guests c.own
 ShowsOf p None found got = Unit {0}
 
 abbrev pub Shows : Processor → ℕ → Option BodyValue → Type 0
 Shows p found got = ShowsOf p p.course found got
 
--- what the processor carries on behind this command with this answer: it knows what is frozen and switched
+-- what the processor carries on behind this command with this answer: it knows what is frozen and switched, and what each guest is
 abbrev pub told_local : Layout → Option Command → Answer → Local → Local
 told_local layout None answer local = local
-told_local layout (Some command) answer local = record local { cows = told_in layout command answer local.cows }
+told_local layout (Some command) answer local = record local { cows = told_in layout command answer local.cows; guests = guests.told_in layout command answer local.guests }
+
+-- and the guest's line of the command
+abbrev pub line_of : Layout → ℕ → Option Command → Answer → Option GuestLine
+line_of layout seq None answer = None
+line_of layout seq (Some command) answer = line_in layout seq command answer
 
 -- the same behind the command of this number, that comes to its end
 abbrev pub carried_on : Processor → Course → Answer → Local
-carried_on p c answer = told_local (arc_value p.layout) (slice_get p.commands (length p.rows.items)) answer (local_after c answer p.local)
+carried_on p c answer = told_local (arc_value p.layout) (command_now p) answer (local_after c answer p.local)
+
+-- its row, with the guest's line
+abbrev pub with_guest : Row → Option GuestLine → Row
+with_guest row guest = record row { guest = guest }
+
+abbrev pub row_now : Processor → Course → Answer → Row
+row_now p c answer = with_guest (row_of c answer) (line_of (arc_value p.layout) (length p.rows.items) (command_now p) answer)
 
 -- the command that ran is answered so, its row is the last one, and the next command begins with what it left, perhaps in a new round of
 -- the collector
@@ -160,7 +191,7 @@ pub record IsAnswered (p : Processor) (c : Course) (answer : Answer) (after : Pr
   pub layout_is : arc_value after.layout ≡ arc_value p.layout
   pub cpu_is : after.cpu ≡ p.cpu
   pub commands_are : after.commands ≡ p.commands
-  pub rows_are : after.rows.items ≡ p.rows.items ++ row_of c answer ∷ []
+  pub rows_are : after.rows.items ≡ p.rows.items ++ row_now p c answer ∷ []
   pub room : vec_capacity after.rows ≡ vec_capacity p.rows
   pub round : StandsOn c.own answer c.watching
   pub begins : BeginsAt (arc_value p.layout) (at_number p.cpu (length p.rows.items + 1)) (slice_get p.commands (length p.rows.items + 1)) (carried_on p c answer) after.course

@@ -34,6 +34,9 @@ use Rattle.hwp_cpu_course.specs.hwp_cpu_row.hwp_law_commands.Settings.{settings}
 use Rattle.hwp_cpu_course.specs.hwp_cpu_row.declared.Offlining.{Offlining}
 use Rattle.hwp_cpu_course.specs.hwp_cpu_row.Acts.{AreInTime, acts, told_notes}
 use Rattle.hwp_cpu_course.specs.hwp_cpu_row.CowLists.{AreCowsOf, KnowsCows}
+use Rattle.hwp_cpu_course.specs.hwp_cpu_row.GuestLists as lists
+use Rattle.hwp_cpu_course.specs.hwp_cpu_row.GuestLists.{AreGuestsOf, States}
+use Rattle.hwp_cpu_course.specs.hwp_cpu_row.hwp_law_commands.Guests.{denied}
 use Rattle.hwp_cpu_course.specs.hwp_cpu_row.Locals.{IsWatching, collects}
 use Rattle.hwp_cpu_course.specs.hwp_cpu_row.hwp_cec.Ages.{Note}
 use Rattle.hwp_cpu_course.specs.hwp_cpu_row.hwp_law_commands.Commands.{is_watch}
@@ -64,6 +67,7 @@ use Rattle.hwp_cpu_course.specs.Courses.{is_abandoned, part}
 use Rattle.hwp_cpu_causes.specs.Beside.{ArePriorWith, CanCollect, DoesSo, IsOwnServed}
 use Rattle.hwp_cpu_causes.specs.hwp_law_served.Causes.{HasOnlyMet}
 use Rattle.hwp_cpu_causes.specs.hwp_law_served.Accounts.{IsNote, act_marking, failures, markings, policies_set}
+use Rattle.hwp_cpu_causes.specs.hwp_law_served.Guests.{KnowsGuests}
 use Rattle.hwp_cpu_causes.specs.hwp_law_served.Handles.{KnowsNumbers, answers_by, number_at}
 use Rattle.hwp_cpu_causes.specs.hwp_law_served.Offlinings.{KnowsDue, left_among, left_beside, left_by, watched_at}
 use Rattle.hwp_cpu_causes.specs.hwp_law_served.Owed.{OwesOwn}
@@ -287,11 +291,26 @@ abbrev pub FitsAt : Layout → View → Cpu → List Command → List Row → Lo
 FitsAt layout view cpu list rows local (Some c) = courses.Fits layout view c × (IsRunning layout view cpu list rows local c ⊎ GivesUp layout view cpu list rows c)
 FitsAt layout view cpu list rows local None = IsDone layout view cpu list rows local
 
+-- the command that runs is denied where the guest of the script's command doesn't admit that, and as it says
+abbrev pub IsAsked : Layout → List (Command × Answer) → Option Command → Option Course → Type 0
+IsAsked layout earlier (Some own) (Some c) = jobs.denial_of c.own ≡ denied layout earlier own
+IsAsked layout earlier None (Some c) = ⊥
+IsAsked layout earlier own None = Unit {0}
+
+-- the processor remembers of each guest what the answers so far made of it, its rows say of guests what they have to, and the command that runs
+-- is denied if it has to be
+pub record KeepsGuests (layout : Layout) (view : View) (cpu : Cpu) (list : List Command) (rows : List Row) (guests : States) (x : Option Course) : Type 0 where
+  pub are : AreGuestsOf layout guests
+  pub known : lists.KnowsGuests layout (answers_by list rows) guests
+  pub rows_are : KnowsGuests layout view cpu list rows
+  pub asked : IsAsked layout (answers_by list rows) (slice_get list (length rows)) x
+
 -- the processor is of the machine, and its commands are answered or run
 pub record Fits (layout : Layout) (view : View) (p : Processor) : Type 0 where
   pub ready : IsReady p
   pub layout_is : arc_value p.layout ≡ layout
   pub at : FitsAt layout view p.cpu p.commands p.rows.items p.local p.course
+  pub guests : KeepsGuests layout view p.cpu p.commands p.rows.items p.local.guests p.course
 
 -- the task, as the laws of tasks read it
 abbrev pub task : Member Processor

@@ -2,13 +2,14 @@ ghost use Rattle.std.specs.Prelude.{◌≡◌, ◌+◌, ◌<◌, ◌≤◌, leng
 ghost use Rattle.std.specs.List.{list_any};
 ghost use Rattle.std.specs.Arc.{arc_value};
 ghost use Rattle.hwp_cpu_course.specs.hwp_cpu_row.hwp_geom.Layout.{IsSound};
+ghost use Rattle.hwp_cpu_course.specs.hwp_cpu_row.hwp_geom.Limits.{command_limit};
 ghost use Rattle.hwp_cpu_course.specs.hwp_cpu_row.hwp_law_commands.Commands.{is_watch};
 ghost use Rattle.hwp_cpu_course.specs.hwp_cpu_command.FileHandles.{HasChangeWithin};
-ghost use Rattle.hwp_cpu.specs.Processors.{AreCommands, AtBeginning, BeginsAt, IsAnswered, IsReady, at_number, left_of, told_local};
+ghost use Rattle.hwp_cpu.specs.Processors.{AreCommands, AtBeginning, BeginsAt, IsAnswered, IsReady, MayTellOf, at_number, command_now, left_of, line_of, told_local};
 
 use hwp_cpu_course::{
-    Answer, Body, Command, Course, Cpu, Layout, List, Local, OutOfMemory, Ranked, Row, Scheduled,
-    Step, Task, Turn, Who,
+    Answer, Body, Command, Course, Cpu, GuestLine, Layout, List, Local, OutOfMemory, Ranked, Row,
+    Scheduled, Step, Task, Turn, Who,
 };
 use std::alloc::{AllocError, Global};
 use std::sync::Arc;
@@ -87,16 +88,17 @@ impl Processor {
         requires ready { IsReady self.old }
         requires running { IsSomeAnd self.old.course (λ c. HasChangeWithin c.own) }
         requires room { length self.old.rows.items < length self.old.commands }
+        requires meets { MayTellOf (arc_value self.old.layout) (command_now self.old) answer self.old.local.guests }
         ensures { IsSomeAnd self.old.course (λ c. IsAnswered self.old c answer self.new) }
     {
         let Some(course) = &mut self.course else {
             return;
         };
-        let row = course.finish(self.alloc, answer, &mut self.local);
+        let mut row = course.finish(self.alloc, answer, &mut self.local);
         let number = self.rows.len();
-        self.rows.push_reserved(row);
         let commands = self.commands.as_slice();
-        remember(&self.layout, commands, number, answer, &mut self.local);
+        row.guest = remember(&self.layout, commands, number, answer, &mut self.local);
+        self.rows.push_reserved(row);
         begin_next(
             self.alloc,
             &self.layout,
@@ -109,13 +111,25 @@ impl Processor {
     }
 }
 
-/// The processor knows what is frozen and switched behind the command of this number, which got this answer.
-fn remember(layout: &Layout, commands: &[Command], number: usize, answer: Answer, local: &mut Local)
-    ensures { local.new ≡ told_local layout.now (slice_get commands.now number) answer local.old }
+/// The processor knows what is frozen and switched behind the command of this number, which got this answer, and what each guest is; the
+/// line is that of the guest which has a machine check by it.
+fn remember(
+    layout: &Layout,
+    commands: &[Command],
+    number: usize,
+    answer: Answer,
+    local: &mut Local,
+) -> Option<GuestLine>
+    requires few { number < command_limit }
+    requires meets { MayTellOf layout.now (slice_get commands.now number) answer local.old.guests }
+    ensures line { result ≡ line_of layout.now number (slice_get commands.now number) answer }
+    ensures local { local.new ≡ told_local layout.now (slice_get commands.now number) answer local.old }
 {
-    if let Some(command) = commands.get(number) {
-        local.cows.told(layout, command, answer);
-    }
+    let Some(command) = commands.get(number) else {
+        return None;
+    };
+    local.cows.told(layout, command, answer);
+    local.guests.told(layout, number as u32, command, answer)
 }
 
 /// Whether one of the commands is a `watch`.
@@ -148,7 +162,8 @@ fn first(
     let who = Who { cpu, seq: 0 };
     let copies = local.cows.copied_from(command);
     let acting = local.cows.acting(layout, command);
-    Some(Course::new(alloc, layout, who, acting, copies, local))
+    let denied = local.guests.denied(layout, command);
+    Some(Course::new(alloc, layout, who, acting, copies, denied, local))
 }
 
 /// The command of this number begins in the same way, in place of the one that runs; past the last none runs.
@@ -178,8 +193,9 @@ fn begin_next(
     };
     let copies = local.cows.copied_from(command);
     let acting = local.cows.acting(layout, command);
+    let denied = local.guests.denied(layout, command);
     match course {
-        Some(running) => running.begin_next(alloc, layout, who, acting, copies, local),
+        Some(running) => running.begin_next(alloc, layout, who, acting, copies, denied, local),
         None => unreachable!(),
     }
 }

@@ -1,5 +1,5 @@
 -- A command that is answered is answered for a reason.
-use Rattle.std.proofs.Common.{◌≡◌, ℕ, List, Option, None, Some, [], subst}
+use Rattle.std.proofs.Common.{◌≡◌, ℕ, List, Option, None, Some, [], inl, inr, subst}
 use Rattle.hwp_law_served.specs.hwp_geom.declared.Layout.{Layout}
 use Rattle.hwp_law_served.specs.hwp_geom.declared.Thread.{Thread}
 use Rattle.hwp_law_served.specs.hwp_geom.declared.VSlot.{VSlot}
@@ -14,7 +14,7 @@ use Rattle.hwp_law_served.specs.hwp_law_commands.Settings.{settings}
 use Rattle.hwp_cpu_command.specs.declared.Job.{Job}
 use Rattle.hwp_cpu_command.specs.FileHandles.{HasHandle}
 use Rattle.hwp_cpu_command.specs.Jobs.{FitsFrom, answer, banks_before, own_of, told_of}
-use Rattle.hwp_cpu_command.specs.Runs.{Runs}
+use Rattle.hwp_cpu_command.specs.Runs.{Runs, RunsAs}
 use Rattle.hwp_cpu_command.specs.Settings.{AreCounted}
 use Rattle.hwp_law_served.specs.Causes.{IsAnswerCaused, IsCausedWith, IsCopyingCaused}
 use Rattle.hwp_cpu_causes.specs.Beside.{ArePrior, ArePriorWith}
@@ -22,6 +22,7 @@ use Rattle.hwp_cpu_causes.proofs.AccessCauses.{fetch-caused, kload-caused, knows
 use Rattle.hwp_cpu_causes.proofs.CallCauses.{fsync-caused, knows-losses, log-caused, nested-caused, open-caused, prctl-caused, spoil-caused, watch-caused}
 use Rattle.hwp_cpu_causes.proofs.copied.CopyCauses.{copy-caused, knows-copy}
 use Rattle.hwp_cpu_causes.proofs.copied.ForkCauses.{fork-caused, knows-fork}
+use Rattle.hwp_cpu_causes.proofs.DeniedCauses.{denied-caused, knows-denied}
 use Rattle.hwp_cpu_causes.proofs.InjectCauses.{inject-caused, knows-failure}
 use Rattle.hwp_cpu_causes.proofs.EvictCauses.{drop-caused, free-caused, knows-eviction, out-caused, sync-caused}
 use Rattle.hwp_cpu_causes.proofs.OfflineCauses.{knows-soft, soft-caused}
@@ -34,7 +35,7 @@ pub from-none : {base : List Made} (layout : Layout) (view : View) (j : Job) →
 from-none layout view j none fits = subst (λ (made : List Made). FitsFrom made layout view j) none fits
 
 -- of a command that copies nothing
-plain-caused : (layout : Layout) (earlier : List (Command × Answer)) (view : View) (who : Who) (command : Command) (j : Job) {a : Answer} (base : List Made) → Runs layout who command None j → FitsFrom base layout view j → ArePrior layout command base → answer j ≡ Some a
+plain-caused : (layout : Layout) (earlier : List (Command × Answer)) (view : View) (who : Who) (command : Command) (j : Job) {a : Answer} (base : List Made) → RunsAs layout who command None j → FitsFrom base layout view j → ArePrior layout command base → answer j ≡ Some a
     → AreCounted (λ (t : Thread). settings layout t earlier) view j → (handles : List ℕ) → HasHandle handles j → IsAnswerCaused layout earlier view who command (told_of j) (own_of j) a
 plain-caused layout earlier view who (commands.Load thread slot line) j base runs fits prior is counted handles has = load-caused earlier (own_of j) (knows-access j runs fits is) prior
 plain-caused layout earlier view who (commands.Fetch thread slot line) j base runs fits prior is counted handles has = fetch-caused earlier (own_of j) (knows-access j runs fits is) prior
@@ -61,11 +62,12 @@ plain-caused layout earlier view who (commands.Soft frame) j base runs fits prio
 plain-caused layout earlier view who (commands.Unpoison frame) j base runs fits prior is counted handles has = unpoison-caused earlier (told_of j) j (knows-unpoison j runs (from-none layout view j prior fits) is)
 
 -- of a store that copies
-copying-caused : (layout : Layout) (view : View) (who : Who) (command : Command) (from : VSlot) (j : Job) {a : Answer} (kept : Banks) → Runs layout who command (Some from) j → FitsFrom [] layout view j → answer j ≡ Some a → IsCopyingCaused layout from view who command (banks_before j kept) (told_of j) a
+copying-caused : (layout : Layout) (view : View) (who : Who) (command : Command) (from : VSlot) (j : Job) {a : Answer} (kept : Banks) → RunsAs layout who command (Some from) j → FitsFrom [] layout view j → answer j ≡ Some a → IsCopyingCaused layout from view who command (banks_before j kept) (told_of j) a
 copying-caused layout view who (commands.Store thread slot line word) from j kept runs fits is = copy-caused (knows-copy j runs fits is) kept
 copying-caused layout view who command from j kept runs fits is = absurd runs
 
 pub caused : (layout : Layout) (earlier : List (Command × Answer)) (copied : Option VSlot) (view : View) (who : Who) (command : Command) (j : Job) {a : Answer} (base : List Made) (kept : Banks) → Runs layout who command copied j → FitsFrom base layout view j → ArePriorWith layout command copied base
     → answer j ≡ Some a → AreCounted (λ (t : Thread). settings layout t earlier) view j → (handles : List ℕ) → HasHandle handles j → IsCausedWith layout earlier copied view who command (banks_before j kept) (told_of j) (own_of j) a
-caused layout earlier None view who command j base kept runs fits prior is counted handles has = plain-caused layout earlier view who command j base runs fits prior is counted handles has
-caused layout earlier (Some from) view who command j base kept runs fits prior is counted handles has = copying-caused layout view who command from j kept runs (from-none layout view j prior fits) is
+caused layout earlier copied view who command j base kept (inl denied) fits prior is counted handles has = denied-caused earlier copied j kept (knows-denied j denied fits is)
+caused layout earlier None view who command j base kept (inr runs) fits prior is counted handles has = plain-caused layout earlier view who command j base runs fits prior is counted handles has
+caused layout earlier (Some from) view who command j base kept (inr runs) fits prior is counted handles has = copying-caused layout view who command from j kept runs (from-none layout view j prior fits) is

@@ -1,5 +1,5 @@
 -- What a command that is answered tells of its machine checks, and what it leaves in the banks of its processor.
-use Rattle.std.proofs.Common.{◌≡◌, ℕ, true, List, [], Option, None, Some, refl, sym, ap, ◌∙◌, subst, true≢false}
+use Rattle.std.proofs.Common.{◌≡◌, ℕ, true, List, [], Option, None, Some, inl, inr, refl, sym, ap, ◌∙◌, subst, true≢false}
 use Rattle.hwp_law_served.specs.hwp_geom.declared.Layout.{Layout}
 use Rattle.hwp_law_served.specs.hwp_geom.declared.VSlot.{VSlot}
 use Rattle.hwp_law_served.specs.hwp_geom.declared.Who.{Who}
@@ -24,12 +24,13 @@ use Rattle.hwp_cpu_command.specs.declared.Job.TheVariants as jobs
 use Rattle.hwp_cpu_command.specs.Answers.{read_stop_answer}
 use Rattle.hwp_cpu_command.specs.Begins.{BeginsLog}
 use Rattle.hwp_cpu_command.specs.Jobs.{FitsFrom, answer, banks_after, banks_before, told_of}
-use Rattle.hwp_cpu_command.specs.Runs.{Runs, anew}
+use Rattle.hwp_cpu_command.specs.Runs.{Runs, RunsAs, anew}
 use Rattle.hwp_cpu_command.proofs.JobEnds.{mapped}
 use Rattle.hwp_cpu_command.proofs.OfKind.{of-evict, of-fork, of-fsync, of-inject, of-log, of-nested, of-prctl, of-soft, of-spoil, of-unpoison}
 use Rattle.hwp_law_served.specs.Told.{AreToldBy, AreToldWith}
 use Rattle.hwp_cpu_causes.specs.Beside.{ArePrior, ArePriorWith}
 use Rattle.hwp_cpu_causes.proofs.CauseLaws.{from-none}
+use Rattle.hwp_cpu_causes.proofs.DeniedCauses.{denied-told, knows-denied, runs-kind}
 use Rattle.hwp_cpu_causes.proofs.AccessCauses.{access-heeded, access-told, knows-access}
 use Rattle.hwp_cpu_causes.proofs.copied.CopyCauses.{copy-heeded, copy-told, knows-copy}
 use Rattle.hwp_cpu_causes.proofs.RaiseCauses.{knows-kernel-raise, knows-user-raise, raise-heeded, raise-told}
@@ -78,7 +79,7 @@ module _ {layout : Layout} {view : View} {who : Who} {a : Answer} (kept : Banks)
       fit = (subst (FitsFrom [] layout view) task.1 fits).1
 
 -- of a command that copies nothing
-plain-tells : (layout : Layout) (view : View) (who : Who) (command : Command) (j : Job) {a : Answer} (base : List Made) (kept : Banks) → Runs layout who command None j → FitsFrom base layout view j → ArePrior layout command base → answer j ≡ Some a → TellsRight layout None view who command j a kept
+plain-tells : (layout : Layout) (view : View) (who : Who) (command : Command) (j : Job) {a : Answer} (base : List Made) (kept : Banks) → RunsAs layout who command None j → FitsFrom base layout view j → ArePrior layout command base → answer j ≡ Some a → TellsRight layout None view who command j a kept
 plain-tells layout view who (commands.Load thread slot line) j base kept runs fits prior is = let k = knows-access j runs fits is in record { told = access-told k kept; heeded = access-heeded k }
 plain-tells layout view who (commands.Fetch thread slot line) j base kept runs fits prior is = let k = knows-access j runs fits is in record { told = access-told k kept; heeded = access-heeded k }
 plain-tells layout view who (commands.KLoad thread slot line) j base kept runs fits prior is = let k = knows-access j runs fits is in record { told = access-told k kept; heeded = access-heeded k }
@@ -104,11 +105,15 @@ plain-tells layout view who (commands.Soft frame) j base kept runs fits prior is
 plain-tells layout view who (commands.Unpoison frame) j base kept runs fits prior is = by-kind kept (commands.Unpoison frame) (of-unpoison j runs.job_is).1 refl (refl, refl)
 
 -- of a store that copies
-copying-tells : (layout : Layout) (view : View) (who : Who) (command : Command) (from : VSlot) (j : Job) {a : Answer} (kept : Banks) → Runs layout who command (Some from) j → FitsFrom [] layout view j → answer j ≡ Some a → TellsRight layout (Some from) view who command j a kept
+copying-tells : (layout : Layout) (view : View) (who : Who) (command : Command) (from : VSlot) (j : Job) {a : Answer} (kept : Banks) → RunsAs layout who command (Some from) j → FitsFrom [] layout view j → answer j ≡ Some a → TellsRight layout (Some from) view who command j a kept
 copying-tells layout view who (commands.Store thread slot line word) from j kept runs fits is = let k = knows-copy j runs fits is in record { told = copy-told k kept; heeded = copy-heeded k }
 copying-tells layout view who command from j kept runs fits is = absurd runs
 
 pub tells : (layout : Layout) (copied : Option VSlot) (view : View) (who : Who) (command : Command) (j : Job) {a : Answer} (base : List Made) (kept : Banks) → Runs layout who command copied j → FitsFrom base layout view j → ArePriorWith layout command copied base → answer j ≡ Some a
     → TellsRight layout copied view who command j a kept
-tells layout None view who command j base kept runs fits prior is = plain-tells layout view who command j base kept runs fits prior is
-tells layout (Some from) view who command j base kept runs fits prior is = copying-tells layout view who command from j kept runs (from-none layout view j prior fits) is
+tells layout copied view who command j base kept (inl denied) fits prior is = record {
+  told = denied-told copied j kept (knows-denied j denied fits is);
+  heeded = λ halted. absurd (true≢false (sym halted ∙ ap (λ (q : Job). halts (told_of q)) (runs-kind j denied).1));
+}
+tells layout None view who command j base kept (inr runs) fits prior is = plain-tells layout view who command j base kept runs fits prior is
+tells layout (Some from) view who command j base kept (inr runs) fits prior is = copying-tells layout view who command from j kept runs (from-none layout view j prior fits) is

@@ -1,6 +1,6 @@
 -- When a command is answered, each handle of its processor has the number that the answer gives it, and where the answer tells the
 -- number a step of the command showed it.
-use Rattle.std.proofs.Common.{◌≡◌, ℕ, ◌+◌, ◌<◌, ◌==◌, eq-eqb, Bool, true, false, cond, List, Option, None, Some, slice_get, slice_set, unwrap_or, refl, sym, ap, ◌∙◌, subst, arith}
+use Rattle.std.proofs.Common.{◌≡◌, ℕ, ◌+◌, ◌<◌, ◌==◌, eq-eqb, Bool, true, false, cond, List, Option, None, Some, inl, inr, slice_get, slice_set, unwrap_or, refl, sym, ap, ◌∙◌, subst, arith}
 use Rattle.std.proofs.lemmas.Bool.{both_ways, eqb-true}
 use Rattle.hwp_law_served.specs.hwp_geom.declared.FileNo.{FileNo}
 use Rattle.hwp_law_served.specs.hwp_geom.declared.Layout.{Layout}
@@ -27,9 +27,11 @@ use Rattle.hwp_cpu_command.specs.Answers.{fsync_answer}
 use Rattle.hwp_cpu_command.specs.Begins.{BeginsFsync}
 use Rattle.hwp_cpu_command.specs.FileHandles.{HasHandle, IsToldBy, handles_after}
 use Rattle.hwp_cpu_command.specs.Jobs.{FitsFrom, answer}
-use Rattle.hwp_cpu_command.specs.Runs.{Runs, anew}
+use Rattle.hwp_cpu_command.specs.Runs.{Runs, RunsAs, RunsDenied, anew}
 use Rattle.hwp_cpu_command.proofs.JobEnds.{fsync-over, mapped}
 use Rattle.hwp_cpu_command.proofs.OfKind.{of-copying, of-evict, of-fork, of-fsync, of-inject, of-instruction, of-log, of-nested, of-prctl, of-raise, of-scrub, of-soft, of-spoil, of-unpoison}
+use Rattle.hwp_cpu_causes.proofs.DeniedCauses.{access-by, runs-kind}
+use Rattle.hwp_law_served.specs.hwp_law_commands.Commands.{Access, access_of}
 
 -- a handle that had the number m has the number that the answer gives it; where the answer tells it, it was shown
 pub record IsNumbered (layout : Layout) (view : View) (who : Who) (command : Command) (a : Answer) (file : FileNo) (m : ℕ) (after : List ℕ) : Type 0 where
@@ -132,18 +134,23 @@ tells-opened file other (answers.Opened lost) is = eqb-true other.0 file.0 is
 tells-opened file other _ is = absurd (both_ways false refl is)
 
 -- a command that copies tells none
-untold-copying : {A : Type 0} (layout : Layout) (who : Who) (command : Command) (from : VSlot) (j : Job) (a : Answer) (file : FileNo) → Runs layout who command (Some from) j → tells_number file command a ≡ true → A
+untold-copying : {A : Type 0} (layout : Layout) (who : Who) (command : Command) (from : VSlot) (j : Job) (a : Answer) (file : FileNo) → RunsAs layout who command (Some from) j → tells_number file command a ≡ true → A
 untold-copying layout who (commands.Store thread slot line word) from j a file runs is = absurd (both_ways false refl is)
 untold-copying layout who _ from j a file runs is = absurd runs
 
-inside : (layout : Layout) (who : Who) (command : Command) (j : Job) (a : Answer) (file : FileNo) → Runs layout who command None j → tells_number file command a ≡ true → file.0 < layout.files
+inside : (layout : Layout) (who : Who) (command : Command) (j : Job) (a : Answer) (file : FileNo) → RunsAs layout who command None j → tells_number file command a ≡ true → file.0 < layout.files
 inside layout who (commands.Fsync other) j a file runs is = subst (λ (n : ℕ). n < layout.files) (tells-asked file other a is) runs.0
 inside layout who (commands.Open other) j a file runs is = subst (λ (n : ℕ). n < layout.files) (tells-opened file other a is) runs.0
 inside layout who _ j a file runs is = absurd (both_ways false refl is)
 
+-- an access tells none
+untold-denied : (command : Command) (a : Answer) (file : FileNo) {at : Access} → access_of command ≡ Some at → tells_number file command a ≡ false
+untold-denied command a file is = access-by (λ (c : Command). tells_number file c a ≡ false) (λ thread slot line. refl) (λ thread slot line. refl) (λ thread slot line. refl) (λ thread slot line word. refl) command is
+
 pub tells-inside : (layout : Layout) (who : Who) (command : Command) (copied : Option VSlot) (j : Job) (a : Answer) (file : FileNo) → Runs layout who command copied j → tells_number file command a ≡ true → file.0 < layout.files
-tells-inside layout who command None j a file runs is = inside layout who command j a file runs is
-tells-inside layout who command (Some from) j a file runs is = untold-copying layout who command from j a file runs is
+tells-inside layout who command copied j a file (inl denied) is = absurd (both_ways (tells_number file command a) (untold-denied command a file denied.1.access) is)
+tells-inside layout who command None j a file (inr runs) is = inside layout who command j a file runs is
+tells-inside layout who command (Some from) j a file (inr runs) is = untold-copying layout who command from j a file runs is
 
 -- ---- each command
 
@@ -178,7 +185,7 @@ module _ (base : List Made) (layout : Layout) (view : View) (who : Who) (j : Job
       known = subst (HasHandle handles) task.1 has
 
   -- of one that copies nothing
-  plain : (command : Command) → Runs layout who command None j → HasHandle handles j → IsNumbered layout view who command a file m (handles_after j handles)
+  plain : (command : Command) → RunsAs layout who command None j → HasHandle handles j → IsNumbered layout view who command a file m (handles_after j handles)
   plain (commands.Fsync other) runs has = told-by false other runs has
   plain (commands.Open other) runs has = told-by true other runs has
   plain (commands.Load thread slot line) runs has = leaves (commands.Load thread slot line) (of-instruction j runs.job_is).1 refl refl refl
@@ -203,10 +210,16 @@ module _ (base : List Made) (layout : Layout) (view : View) (who : Who) (j : Job
   plain (commands.Soft frame) runs has = leaves (commands.Soft frame) (of-soft j runs.job_is).1 refl refl refl
   plain (commands.Unpoison frame) runs has = leaves (commands.Unpoison frame) (of-unpoison j runs.job_is).1 refl refl refl
 
-  copying : (command : Command) (from : VSlot) → Runs layout who command (Some from) j → IsNumbered layout view who command a file m (handles_after j handles)
+  copying : (command : Command) (from : VSlot) → RunsAs layout who command (Some from) j → IsNumbered layout view who command a file m (handles_after j handles)
   copying (commands.Store thread slot line word) from runs = leaves (commands.Store thread slot line word) (of-copying j runs.job_is).1 refl refl refl
   copying _ from runs = absurd runs
 
+  denying : (command : Command) {copied : Option VSlot} → RunsDenied layout who command copied j → IsNumbered layout view who command a file m (handles_after j handles)
+  denying command denied = let task = (runs-kind j denied).1 in
+      access-by (λ (c : Command). IsNumbered layout view who c a file m (handles_after j handles)) (λ thread slot line. leaves (commands.Load thread slot line) task refl refl refl) (λ thread slot line. leaves (commands.Fetch thread slot line) task refl refl refl)
+      (λ thread slot line. leaves (commands.KLoad thread slot line) task refl refl refl) (λ thread slot line word. leaves (commands.Store thread slot line word) task refl refl refl) command denied.1.access
+
   pub numbered : (command : Command) (copied : Option VSlot) → Runs layout who command copied j → HasHandle handles j → IsNumbered layout view who command a file m (handles_after j handles)
-  numbered command None runs has = plain command runs has
-  numbered command (Some from) runs has = copying command from runs
+  numbered command copied (inl denied) has = denying command denied
+  numbered command None (inr runs) has = plain command runs has
+  numbered command (Some from) (inr runs) has = copying command from runs

@@ -214,6 +214,7 @@ answered-others base layout view (jobs.Instruction i) apart fits is = instructio
 answered-others base layout view (jobs.Evict e) apart fits is = evict-others e fits (mapped _ (evicts.answer e) is).1
 answered-others base layout view (jobs.Fsync f) apart fits is = from-first fits.0 (of-none view f.who fits.1.made_none)
 answered-others base layout view (jobs.Prctl p) apart fits is = from-first fits.0 (of-none view p.who fits.1.made)
+answered-others base layout view (jobs.Denied p) apart fits is = from-first fits.0 (of-none view p.who fits.1.made)
 answered-others base layout view (jobs.Fork f) apart fits is = from-first fits.0 (of-none view f.who fits.1.made)
 answered-others base layout view (jobs.Log l) apart fits is = from-first fits.0 (of-none view l.read.who fits.1.read.made)
 answered-others base layout view (jobs.Raise r) apart fits is = from-first fits.0 (raise-others r fits.1 (mapped _ (raises.answer r) is).1)

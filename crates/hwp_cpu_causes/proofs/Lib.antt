@@ -7,6 +7,7 @@ mod InjectCauses
 mod OfflineCauses
 mod UnpoisonCauses
 mod StopCauses
+pub mod DeniedCauses
 mod copied
 mod CauseLaws
 pub mod RowAccounts

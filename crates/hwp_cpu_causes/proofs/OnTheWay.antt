@@ -24,11 +24,12 @@ use Rattle.hwp_cpu_command.specs.declared.Job.{Job}
 use Rattle.hwp_cpu_command.specs.declared.Job.TheVariants as jobs
 use Rattle.hwp_cpu_command.specs.Jobs as all
 use Rattle.hwp_cpu_command.specs.Jobs.{FitsFrom}
-use Rattle.hwp_cpu_command.specs.Runs.{Runs, anew}
+use Rattle.hwp_cpu_command.specs.Runs.{Runs, RunsAs, anew}
 use Rattle.hwp_cpu_command.proofs.OfKind.{of-evict, of-fork, of-fsync, of-inject, of-instruction, of-log, of-nested, of-prctl, of-raise, of-scrub, of-soft, of-spoil, of-unpoison}
 use Rattle.hwp_law_served.specs.Causes.{HasOnlyMet, IsMet}
 use Rattle.hwp_cpu_causes.specs.Beside.{AddsBeside, ArePrior, ArePriorTo}
 use Rattle.hwp_cpu_causes.proofs.AccessCauses.{only-before, only-met, prior-before}
+use Rattle.hwp_cpu_causes.proofs.DeniedCauses.{runs-kind}
 
 -- of a command that copies nothing a task that pauses is an access, and so is its command
 pub record IsAccessOf (command : Command) (by : Who) (j : Job) : Type 0 where
@@ -53,30 +54,34 @@ of-access {command} {by} j {x} is of fails own = record {
 unpaused : {A : Type 0} {j k : Job} → j ≡ k → all.pauses k ≡ false → all.pauses j ≡ true → A
 unpaused {A} {j} {k} is none paused = absurd (both_ways (all.pauses j) (ap all.pauses is ∙ none) paused)
 
+as-access : (layout : Layout) (by : Who) (command : Command) (j : Job) → RunsAs layout by command None j → all.pauses j ≡ true → IsAccessOf command by j
+as-access layout by (commands.Load thread slot line) j runs p = of-access j runs.job_is refl refl refl
+as-access layout by (commands.Fetch thread slot line) j runs p = of-access j runs.job_is refl refl refl
+as-access layout by (commands.KLoad thread slot line) j runs p = of-access j runs.job_is refl refl refl
+as-access layout by (commands.Store thread slot line word) j runs p = of-access j runs.job_is refl refl refl
+as-access layout by (commands.Free slot) j runs p = unpaused (of-evict j runs.1.job_is).1 refl p
+as-access layout by (commands.Drop page) j runs p = unpaused (of-evict j runs.job_is).1 refl p
+as-access layout by (commands.Sync page) j runs p = unpaused (of-evict j runs.job_is).1 refl p
+as-access layout by (commands.Out page) j runs p = unpaused (of-evict j runs.job_is).1 refl p
+as-access layout by (commands.Fsync file) j runs p = unpaused (of-fsync j runs.2).1 refl p
+as-access layout by (commands.Open file) j runs p = unpaused (of-fsync j runs.2).1 refl p
+as-access layout by (commands.Prctl thread args) j runs p = unpaused (of-prctl j runs.job_is).1 refl p
+as-access layout by (commands.Fork thread child) j runs p = unpaused (of-fork j runs.job_is).1 refl p
+as-access layout by (commands.Bad frame line) j runs p = unpaused (of-spoil j runs.job_is).1 refl p
+as-access layout by (commands.Weak frame line) j runs p = unpaused (of-spoil j runs.job_is).1 refl p
+as-access layout by (commands.Scrub first last) j runs p = unpaused (of-scrub j runs.job_is).1 refl p
+as-access layout by (commands.Log status addr misc) j runs p = unpaused (of-log j runs.job_is).1 refl p
+as-access layout by (commands.Watch threshold window) j runs p = unpaused (of-log j runs.job_is).1 refl p
+as-access layout by (commands.RaiseUser thread ripv eipv) j runs p = unpaused (of-raise j runs.job_is).1 refl p
+as-access layout by (commands.RaiseKernel ripv eipv) j runs p = unpaused (of-raise j runs.job_is).1 refl p
+as-access layout by commands.RaiseNested j runs p = unpaused (of-nested j runs).1 refl p
+as-access layout by (commands.Inject frame) j runs p = unpaused (of-inject j runs.job_is).1 refl p
+as-access layout by (commands.Soft frame) j runs p = unpaused (of-soft j runs.job_is).1 refl p
+as-access layout by (commands.Unpoison frame) j runs p = unpaused (of-unpoison j runs.job_is).1 refl p
+
 pub runs-access : (layout : Layout) (by : Who) (command : Command) (j : Job) → Runs layout by command None j → all.pauses j ≡ true → IsAccessOf command by j
-runs-access layout by (commands.Load thread slot line) j runs p = of-access j runs.job_is refl refl refl
-runs-access layout by (commands.Fetch thread slot line) j runs p = of-access j runs.job_is refl refl refl
-runs-access layout by (commands.KLoad thread slot line) j runs p = of-access j runs.job_is refl refl refl
-runs-access layout by (commands.Store thread slot line word) j runs p = of-access j runs.job_is refl refl refl
-runs-access layout by (commands.Free slot) j runs p = unpaused (of-evict j runs.1.job_is).1 refl p
-runs-access layout by (commands.Drop page) j runs p = unpaused (of-evict j runs.job_is).1 refl p
-runs-access layout by (commands.Sync page) j runs p = unpaused (of-evict j runs.job_is).1 refl p
-runs-access layout by (commands.Out page) j runs p = unpaused (of-evict j runs.job_is).1 refl p
-runs-access layout by (commands.Fsync file) j runs p = unpaused (of-fsync j runs.2).1 refl p
-runs-access layout by (commands.Open file) j runs p = unpaused (of-fsync j runs.2).1 refl p
-runs-access layout by (commands.Prctl thread args) j runs p = unpaused (of-prctl j runs.job_is).1 refl p
-runs-access layout by (commands.Fork thread child) j runs p = unpaused (of-fork j runs.job_is).1 refl p
-runs-access layout by (commands.Bad frame line) j runs p = unpaused (of-spoil j runs.job_is).1 refl p
-runs-access layout by (commands.Weak frame line) j runs p = unpaused (of-spoil j runs.job_is).1 refl p
-runs-access layout by (commands.Scrub first last) j runs p = unpaused (of-scrub j runs.job_is).1 refl p
-runs-access layout by (commands.Log status addr misc) j runs p = unpaused (of-log j runs.job_is).1 refl p
-runs-access layout by (commands.Watch threshold window) j runs p = unpaused (of-log j runs.job_is).1 refl p
-runs-access layout by (commands.RaiseUser thread ripv eipv) j runs p = unpaused (of-raise j runs.job_is).1 refl p
-runs-access layout by (commands.RaiseKernel ripv eipv) j runs p = unpaused (of-raise j runs.job_is).1 refl p
-runs-access layout by commands.RaiseNested j runs p = unpaused (of-nested j runs).1 refl p
-runs-access layout by (commands.Inject frame) j runs p = unpaused (of-inject j runs.job_is).1 refl p
-runs-access layout by (commands.Soft frame) j runs p = unpaused (of-soft j runs.job_is).1 refl p
-runs-access layout by (commands.Unpoison frame) j runs p = unpaused (of-unpoison j runs.job_is).1 refl p
+runs-access layout by command j (inl denied) p = unpaused (runs-kind j denied).1 refl p
+runs-access layout by command j (inr runs) p = as-access layout by command j runs p
 
 -- the pause
 paused-at : (i : Instruction) → is_some (instructions.pause i) ≡ true → (p : Pause) × (instructions.pause i ≡ Some p)

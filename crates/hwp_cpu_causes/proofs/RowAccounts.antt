@@ -1,5 +1,5 @@
 -- What a command has done beside its answer is what its row says.
-use Rattle.std.proofs.Common.{◌≡◌, ℕ, false, List, [], ◌++◌, Option, Some, None, map, refl, sym, ap, ◌∙◌, subst}
+use Rattle.std.proofs.Common.{◌≡◌, ℕ, false, List, [], ◌++◌, Option, Some, None, inl, inr, map, refl, sym, ap, ◌∙◌, subst}
 use Rattle.std.specs.Prelude.{filter_map, option_and_then}
 use Rattle.std.specs.List.{cons_option}
 use Rattle.std.proofs.lemmas.Option.{none-some, same_Some}
@@ -71,10 +71,11 @@ use Rattle.hwp_cpu_command.specs.declared.Job.TheVariants as jobs
 use Rattle.hwp_cpu_command.specs.Answers.{fail_answer, prctl_answer, soft_answer, unpoison_answer}
 use Rattle.hwp_cpu_command.specs.Done.{failed_at, failed_now, marked_now}
 use Rattle.hwp_cpu_command.specs.Jobs.{FitsFrom, answer, offlined_by, own_by, own_of, revived_by, told_of}
-use Rattle.hwp_cpu_command.specs.Runs.{Runs}
+use Rattle.hwp_cpu_command.specs.Runs.{Runs, RunsAs, RunsDenied}
 use Rattle.hwp_cpu_command.specs.Settings.{AreCounted, policies_now, set_at}
 use Rattle.hwp_cpu_command.proofs.JobEnds.{instruction-over, raise-over, scrub-over, soft-over, unpoison-over}
 use Rattle.hwp_cpu_command.proofs.OfKind.{of-evict, of-fork, of-fsync, of-log, of-nested, of-prctl, of-spoil}
+use Rattle.hwp_cpu_causes.proofs.DeniedCauses.{access-by, runs-kind}
 use Rattle.hwp_cpu_causes.proofs.AccessCauses.{KnowsAccess, knows-access}
 use Rattle.hwp_cpu_causes.proofs.CallCauses.{KnowsPrctl, knows-prctl}
 use Rattle.hwp_cpu_causes.proofs.copied.CopyCauses.{copy-does, knows-copy}
@@ -269,7 +270,7 @@ module _ (layout : Layout) (earlier : List (Command × Answer)) where
   }
 
 -- of a command that copies nothing
-plain-does : (layout : Layout) (earlier : List (Command × Answer)) (view : View) (who : Who) (command : Command) (j : Job) {a : Answer} (base : List Made) → Runs layout who command None j → FitsFrom base layout view j → ArePrior layout command base → answer j ≡ Some a
+plain-does : (layout : Layout) (earlier : List (Command × Answer)) (view : View) (who : Who) (command : Command) (j : Job) {a : Answer} (base : List Made) → RunsAs layout who command None j → FitsFrom base layout view j → ArePrior layout command base → answer j ≡ Some a
     → AreCounted (λ (t : Thread). settings layout t earlier) view j → DoesSo layout earlier command j a
 plain-does layout earlier view who (commands.Load thread slot line) j base runs fits prior is counted = access-does layout earlier (commands.Load thread slot line) refl refl tt (knows-access j runs fits is)
 plain-does layout earlier view who (commands.Fetch thread slot line) j base runs fits prior is counted = access-does layout earlier (commands.Fetch thread slot line) refl refl tt (knows-access j runs fits is)
@@ -296,11 +297,19 @@ plain-does layout earlier view who (commands.Soft frame) j base runs fits prior 
 plain-does layout earlier view who (commands.Unpoison frame) j base runs fits prior is counted = unpoison-does layout earlier (knows-unpoison j runs (from-none layout view j prior fits) is)
 
 -- of a store that copies
-copying-does : (layout : Layout) (earlier : List (Command × Answer)) (view : View) (who : Who) (command : Command) (from : VSlot) (j : Job) {a : Answer} → Runs layout who command (Some from) j → FitsFrom [] layout view j → answer j ≡ Some a → DoesSo layout earlier command j a
+copying-does : (layout : Layout) (earlier : List (Command × Answer)) (view : View) (who : Who) (command : Command) (from : VSlot) (j : Job) {a : Answer} → RunsAs layout who command (Some from) j → FitsFrom [] layout view j → answer j ≡ Some a → DoesSo layout earlier command j a
 copying-does layout earlier view who (commands.Store thread slot line word) from j runs fits is = copy-does (knows-copy j runs fits is) earlier
 copying-does layout earlier view who command from j runs fits is = absurd runs
 
+-- of an access that its guest doesn't admit
+denied-does : (layout : Layout) (earlier : List (Command × Answer)) {copied : Option VSlot} {who : Who} (command : Command) (j : Job) (a : Answer) → RunsDenied layout who command copied j → DoesSo layout earlier command j a
+denied-does layout earlier command j a denied =
+    let task = (runs-kind j denied).1 in
+    access-by (λ (c : Command). DoesSo layout earlier c j a) (λ thread slot line. by-kind layout earlier task (refl, refl, refl, refl) (ap policies_now task) tt) (λ thread slot line. by-kind layout earlier task (refl, refl, refl, refl) (ap policies_now task) tt)
+    (λ thread slot line. by-kind layout earlier task (refl, refl, refl, refl) (ap policies_now task) tt) (λ thread slot line word. by-kind layout earlier task (refl, refl, refl, refl) (ap policies_now task) tt) command denied.1.access
+
 pub does : (layout : Layout) (earlier : List (Command × Answer)) (copied : Option VSlot) (view : View) (who : Who) (command : Command) (j : Job) {a : Answer} (base : List Made) → Runs layout who command copied j → FitsFrom base layout view j → ArePriorWith layout command copied base → answer j ≡ Some a
     → AreCounted (λ (t : Thread). settings layout t earlier) view j → DoesSo layout earlier command j a
-does layout earlier None view who command j base runs fits prior is counted = plain-does layout earlier view who command j base runs fits prior is counted
-does layout earlier (Some from) view who command j base runs fits prior is counted = copying-does layout earlier view who command from j runs (from-none layout view j prior fits) is
+does layout earlier copied view who command j {a} base (inl denied) fits prior is counted = denied-does layout earlier command j a denied
+does layout earlier None view who command j base (inr runs) fits prior is counted = plain-does layout earlier view who command j base runs fits prior is counted
+does layout earlier (Some from) view who command j base (inr runs) fits prior is counted = copying-does layout earlier view who command from j runs (from-none layout view j prior fits) is

@@ -1,13 +1,17 @@
 -- A command that is an access: what it names is declared, and the task of what it asks for begins it.
-use Rattle.std.proofs.Common.{◌≡◌, ℕ, ◌<◌, Bool, Some, sym, subst}
+use Rattle.std.proofs.Common.{◌≡◌, ℕ, ◌<◌, Bool, None, Option, Some, slice_get, true≢false, sym, ap, subst}
+use Rattle.std.specs.Prelude.{IsSome, IsSomeAnd}
 use Rattle.std.proofs.lemmas.Option.{none-some, same_Some}
 use Rattle.hwp_cpu_control.specs.hwp_geom.declared.Layout.{Layout}
+use Rattle.hwp_cpu_control.specs.hwp_geom.declared.ThreadDecl.{ThreadDecl}
+use Rattle.hwp_cpu_control.specs.hwp_geom.declared.TransDecl.{TransDecl}
 use Rattle.hwp_cpu_control.specs.hwp_geom.declared.Who.{Who}
 use Rattle.hwp_cpu_control.specs.hwp_geom.Limits.{line_limit}
 use Rattle.hwp_cpu_row.specs.hwp_banks.Banks.{Banks}
 use Rattle.hwp_cpu_row.specs.hwp_script_lines.declared.Command.{Command}
 use Rattle.hwp_cpu_row.specs.hwp_script_lines.declared.Command.TheVariants as commands
-use Rattle.hwp_cpu_row.specs.hwp_script_read.Valid.{IsAccess, IsCommandOf}
+use Rattle.hwp_cpu_row.specs.hwp_script_read.Valid.{IsAccess, IsCommandOf, IsThreadOf}
+use Rattle.hwp_cpu_row.specs.hwp_law_commands.Commands.{access, access_of}
 use Rattle.hwp_cpu_command.specs.declared.begin.LineAccess.{LineAccess}
 use Rattle.hwp_cpu_command.specs.declared.job.Job.{Job}
 use Rattle.hwp_cpu_command.specs.Begins.{Begins, BeginsLine, access_in}
@@ -28,3 +32,26 @@ access-begins layout who (commands.Fetch thread slot line) at banks collects j i
 access-begins layout who (commands.KLoad thread slot line) at banks collects j is begins = subst (λ (a : LineAccess). BeginsLine layout who a banks collects j) (sym (same_Some _ at is)) begins
 access-begins layout who (commands.Store thread slot line word) at banks collects j is begins = subst (λ (a : LineAccess). BeginsLine layout who a banks collects j) (sym (same_Some _ at is)) begins
 access-begins layout who command at banks collects j is begins = absurd (none-some at is)
+
+-- it is the access that the command is
+pub access-is : (command : Command) (at : LineAccess) → access_in command ≡ Some at → access_of command ≡ Some (access at.thread at.slot at.line)
+access-is (commands.Load thread slot line) at is = ap (λ (a : LineAccess). Some (access a.thread a.slot a.line)) (same_Some _ at is)
+access-is (commands.Fetch thread slot line) at is = ap (λ (a : LineAccess). Some (access a.thread a.slot a.line)) (same_Some _ at is)
+access-is (commands.KLoad thread slot line) at is = ap (λ (a : LineAccess). Some (access a.thread a.slot a.line)) (same_Some _ at is)
+access-is (commands.Store thread slot line word) at is = ap (λ (a : LineAccess). Some (access a.thread a.slot a.line)) (same_Some _ at is)
+access-is command at is = absurd (none-some at is)
+
+pub no-access : (command : Command) → access_in command ≡ None → IsSome (access_of command) → ⊥
+no-access (commands.Load thread slot line) none some = none-some _ (sym none)
+no-access (commands.Fetch thread slot line) none some = none-some _ (sym none)
+no-access (commands.KLoad thread slot line) none some = none-some _ (sym none)
+no-access (commands.Store thread slot line word) none some = none-some _ (sym none)
+no-access command none some = true≢false (sym some)
+
+-- its thread is one of the processor
+pub access-thread : (layout : Layout) (cpu : ℕ) (command : Command) (at : LineAccess) → access_in command ≡ Some at → IsCommandOf layout cpu command → IsThreadOf layout cpu at.thread
+access-thread layout cpu command at is of = which (slice_get layout.threads at.thread.0) (access-declared layout cpu command at is of).0
+  where
+    which : (o : Option ThreadDecl) → IsSomeAnd o (λ (t : ThreadDecl). (t.cpu.0 ≡ cpu) × IsSomeAnd (slice_get layout.trans at.slot.0) (λ (v : TransDecl). v.process ≡ t.process)) → IsSomeAnd o (λ (t : ThreadDecl). t.cpu.0 ≡ cpu)
+    which None has = absurd has
+    which (Some t) has = has.0

@@ -9,6 +9,11 @@ use Rattle.hwp_cpu_control.specs.hwp_core_rule.declared.View.{View}
 use Rattle.hwp_cpu_control.specs.hwp_core_task.Hands.{hand_of, empty}
 use Rattle.hwp_cpu_control.specs.declared.nested.NestedAt.{NestedAt}
 use Rattle.hwp_cpu_control.specs.declared.nested.NestedAt.TheVariants as nested_at
+use Rattle.hwp_cpu_control.specs.declared.denied.DeniedAt.{DeniedAt}
+use Rattle.hwp_cpu_control.specs.declared.denied.DeniedAt.TheVariants as denied_at
+use Rattle.hwp_cpu_control.specs.declared.Denied.{Denied}
+use Rattle.hwp_cpu_control.specs.declared.DeniedAnswer.{DeniedAnswer}
+use Rattle.hwp_cpu_control.specs.Denieds as denieds
 use Rattle.hwp_cpu_control.specs.declared.prctl.PrctlAt.{PrctlAt}
 use Rattle.hwp_cpu_control.specs.declared.prctl.PrctlAt.TheVariants as prctl_at
 use Rattle.hwp_cpu_control.specs.declared.fork.ForkAt.{ForkAt}
@@ -132,6 +137,13 @@ prctl-over p {x} is = which p.at is
   where
     which : (y : PrctlAt) → prctls.answer_at y ≡ Some x → y ≡ prctl_at.Over x
     which (prctl_at.Over other) some = ap prctl_at.Over (same_Some other x some)
+    which _ none = absurd (none-some x none)
+
+pub denied-over : (d : Denied) {x : DeniedAnswer} → denieds.answer d ≡ Some x → d.at ≡ denied_at.Over x
+denied-over d {x} is = which d.at is
+  where
+    which : (y : DeniedAt) → denieds.answer_at y ≡ Some x → y ≡ denied_at.Over x
+    which (denied_at.Over other) some = ap denied_at.Over (same_Some other x some)
     which _ none = absurd (none-some x none)
 
 pub fork-over : (f : Fork) {x : ForkAnswer} → forks.answer f ≡ Some x → f.at ≡ fork_at.Over x
@@ -268,6 +280,7 @@ answered-over (jobs.Instruction i) is = ap instructions.plan_at (instruction-ove
 answered-over (jobs.Evict e) is = ap evicts.plan_at (evict-over e (mapped _ (evicts.answer e) is).1)
 answered-over (jobs.Fsync f) is = ap (fsyncs.plan_at f.file) (fsync-over f (mapped _ (fsyncs.answer f) is).1)
 answered-over (jobs.Prctl p) is = ap (prctls.plan_at p.thread p.process) (prctl-over p (mapped _ (prctls.answer p) is).1)
+answered-over (jobs.Denied p) is = ap (denieds.plan_at p.process) (denied-over p (mapped _ (denieds.answer p) is).1)
 answered-over (jobs.Fork f) is = ap (forks.plan_at f.thread f.process) (fork-over f (mapped _ (forks.answer f) is).1)
 answered-over (jobs.Log l) is = ap read_stops.plan_at (read-over l.read (mapped _ (logs.answer l) is).1)
 answered-over (jobs.Raise r) is = ap raises.plan_at (raise-over r (mapped _ (raises.answer r) is).1)
@@ -294,6 +307,7 @@ empty-handed base layout view (jobs.Copying c) fits is = (copy_ends.ends c fits 
 empty-handed base layout view (jobs.Evict e) fits is = (evict-caused e fits (mapped _ (evicts.answer e) is).1).0
 empty-handed base layout view (jobs.Fsync f) fits is = fits.1.hand_is
 empty-handed base layout view (jobs.Prctl p) fits is = fits.1.hand_is
+empty-handed base layout view (jobs.Denied p) fits is = fits.1.hand_is
 empty-handed base layout view (jobs.Fork f) fits is = fits.1.hand_is
 empty-handed base layout view (jobs.Log l) fits is = fits.1.read.hand_is
 empty-handed base layout view (jobs.Raise r) fits is = (raise-ended r fits.1 (mapped _ (raises.answer r) is).1).0.hand_is

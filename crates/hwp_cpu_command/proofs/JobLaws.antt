@@ -24,14 +24,17 @@ use Rattle.hwp_cpu_control.specs.hwp_core_task.Turns.{IsTask, Member}
 use Rattle.hwp_cpu_control.proofs.of_hwp_core_task.Failures.{mild-leaves}
 use Rattle.hwp_cpu_control.proofs.of_hwp_core_task.StepRanks.{failures-kept, pending-kept}
 use Rattle.hwp_cpu_control.specs.declared.Nested.{Nested}
+use Rattle.hwp_cpu_control.specs.declared.Denied.{Denied}
 use Rattle.hwp_cpu_control.specs.declared.Prctl.{Prctl}
 use Rattle.hwp_cpu_control.specs.declared.Spoil.{Spoil}
 use Rattle.hwp_cpu_control.specs.declared.Fork.{Fork}
 use Rattle.hwp_cpu_control.specs.Forks as forks
 use Rattle.hwp_cpu_control.proofs.ForkLaws as forking
 use Rattle.hwp_cpu_control.specs.Nesteds as nesteds
+use Rattle.hwp_cpu_control.specs.Denieds as denieds
 use Rattle.hwp_cpu_control.specs.Prctls as prctls
 use Rattle.hwp_cpu_control.specs.Spoils as spoils
+use Rattle.hwp_cpu_control.proofs.DeniedLaws as denying
 use Rattle.hwp_cpu_control.proofs.PrctlLaws as calling
 use Rattle.hwp_cpu_control.proofs.NestedLaws as nesting
 use Rattle.hwp_cpu_control.proofs.SpoilLaws as spoiling
@@ -120,6 +123,7 @@ can base layout view (jobs.Copying x) step fits is = copying.can layout view x s
 can base layout view (jobs.Evict x) step fits is = evicting.can layout view x step fits is
 can base layout view (jobs.Fsync x) step fits is = fsyncing.can layout view x step fits.1 is
 can base layout view (jobs.Prctl x) step fits is = calling.can layout view x step fits.1 is
+can base layout view (jobs.Denied x) step fits is = denying.can layout view x step fits.1 is
 can base layout view (jobs.Fork x) step fits is = forking.can layout view x step fits.1 is
 can base layout view (jobs.Log x) step fits is = logging.can layout view x step fits.1 is
 can base layout view (jobs.Raise x) step fits is = raising.can layout view x step fits.1 is
@@ -156,6 +160,9 @@ stays base layout old new (jobs.Fsync x) step found got fits is made =
 stays base layout old new (jobs.Prctl x) step found got fits is made =
     let s = calling.stays layout old new x step found got fits.1 is made in
     (s.0, λ after turn next. follows-so jobs.Prctl base layout new (jobs.Prctl x) after (prctls.next x found) next.0 (alone fits.0 (s.1 (prctls.next x found) turn (refl, next.1))))
+stays base layout old new (jobs.Denied x) step found got fits is made =
+    let s = denying.stays layout old new x step found got fits.1 is made in
+    (s.0, λ after turn next. follows-so jobs.Denied base layout new (jobs.Denied x) after (denieds.next x found) next.0 (alone fits.0 (s.1 (denieds.next x found) turn (refl, next.1))))
 stays base layout old new (jobs.Fork x) step found got fits is made =
     let s = forking.stays layout old new x step found got fits.1 is made in
     (s.0, λ after turn next. follows-so jobs.Fork base layout new (jobs.Fork x) after (forks.next x found) next.0 (alone fits.0 (s.1 (forks.next x found) turn (refl, next.1))))
@@ -232,6 +239,13 @@ module _ {layout : Layout} {seat : ℕ} {a b : State} {t : Job} {turn : Turn} wh
   of-prctl : {x : Prctl} → Made job-task layout seat a b (jobs.Prctl x) t turn → IsTurnOf prctls.task jobs.Prctl layout seat a b x t turn
   of-prctl {x} made = record {
     after = prctls.next x made.found;
+    after_is = made.follows.0;
+    made = record { step = made.step; found = made.found; got = made.got; rule = made.rule; kept = made.kept; fits = made.fits.1.1; planned = made.planned; move = made.move; brings = made.brings; follows = (refl, made.follows.1) };
+  }
+
+  of-denied : {x : Denied} → Made job-task layout seat a b (jobs.Denied x) t turn → IsTurnOf denieds.task jobs.Denied layout seat a b x t turn
+  of-denied {x} made = record {
+    after = denieds.next x made.found;
     after_is = made.follows.0;
     made = record { step = made.step; found = made.found; got = made.got; rule = made.rule; kept = made.kept; fits = made.fits.1.1; planned = made.planned; move = made.move; brings = made.brings; follows = (refl, made.follows.1) };
   }
@@ -326,6 +340,7 @@ falls layout seat a b (jobs.Copying x) t turn made goes = let m = of-copying mad
 falls layout seat a b (jobs.Evict x) t turn made goes = let m = of-evict made in lowers-so evict-task jobs.Evict (λ s w. refl) (λ s. refl) m (evict-ranked.falls layout seat a b x m.after turn m.made goes)
 falls layout seat a b (jobs.Fsync x) t turn made goes = let m = of-fsync made in lowers-so fsyncs.task jobs.Fsync (λ s w. refl) (λ s. refl) m (fsync-ranked.falls layout seat a b x m.after turn m.made goes)
 falls layout seat a b (jobs.Prctl x) t turn made goes = let m = of-prctl made in lowers-so prctls.task jobs.Prctl (λ s w. refl) (λ s. refl) m (calling.ranked.falls layout seat a b x m.after turn m.made goes)
+falls layout seat a b (jobs.Denied x) t turn made goes = let m = of-denied made in lowers-so denieds.task jobs.Denied (λ s w. refl) (λ s. refl) m (denying.ranked.falls layout seat a b x m.after turn m.made goes)
 falls layout seat a b (jobs.Fork x) t turn made goes = let m = of-fork made in lowers-so forks.task jobs.Fork (λ s w. refl) (λ s. refl) m (forking.ranked.falls layout seat a b x m.after turn m.made goes)
 falls layout seat a b (jobs.Log x) t turn made goes = let m = of-log made in lowers-so logs.task jobs.Log (λ s w. refl) (λ s. refl) m (logging.ranked.falls layout seat a b x m.after turn m.made goes)
 falls layout seat a b (jobs.Raise x) t turn made goes = let m = of-raise made in lowers-so raise-task jobs.Raise (λ s w. refl) (λ s. refl) m (raise-ranked.falls layout seat a b x m.after turn m.made goes)
@@ -342,6 +357,7 @@ waits layout seat a b (jobs.Copying x) t turn made is quiet = let m = of-copying
 waits layout seat a b (jobs.Evict x) t turn made is quiet = let m = of-evict made in waits-so evict-task jobs.Evict (λ s w. refl) (λ s. refl) m (evict-ranked.waits layout seat a b x m.after turn m.made is quiet)
 waits layout seat a b (jobs.Fsync x) t turn made is quiet = let m = of-fsync made in waits-so fsyncs.task jobs.Fsync (λ s w. refl) (λ s. refl) m (fsync-ranked.waits layout seat a b x m.after turn m.made is quiet)
 waits layout seat a b (jobs.Prctl x) t turn made is quiet = let m = of-prctl made in waits-so prctls.task jobs.Prctl (λ s w. refl) (λ s. refl) m (calling.ranked.waits layout seat a b x m.after turn m.made is quiet)
+waits layout seat a b (jobs.Denied x) t turn made is quiet = let m = of-denied made in waits-so denieds.task jobs.Denied (λ s w. refl) (λ s. refl) m (denying.ranked.waits layout seat a b x m.after turn m.made is quiet)
 waits layout seat a b (jobs.Fork x) t turn made is quiet = let m = of-fork made in waits-so forks.task jobs.Fork (λ s w. refl) (λ s. refl) m (forking.ranked.waits layout seat a b x m.after turn m.made is quiet)
 waits layout seat a b (jobs.Log x) t turn made is quiet = let m = of-log made in waits-so logs.task jobs.Log (λ s w. refl) (λ s. refl) m (logging.ranked.waits layout seat a b x m.after turn m.made is quiet)
 waits layout seat a b (jobs.Raise x) t turn made is quiet = let m = of-raise made in waits-so raise-task jobs.Raise (λ s w. refl) (λ s. refl) m (raise-ranked.waits layout seat a b x m.after turn m.made is quiet)
@@ -358,6 +374,7 @@ classes (jobs.Copying x) = copy-ranked.classes x
 classes (jobs.Evict x) = evict-ranked.classes x
 classes (jobs.Fsync x) = fsync-ranked.classes x
 classes (jobs.Prctl x) = calling.ranked.classes x
+classes (jobs.Denied x) = denying.ranked.classes x
 classes (jobs.Fork x) = forking.ranked.classes x
 classes (jobs.Log x) = logging.ranked.classes x
 classes (jobs.Raise x) = raise-ranked.classes x
@@ -374,6 +391,7 @@ small layout a seat (jobs.Copying x) rule fits = copy-ranked.small layout a seat
 small layout a seat (jobs.Evict x) rule fits = evict-ranked.small layout a seat x rule fits
 small layout a seat (jobs.Fsync x) rule fits = fsync-ranked.small layout a seat x rule fits.1.1
 small layout a seat (jobs.Prctl x) rule fits = calling.ranked.small layout a seat x rule fits.1.1
+small layout a seat (jobs.Denied x) rule fits = denying.ranked.small layout a seat x rule fits.1.1
 small layout a seat (jobs.Fork x) rule fits = forking.ranked.small layout a seat x rule fits.1.1
 small layout a seat (jobs.Log x) rule fits = logging.ranked.small layout a seat x rule fits.1.1
 small layout a seat (jobs.Raise x) rule fits = raise-ranked.small layout a seat x rule fits.1.1
@@ -420,6 +438,7 @@ owns layout seat a b (jobs.Unpoison x) t turn frame cycle made going pending =
 owns layout seat a b (jobs.Evict x) t turn frame cycle made going pending = inr (owns-none frame cycle made (evict-mild x made.step made.planned) refl pending)
 owns layout seat a b (jobs.Fsync x) t turn frame cycle made going pending = inr (owns-none frame cycle made (fsync-mild x made.step made.planned) refl pending)
 owns layout seat a b (jobs.Prctl x) t turn frame cycle made going pending = inr (owns-none frame cycle made (calling.mild x made.step made.planned) refl pending)
+owns layout seat a b (jobs.Denied x) t turn frame cycle made going pending = inr (owns-none frame cycle made (denying.mild x made.step made.planned) refl pending)
 owns layout seat a b (jobs.Fork x) t turn frame cycle made going pending = inr (owns-none frame cycle made (forking.mild x made.step made.planned) refl pending)
 owns layout seat a b (jobs.Log x) t turn frame cycle made going pending = inr (owns-none frame cycle made (logging.mild x made.step made.planned) refl pending)
 owns layout seat a b (jobs.Spoil x) t turn frame cycle made going pending = inr (owns-none frame cycle made (spoiling.mild x made.step made.planned) refl pending)
@@ -608,6 +627,7 @@ owns-answered layout seat a b (jobs.Unpoison x) t turn frame cycle made is pendi
 owns-answered layout seat a b (jobs.Evict x) t turn frame cycle made is pending = owns-none frame cycle made (evict-mild x made.step made.planned) refl pending
 owns-answered layout seat a b (jobs.Fsync x) t turn frame cycle made is pending = owns-none frame cycle made (fsync-mild x made.step made.planned) refl pending
 owns-answered layout seat a b (jobs.Prctl x) t turn frame cycle made is pending = owns-none frame cycle made (calling.mild x made.step made.planned) refl pending
+owns-answered layout seat a b (jobs.Denied x) t turn frame cycle made is pending = owns-none frame cycle made (denying.mild x made.step made.planned) refl pending
 owns-answered layout seat a b (jobs.Fork x) t turn frame cycle made is pending = owns-none frame cycle made (forking.mild x made.step made.planned) refl pending
 owns-answered layout seat a b (jobs.Log x) t turn frame cycle made is pending = owns-none frame cycle made (logging.mild x made.step made.planned) refl pending
 owns-answered layout seat a b (jobs.Spoil x) t turn frame cycle made is pending = owns-none frame cycle made (spoiling.mild x made.step made.planned) refl pending
@@ -623,6 +643,7 @@ pays layout seat a b (jobs.Copying x) t turn made = inl (failures-kept made (cop
 pays layout seat a b (jobs.Evict x) t turn made = inl (failures-kept made (mild-leaves made.step (evict-mild x made.step made.planned)))
 pays layout seat a b (jobs.Fsync x) t turn made = inl (failures-kept made (mild-leaves made.step (fsync-mild x made.step made.planned)))
 pays layout seat a b (jobs.Prctl x) t turn made = inl (failures-kept made (mild-leaves made.step (calling.mild x made.step made.planned)))
+pays layout seat a b (jobs.Denied x) t turn made = inl (failures-kept made (mild-leaves made.step (denying.mild x made.step made.planned)))
 pays layout seat a b (jobs.Fork x) t turn made = inl (failures-kept made (mild-leaves made.step (forking.mild x made.step made.planned)))
 pays layout seat a b (jobs.Log x) t turn made = inl (failures-kept made (mild-leaves made.step (logging.mild x made.step made.planned)))
 pays layout seat a b (jobs.Raise x) t turn made = inl (failures-kept made (raise-lasting x made.step made.planned))
@@ -647,6 +668,7 @@ tells = record { frame = frame; page = page; claim = claim }
     frame layout view (jobs.Evict x) fits has = evict-tells.frame layout view x fits has
     frame layout view (jobs.Fsync x) fits has = fsync-tells.frame layout view x fits.1.1 has
     frame layout view (jobs.Prctl x) fits has = calling.tells.frame layout view x fits.1.1 has
+    frame layout view (jobs.Denied x) fits has = denying.tells.frame layout view x fits.1.1 has
     frame layout view (jobs.Fork x) fits has = forking.tells.frame layout view x fits.1.1 has
     frame layout view (jobs.Log x) fits has = logging.tells.frame layout view x fits.1.1 has
     frame layout view (jobs.Raise x) fits has = raise-tells.frame layout view x fits.1.1 has
@@ -663,6 +685,7 @@ tells = record { frame = frame; page = page; claim = claim }
     page layout view (jobs.Evict x) fits has = evict-tells.page layout view x fits has
     page layout view (jobs.Fsync x) fits has = fsync-tells.page layout view x fits.1.1 has
     page layout view (jobs.Prctl x) fits has = calling.tells.page layout view x fits.1.1 has
+    page layout view (jobs.Denied x) fits has = denying.tells.page layout view x fits.1.1 has
     page layout view (jobs.Fork x) fits has = forking.tells.page layout view x fits.1.1 has
     page layout view (jobs.Log x) fits has = logging.tells.page layout view x fits.1.1 has
     page layout view (jobs.Raise x) fits has = raise-tells.page layout view x fits.1.1 has

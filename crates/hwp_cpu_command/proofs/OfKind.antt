@@ -1,6 +1,7 @@
 -- The kind of task that a command runs as, whatever state it is in.
 use Rattle.std.proofs.Common.{◌≡◌, ℕ, eq-eqb, ◌==◌, false, refl, ap}
 use Rattle.std.proofs.lemmas.Bool.{both_ways}
+use Rattle.hwp_cpu_control.specs.declared.Denied.{Denied}
 use Rattle.hwp_cpu_control.specs.declared.Nested.{Nested}
 use Rattle.hwp_cpu_control.specs.declared.Fork.{Fork}
 use Rattle.hwp_cpu_control.specs.declared.Prctl.{Prctl}
@@ -16,6 +17,7 @@ use Rattle.hwp_cpu_raise.specs.declared.Raise.{Raise}
 use Rattle.hwp_scrub.specs.declared.Scrub.{Scrub}
 use Rattle.hwp_soft.specs.declared.Soft.{Soft}
 use Rattle.hwp_soft.specs.hwp_soft_unpoison.declared.Unpoison.{Unpoison}
+use Rattle.hwp_cpu_control.specs.Denieds as denieds
 use Rattle.hwp_cpu_control.specs.Nesteds as nesteds
 use Rattle.hwp_cpu_control.specs.Forks as forks
 use Rattle.hwp_cpu_control.specs.Prctls as prctls
@@ -49,6 +51,7 @@ kind (jobs.Soft s) = 10
 kind (jobs.Unpoison u) = 11
 kind (jobs.Copying c) = 12
 kind (jobs.Fork f) = 13
+kind (jobs.Denied d) = 14
 
 differ : {j k : Job} → j ≡ k → (kind j == kind k) ≡ false → ⊥
 differ {j} {k} is apart = both_ways (kind j == kind k) apart (eq-eqb (kind j) (kind k) (ap kind is))
@@ -110,6 +113,10 @@ abbrev fork_in : Fork → Job → Fork
 fork_in d (jobs.Fork f) = f
 fork_in d _ = d
 
+abbrev denied_in : Denied → Job → Denied
+denied_in e (jobs.Denied d) = d
+denied_in e _ = e
+
 pub of-instruction : (j : Job) {x : Instruction} → anew j ≡ jobs.Instruction x → (i : Instruction) × (j ≡ jobs.Instruction i) × (instructions.begin i.alloc i.request i.origin i.mode i.before.value i.collects ≡ x)
 of-instruction (jobs.Instruction i) {x} is = (i, refl, ap (instruction_in x) is)
 of-instruction _ is = absurd (differ is refl)
@@ -165,3 +172,7 @@ of-copying _ is = absurd (differ is refl)
 pub of-fork : (j : Job) {x : Fork} → anew j ≡ jobs.Fork x → (f : Fork) × (j ≡ jobs.Fork f) × (forks.begin f.who f.thread f.process f.targets ≡ x)
 of-fork (jobs.Fork f) {x} is = (f, refl, ap (fork_in x) is)
 of-fork _ is = absurd (differ is refl)
+
+pub of-denied : (j : Job) {x : Denied} → anew j ≡ jobs.Denied x → (d : Denied) × (j ≡ jobs.Denied d) × (denieds.begin d.who d.process d.why ≡ x)
+of-denied (jobs.Denied d) {x} is = (d, refl, ap (denied_in x) is)
+of-denied _ is = absurd (differ is refl)

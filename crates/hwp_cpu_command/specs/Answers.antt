@@ -5,6 +5,10 @@ use Rattle.hwp_cpu_row.specs.hwp_report_text.declared.Answer.{Answer}
 use Rattle.hwp_cpu_row.specs.hwp_report_text.declared.Answer.TheVariants as answers
 use Rattle.hwp_cpu_control.specs.hwp_page.Situations.{outcome_of}
 use Rattle.hwp_cpu_row.specs.hwp_law_commands.Outcomes.{outcome_answer, reply_answer}
+use Rattle.hwp_cpu_control.specs.declared.Denial.{Denial}
+use Rattle.hwp_cpu_control.specs.declared.Denial.TheVariants as denials
+use Rattle.hwp_cpu_control.specs.declared.DeniedAnswer.{DeniedAnswer}
+use Rattle.hwp_cpu_control.specs.declared.DeniedAnswer.TheVariants as denied
 use Rattle.hwp_cpu_control.specs.declared.ForkAnswer.{ForkAnswer}
 use Rattle.hwp_cpu_control.specs.declared.ForkAnswer.TheVariants as forks
 use Rattle.hwp_cpu_control.specs.declared.NestedAnswer.{NestedAnswer}
@@ -70,6 +74,16 @@ abbrev pub fork_answer : ForkAnswer → Answer
 fork_answer (forks.Done policy) = answers.Done
 fork_answer (forks.Gone page) = answers.Gone page
 fork_answer forks.Stopped = answers.Stopped
+
+-- an access that its guest doesn't admit, for this reason
+abbrev pub denial_answer : Denial → Answer
+denial_answer denials.BadFrame = answers.GuestBad
+denial_answer denials.Stopped = answers.GuestStopped
+
+abbrev pub denied_answer : Denial → DeniedAnswer → Answer
+denied_answer why denied.Denied = denial_answer why
+denied_answer why (denied.Gone page) = answers.Gone page
+denied_answer why denied.Stopped = answers.Stopped
 
 abbrev pub read_stop_answer : ReadStopAnswer → Answer
 read_stop_answer read_stop.Done = answers.Done

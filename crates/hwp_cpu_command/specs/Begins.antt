@@ -1,6 +1,6 @@
 -- The task that a command begins as.
 use Rattle.std.specs.declared.alloc.Global.{Global}
-use Rattle.std.specs.Prelude.{◌≡◌, ℕ, ◌<◌, Bool, false, true, Option, Some, None, length, slice_get, take, ◌≤◌}
+use Rattle.std.specs.Prelude.{◌≡◌, ℕ, ◌<◌, Bool, false, true, Option, Some, None, IsSome, length, slice_get, take, ◌≤◌}
 use Rattle.hwp_cpu_control.specs.hwp_geom.declared.Damage.{Damage}
 use Rattle.hwp_cpu_control.specs.hwp_geom.declared.Damage.TheVariants as damages
 use Rattle.hwp_cpu_control.specs.hwp_geom.declared.FileNo.{FileNo}
@@ -23,11 +23,16 @@ use Rattle.hwp_cpu_row.specs.hwp_severity.declared.McgBits.{McgBits}
 use Rattle.hwp_cpu_row.specs.hwp_script_lines.declared.Command.{Command}
 use Rattle.hwp_cpu_row.specs.hwp_script_lines.declared.Command.TheVariants as commands
 use Rattle.hwp_cpu_row.specs.hwp_script_lines.declared.PrctlArgs.{PrctlArgs}
-use Rattle.hwp_cpu_row.specs.hwp_script_read.Valid.{IsAccess}
+use Rattle.hwp_cpu_row.specs.hwp_script_read.Valid.{IsAccess, IsCommandOf}
 use Rattle.hwp_cpu_row.specs.hwp_banks.Banks.{Banks}
-use Rattle.hwp_cpu_row.specs.hwp_law_commands.Commands.{arrival_of}
+use Rattle.hwp_cpu_row.specs.hwp_law_commands.Commands.{Access, access_of, arrival_of, process_of_thread}
+use Rattle.hwp_cpu_row.specs.hwp_report_text.declared.Answer.{Answer}
+use Rattle.hwp_cpu_row.specs.hwp_report_text.declared.Answer.TheVariants as answers
 use Rattle.hwp_cpu_row.specs.hwp_banks.Banks.{raw_event}
 use Rattle.hwp_cpu_row.specs.hwp_law_commands.Settings.{arguments}
+use Rattle.hwp_cpu_control.specs.declared.Denial.{Denial}
+use Rattle.hwp_cpu_control.specs.declared.Denial.TheVariants as denials
+use Rattle.hwp_cpu_control.specs.Denieds as denieds
 use Rattle.hwp_cpu_control.specs.Nesteds as nesteds
 use Rattle.hwp_cpu_control.specs.Forks as forks
 use Rattle.hwp_cpu_control.specs.declared.Targets.{Targets}
@@ -242,9 +247,9 @@ BeginsCopy layout who (commands.Store thread slot line word) from banks collects
 BeginsCopy layout who _ from banks collects j = ⊥
 
 -- the same of a command that copies from the translation, where there is one
-abbrev pub BeginsWith : Layout → Who → Command → Option VSlot → Banks → Bool → Job → Type 0
-BeginsWith layout who command None banks collects j = Begins layout who command banks collects j
-BeginsWith layout who command (Some from) banks collects j = BeginsCopy layout who command from banks collects j
+abbrev pub BeginsAs : Layout → Who → Command → Option VSlot → Banks → Bool → Job → Type 0
+BeginsAs layout who command None banks collects j = Begins layout who command banks collects j
+BeginsAs layout who command (Some from) banks collects j = BeginsCopy layout who command from banks collects j
 
 -- a store may copy from a translation of its thread's process
 abbrev pub CanCopyFrom : Layout → ℕ → Command → VSlot → Type 0
@@ -254,3 +259,38 @@ CanCopyFrom layout cpu _ from = ⊥
 abbrev pub CanCopy : Layout → ℕ → Command → Option VSlot → Type 0
 CanCopy layout cpu command None = Unit {0}
 CanCopy layout cpu command (Some from) = CanCopyFrom layout cpu command from
+
+-- why a guest doesn't admit an access that it answers so
+abbrev pub denial_by : Answer → Denial
+denial_by answers.GuestStopped = denials.Stopped
+denial_by answer = denials.BadFrame
+
+-- an access that its guest doesn't admit, for this reason, by a thread of the processor; it would have copied from the translation, where there
+-- is one
+pub record IsDenied (layout : Layout) (who : Who) (command : Command) (copies : Option VSlot) (why : Denial) (j : Job) : Type 0 where
+  pub sound : IsSound layout
+  pub named : IsCommandOf layout who.cpu.0 command
+  pub can_copy : CanCopy layout who.cpu.0 command copies
+  pub at : Access
+  pub access : access_of command ≡ Some at
+  pub process : Proc
+  pub process_is : process_of_thread layout at.thread ≡ Some process
+  pub within : process.0 < layout.procs
+  pub job_is : j ≡ jobs.Denied (denieds.begin who process why)
+
+abbrev pub BeginsDenied : Layout → Who → Command → Option VSlot → Answer → Job → Type 0
+BeginsDenied layout who command copies answer j = IsDenied layout who command copies (denial_by answer) j
+
+-- from wherever it would have copied
+abbrev pub IsDeniedAnyhow : Layout → Who → Command → Answer → Job → Type 0
+IsDeniedAnyhow layout who command answer j = (copies : Option VSlot) → CanCopy layout who.cpu.0 command copies → BeginsDenied layout who command copies answer j
+
+-- and of one that is answered so by a guest, where there is such an answer
+abbrev pub BeginsWith : Layout → Who → Command → Option VSlot → Option Answer → Banks → Bool → Job → Type 0
+BeginsWith layout who command copies None banks collects j = BeginsAs layout who command copies banks collects j
+BeginsWith layout who command copies (Some answer) banks collects j = BeginsDenied layout who command copies answer j
+
+-- only an access can be denied
+abbrev pub CanDeny : Command → Option Answer → Type 0
+CanDeny command None = Unit {0}
+CanDeny command (Some answer) = IsSome (access_of command)

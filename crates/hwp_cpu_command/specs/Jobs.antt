@@ -12,6 +12,7 @@ use Rattle.hwp_cpu_control.specs.hwp_core_rule.Words.{Words}
 use Rattle.hwp_cpu_control.specs.hwp_core_task.declared.Turn.{Turn}
 use Rattle.hwp_cpu_control.specs.hwp_core_task.declared.Turn.TheVariants.{Moved}
 use Rattle.hwp_cpu_control.specs.hwp_core_task.Turns.{Member}
+use Rattle.hwp_cpu_control.specs.Denieds as denieds
 use Rattle.hwp_cpu_control.specs.Nesteds as nesteds
 use Rattle.hwp_cpu_control.specs.Forks as forks
 use Rattle.hwp_cpu_control.specs.Prctls as prctls
@@ -56,7 +57,7 @@ use Rattle.hwp_soft.specs.hwp_soft_unpoison.declared.UnpoisonAnswer.TheVariants 
 use Rattle.hwp_soft.specs.hwp_soft_unpoison.Unpoisons as unpoisons
 use Rattle.hwp_cpu_command.specs.declared.job.Job.{Job}
 use Rattle.hwp_cpu_command.specs.declared.job.Job.TheVariants as jobs
-use Rattle.hwp_cpu_command.specs.Answers.{evict_answer, fail_answer, fork_answer, fsync_answer, instruction_answer, nested_answer, prctl_answer, raise_answer, read_stop_answer, scrub_answer, soft_answer, spoil_answer, unpoison_answer}
+use Rattle.hwp_cpu_command.specs.Answers.{denial_answer, denied_answer, evict_answer, fail_answer, fork_answer, fsync_answer, instruction_answer, nested_answer, prctl_answer, raise_answer, read_stop_answer, scrub_answer, soft_answer, spoil_answer, unpoison_answer}
 
 abbrev pub who : Job → Who
 who (jobs.Instruction i) = i.request.who
@@ -73,6 +74,7 @@ who (jobs.Nested n) = n.who
 who (jobs.Inject i) = i.who
 who (jobs.Soft s) = s.who
 who (jobs.Unpoison u) = u.who
+who (jobs.Denied d) = d.who
 
 abbrev pub plan : Job → Option Step
 plan (jobs.Instruction i) = instructions.plan i
@@ -89,6 +91,7 @@ plan (jobs.Nested n) = nesteds.plan n
 plan (jobs.Inject i) = injects.plan i
 plan (jobs.Soft s) = softs.plan s
 plan (jobs.Unpoison u) = unpoisons.plan u
+plan (jobs.Denied d) = denieds.plan d
 
 abbrev pub put : Job → Option BodyValue
 put (jobs.Instruction i) = instructions.put i
@@ -137,6 +140,7 @@ Next layout (jobs.Nested n) found got after turn = (after ≡ jobs.Nested (neste
 Next layout (jobs.Inject i) found got after turn = (k : Inject) × (after ≡ jobs.Inject k) × injects.Follows layout i found got k turn
 Next layout (jobs.Soft s) found got after turn = (k : Soft) × (after ≡ jobs.Soft k) × softs.Follows layout s found got k turn
 Next layout (jobs.Unpoison u) found got after turn = (after ≡ jobs.Unpoison (unpoisons.next u found)) × (turn ≡ unpoisons.turn u found)
+Next layout (jobs.Denied d) found got after turn = (after ≡ jobs.Denied (denieds.next d found)) × (turn ≡ Moved)
 
 -- The task fits where its command had made these entries before. An instruction, an eviction and a soft offline may be a later part of
 -- their command, and so may a copying store; each other command is one part, and had made none.
@@ -155,6 +159,7 @@ FitsFrom base layout view (jobs.Nested n) = (base ≡ []) × nesteds.Fits layout
 FitsFrom base layout view (jobs.Inject i) = (base ≡ []) × injects.Fits layout view i
 FitsFrom base layout view (jobs.Soft s) = offline.FitsFrom base layout view s
 FitsFrom base layout view (jobs.Unpoison u) = (base ≡ []) × unpoisons.Fits layout view u
+FitsFrom base layout view (jobs.Denied d) = (base ≡ []) × denieds.Fits layout view d
 
 -- whatever it had made
 abbrev pub Fits : Layout → View → Job → Type 0
@@ -186,6 +191,7 @@ cost (jobs.Nested n) words = nesteds.cost n
 cost (jobs.Inject i) words = injects.cost i words
 cost (jobs.Soft s) words = softs.cost s words
 cost (jobs.Unpoison u) words = unpoisons.cost u words
+cost (jobs.Denied d) words = denieds.cost d
 
 abbrev pub claims : Job → Option (Frame × ℕ)
 claims (jobs.Instruction i) = instruction_costs.claims i
@@ -230,6 +236,12 @@ answer (jobs.Nested n) = option_map nested_answer (nesteds.answer n)
 answer (jobs.Inject i) = option_map fail_answer (injects.answer i)
 answer (jobs.Soft s) = option_map soft_answer (softs.answer s)
 answer (jobs.Unpoison u) = option_map unpoison_answer (unpoisons.answer u)
+answer (jobs.Denied d) = option_map (denied_answer d.why) (denieds.answer d)
+
+-- what it answers of an access that its guest doesn't admit
+abbrev pub denial_of : Job → Option Answer
+denial_of (jobs.Denied d) = Some (denial_answer d.why)
+denial_of _ = None
 
 -- what a failure found where it poisoned its frame
 abbrev pub own_by : Frame → Option FailAnswer → Option FrameChange

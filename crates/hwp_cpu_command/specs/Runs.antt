@@ -1,5 +1,5 @@
 -- Which command a task is of, whatever state it is in, and what a processor has where a command begins.
-use Rattle.std.specs.Prelude.{◌≡◌, ◌≢◌, ◌==◌, Bool, true, false, [], Option, Some, slice_get}
+use Rattle.std.specs.Prelude.{◌≡◌, ◌≢◌, ◌⊎◌, ◌==◌, Bool, true, false, [], Option, Some, slice_get}
 use Rattle.hwp_cpu_control.specs.hwp_geom.declared.Layout.{Layout}
 use Rattle.hwp_cpu_control.specs.hwp_geom.declared.Proc.{Proc}
 use Rattle.hwp_cpu_control.specs.hwp_geom.declared.Thread.{Thread}
@@ -14,6 +14,8 @@ use Rattle.hwp_cpu_control.specs.hwp_core_task.Calls.{IsOnTurn}
 use Rattle.hwp_cpu_control.specs.hwp_core_task.Hands.{hand_of, empty}
 use Rattle.hwp_cpu_control.specs.hwp_core_task.Known.{HasMadeNone}
 use Rattle.hwp_soft.specs.hwp_claim_frame.Claims.{HasMarkedNone}
+use Rattle.hwp_cpu_control.specs.declared.Denial.{Denial}
+use Rattle.hwp_cpu_control.specs.Denieds as denieds
 use Rattle.hwp_cpu_control.specs.Nesteds as nesteds
 use Rattle.hwp_cpu_control.specs.Forks as forks
 use Rattle.hwp_cpu_control.specs.Prctls as prctls
@@ -32,7 +34,7 @@ use Rattle.hwp_soft.specs.hwp_soft_unpoison.Unpoisons as unpoisons
 use Rattle.hwp_soft.specs.hwp_soft_unpoison.Unpoisons.{HasRevivalLeft}
 use Rattle.hwp_cpu_command.specs.declared.job.Job.{Job}
 use Rattle.hwp_cpu_command.specs.declared.job.Job.TheVariants as jobs
-use Rattle.hwp_cpu_command.specs.Begins.{BeginsWith}
+use Rattle.hwp_cpu_command.specs.Begins.{BeginsAs, IsDenied}
 use Rattle.hwp_cpu_command.specs.Jobs.{banks_before}
 
 -- the task of the same command at its beginning
@@ -51,6 +53,7 @@ anew (jobs.Nested n) = jobs.Nested (nesteds.begin n.who)
 anew (jobs.Inject i) = jobs.Inject (injects.begin i.alloc i.who i.frame)
 anew (jobs.Soft s) = jobs.Soft (softs.begin s.who s.frame)
 anew (jobs.Unpoison u) = jobs.Unpoison (unpoisons.begin u.who u.frame)
+anew (jobs.Denied d) = jobs.Denied (denieds.begin d.who d.process d.why)
 
 -- whether it was told that its processor collects corrected errors
 abbrev pub collects_now : Job → Bool
@@ -59,8 +62,15 @@ collects_now (jobs.Copying c) = c.instruction.collects
 collects_now _ = false
 
 -- the task is of the command, which copies from the translation where there is one: begun anew, it is what the command begins as, where the banks hold what they held then
+abbrev pub RunsAs : Layout → Who → Command → Option VSlot → Job → Type 0
+RunsAs layout who command copies j = BeginsAs layout who command copies (banks_before j []) (collects_now j) (anew j)
+
+-- or of an access that its guest doesn't admit
+abbrev pub RunsDenied : Layout → Who → Command → Option VSlot → Job → Type 0
+RunsDenied layout who command copies j = (why : Denial) × IsDenied layout who command copies why (anew j)
+
 abbrev pub Runs : Layout → Who → Command → Option VSlot → Job → Type 0
-Runs layout who command copies j = BeginsWith layout who command copies (banks_before j []) (collects_now j) (anew j)
+Runs layout who command copies j = RunsDenied layout who command copies j ⊎ RunsAs layout who command copies j
 
 -- the processor holds nothing and owes no loss, and may begin the command, which has made no entry and marked no frame yet; each
 -- thread can be set once more, and a poison taken back once more

@@ -17,6 +17,7 @@ use Rattle.hwp_cpu_control.specs.hwp_core_task.Calls.{Steps, logs}
 use Rattle.hwp_cpu_row.specs.hwp_report_text.declared.Answer.TheVariants as answers
 use Rattle.hwp_cpu_control.specs.declared.NestedAnswer.TheVariants as nested_answers
 use Rattle.hwp_cpu_control.specs.declared.SpoilAnswer.TheVariants as spoil_answers
+use Rattle.hwp_cpu_control.specs.declared.denied.DeniedAt.TheVariants as denied_at
 use Rattle.hwp_cpu_control.specs.declared.nested.NestedAt.TheVariants as nested_at
 use Rattle.hwp_cpu_control.specs.declared.prctl.PrctlAt.TheVariants as prctl_at
 use Rattle.hwp_cpu_control.specs.declared.fork.ForkAt.TheVariants as fork_at
@@ -103,6 +104,7 @@ IsAtStop (jobs.Nested n) = n.at ≡ nested_at.LoadStop
 IsAtStop (jobs.Inject i) = i.at ≡ inject_at.LoadStop
 IsAtStop (jobs.Soft s) = s.at ≡ soft_at.LoadStop
 IsAtStop (jobs.Unpoison u) = u.at ≡ unpoison_at.LoadStop
+IsAtStop (jobs.Denied d) = d.at ≡ denied_at.LoadStop
 
 -- on a machine that has stopped the command has no other answer: it has yet to look, or is answered `stopped`
 abbrev pub EndsStopped : Job → Type 0

@@ -1,7 +1,8 @@
 ghost use Rattle.std.specs.Prelude.{◌≡◌, option_and_then, option_map};
 
 use hwp_cpu_control::{
-    Fork, ForkAnswer, Nested, NestedAnswer, Prctl, PrctlAnswer, ReadStopAnswer, Spoil, SpoilAnswer,
+    Denial, Denied, DeniedAnswer, Fork, ForkAnswer, Nested, NestedAnswer, Prctl, PrctlAnswer,
+    ReadStopAnswer, Spoil, SpoilAnswer,
 };
 use hwp_cpu_copy::{Copying, Instruction, InstructionAnswer};
 use hwp_cpu_raise::{LocalChange, Log, Raise, RaiseAnswer};
@@ -48,6 +49,8 @@ pub enum Job {
     Soft(Soft),
     /// A frame's poison is taken back.
     Unpoison(Unpoison),
+    /// An access that its guest doesn't admit.
+    Denied(Denied),
 }
 
 impl Job {
@@ -84,6 +87,10 @@ impl Job {
             Job::Inject(inject) => inject.answer().map(|answer| fail_answer(answer)),
             Job::Soft(soft) => soft.answer().map(|answer| soft_answer(answer)),
             Job::Unpoison(unpoison) => unpoison.answer().map(|answer| unpoison_answer(answer)),
+            Job::Denied(denied) => match denied.answer() {
+                Some(answer) => Some(denied_answer(denied.why(), answer)),
+                None => None,
+            },
         }
     }
 
@@ -105,7 +112,8 @@ impl Job {
             | Job::Nested(_)
             | Job::Inject(_)
             | Job::Soft(_)
-            | Job::Unpoison(_) => &[],
+            | Job::Unpoison(_)
+            | Job::Denied(_) => &[],
         }
     }
 
@@ -127,7 +135,8 @@ impl Job {
             | Job::Nested(_)
             | Job::Inject(_)
             | Job::Soft(_)
-            | Job::Unpoison(_) => false,
+            | Job::Unpoison(_)
+            | Job::Denied(_) => false,
         }
     }
 
@@ -149,7 +158,8 @@ impl Job {
             | Job::Nested(_)
             | Job::Inject(_)
             | Job::Soft(_)
-            | Job::Unpoison(_) => {}
+            | Job::Unpoison(_)
+            | Job::Denied(_) => {}
         }
     }
 
@@ -171,7 +181,8 @@ impl Job {
             | Job::Nested(_)
             | Job::Inject(_)
             | Job::Soft(_)
-            | Job::Unpoison(_) => {}
+            | Job::Unpoison(_)
+            | Job::Denied(_) => {}
         }
     }
 
@@ -214,7 +225,8 @@ impl Job {
             | Job::Raise(_)
             | Job::Scrub(_)
             | Job::Spoil(_)
-            | Job::Nested(_) => None,
+            | Job::Nested(_)
+            | Job::Denied(_) => None,
         }
     }
 
@@ -239,7 +251,8 @@ impl Job {
             | Job::Nested(_)
             | Job::Inject(_)
             | Job::Soft(_)
-            | Job::Unpoison(_) => {}
+            | Job::Unpoison(_)
+            | Job::Denied(_) => {}
         }
     }
 
@@ -265,12 +278,13 @@ impl Job {
             | Job::Nested(_)
             | Job::Inject(_)
             | Job::Soft(_)
-            | Job::Unpoison(_) => List::new(alloc),
+            | Job::Unpoison(_)
+            | Job::Denied(_) => List::new(alloc),
         }
     }
 }
 
-ghost use Rattle.hwp_cpu_command.specs.Answers.{evict_answer, fail_answer, fork_answer, fsync_answer, instruction_answer, nested_answer, prctl_answer, raise_answer, read_stop_answer, refusal_answer, scrub_answer, soft_answer, spoil_answer, unpoison_answer};
+ghost use Rattle.hwp_cpu_command.specs.Answers.{denial_answer, denied_answer, evict_answer, fail_answer, fork_answer, fsync_answer, instruction_answer, nested_answer, prctl_answer, raise_answer, read_stop_answer, refusal_answer, scrub_answer, soft_answer, spoil_answer, unpoison_answer};
 ghost use Rattle.hwp_cpu_command.specs.Jobs.{offlined_by, own_by, revived_by, row};
 ghost use Rattle.hwp_cpu_row.specs.hwp_law_commands.Outcomes.{outcome_answer, reply_answer};
 ghost use Rattle.hwp_cpu_command.specs.FileHandles.{CanRound, IsChangeWithin, RoundStands, round_ended, rounded_by, watched_by};
@@ -500,6 +514,27 @@ fn unpoison_answer(answer: UnpoisonAnswer) -> Answer
     }
 }
 
+/// What it says of an access that its guest doesn't admit for this reason.
+fn denied_answer(why: Denial, answer: DeniedAnswer) -> Answer
+    ensures { result ≡ denied_answer why answer }
+{
+    match answer {
+        DeniedAnswer::Denied => denial_answer(why),
+        DeniedAnswer::Gone(page) => Answer::Gone(page),
+        DeniedAnswer::Stopped => Answer::Stopped,
+    }
+}
+
+/// What it says of such a reason.
+fn denial_answer(why: Denial) -> Answer
+    ensures { result ≡ denial_answer why }
+{
+    match why {
+        Denial::BadFrame => Answer::GuestBad,
+        Denial::Stopped => Answer::GuestStopped,
+    }
+}
+
 /// What it says of the outcome of a memory failure.
 fn outcome_answer(outcome: Outcome) -> Answer
     ensures { result ≡ outcome_answer outcome }
@@ -588,6 +623,7 @@ macro_rules! of_kind {
             Job::Inject($task) => $does,
             Job::Soft($task) => $does,
             Job::Unpoison($task) => $does,
+            Job::Denied($task) => $does,
         }
     };
 }

@@ -7,6 +7,7 @@ use Rattle.hwp_cpu_command.specs.hwp_geom.declared.VSlot.{VSlot}
 use Rattle.hwp_cpu_command.specs.hwp_geom.declared.Who.{Who}
 use Rattle.hwp_cpu_command.specs.hwp_banks.declared.Origin.{Origin}
 use Rattle.hwp_cpu_command.specs.hwp_banks.Events.{bank_count}
+use Rattle.hwp_cpu_command.specs.hwp_report_text.declared.Answer.{Answer}
 use Rattle.hwp_cpu_command.specs.hwp_script_lines.declared.Command.{Command}
 use Rattle.hwp_cpu_command.specs.hwp_script_lines.declared.Command.TheVariants as commands
 use Rattle.hwp_cpu_command.specs.hwp_core_rule.declared.State.{State}
@@ -14,6 +15,7 @@ use Rattle.hwp_cpu_command.specs.hwp_core_rule.declared.View.{View}
 use Rattle.hwp_cpu_command.specs.hwp_core_rule.Rule.{Holds}
 use Rattle.hwp_cpu_command.specs.hwp_core_rule.Words.{Words}
 use Rattle.hwp_cpu_command.specs.hwp_core_task.Ranks.{words_at, again_most, failure_weight, free_room}
+use Rattle.hwp_cpu_command.proofs.of_hwp_cpu_control.DeniedLaws as denying
 use Rattle.hwp_cpu_command.proofs.of_hwp_cpu_control.PrctlLaws as calling
 use Rattle.hwp_cpu_command.proofs.of_hwp_cpu_control.ForkLaws as forking
 use Rattle.hwp_cpu_command.proofs.of_hwp_cpu_control.NestedLaws as nesting
@@ -56,7 +58,7 @@ use Rattle.hwp_cpu_command.specs.hwp_soft_unpoison.Unpoisons as unpoisons
 use Rattle.hwp_cpu_command.proofs.of_hwp_soft_unpoison.UnpoisonCosts.{small as unpoison-small}
 use Rattle.hwp_cpu_command.specs.declared.job.Job.{Job}
 use Rattle.hwp_cpu_command.specs.declared.job.Job.TheVariants as jobs
-use Rattle.hwp_cpu_command.specs.Begins.{Begins, BeginsAccess, BeginsCopy, BeginsWith, request_of}
+use Rattle.hwp_cpu_command.specs.Begins.{Begins, BeginsAccess, BeginsCopy, BeginsDenied, BeginsWith, request_of}
 use Rattle.hwp_cpu_command.specs.Jobs.{Fits, cost}
 use Rattle.hwp_cpu_command.specs.hwp_geom.Limits.{frame_limit}
 
@@ -96,6 +98,7 @@ job-few layout a view (jobs.Copying c) rule fits = copy-below layout a view c ru
 job-few layout a view (jobs.Evict e) rule fits = wider (evict-below (words_at layout a) e)
 job-few layout a view (jobs.Fsync f) rule fits = let most = fsync-below f (words_at layout a) in omega (arith, most)
 job-few layout a view (jobs.Prctl p) rule fits = let most = calling.small p in omega (arith, most)
+job-few layout a view (jobs.Denied p) rule fits = let most = denying.small p in omega (arith, most)
 job-few layout a view (jobs.Fork f) rule fits = let most = forking.small f in let few = fits.1.1.targets.few in omega (arith, most, few)
 job-few layout a view (jobs.Log l) rule fits = let most = reading.small l.read in omega (arith, most)
 job-few layout a view (jobs.Raise r) rule fits = wider (raise-below layout view r (words_at layout a) fits.1.1)
@@ -162,6 +165,11 @@ copy-few layout a by (commands.Store thread slot line word) from banks collects 
     c = copyings.begin b.alloc (request_of by thread slot line (access_kinds.Store word) b.page b.process) word from b.copied banks collects
 copy-few layout a by command from banks collects j rule b = absurd b
 
-pub begins-few : (layout : Layout) (a : State) (by : Who) (command : Command) (copies : Option VSlot) (banks : Banks) (collects : Bool) (j : Job) → Holds layout a → BeginsWith layout by command copies banks collects j → cost j (words_at layout a) < 131 * failure_weight
-begins-few layout a by command None banks collects j rule begun = plain-few layout a by command banks collects j rule begun
-begins-few layout a by command (Some from) banks collects j rule begun = copy-few layout a by command from banks collects j rule begun
+-- one that its guest doesn't admit looks twice
+denied-few : (layout : Layout) (a : State) (by : Who) (command : Command) (copies : Option VSlot) (answer : Answer) (j : Job) → BeginsDenied layout by command copies answer j → cost j (words_at layout a) < 131 * failure_weight
+denied-few layout a by command copies answer j b = subst (λ (x : Job). cost x (words_at layout a) < 131 * failure_weight) (sym b.job_is) (omega arith)
+
+pub begins-few : (layout : Layout) (a : State) (by : Who) (command : Command) (copies : Option VSlot) (denied : Option Answer) (banks : Banks) (collects : Bool) (j : Job) → Holds layout a → BeginsWith layout by command copies denied banks collects j → cost j (words_at layout a) < 131 * failure_weight
+begins-few layout a by command copies (Some answer) banks collects j rule begun = denied-few layout a by command copies answer j begun
+begins-few layout a by command None None banks collects j rule begun = plain-few layout a by command banks collects j rule begun
+begins-few layout a by command (Some from) None banks collects j rule begun = copy-few layout a by command from banks collects j rule begun

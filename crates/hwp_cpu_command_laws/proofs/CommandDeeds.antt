@@ -37,6 +37,10 @@ use Rattle.hwp_cpu_command.specs.hwp_cpu_control.declared.fork.ForkAt.TheVariant
 use Rattle.hwp_cpu_command.specs.hwp_cpu_control.Forks as forks
 use Rattle.hwp_cpu_command.specs.hwp_geom.Limits.{thread_limit}
 use Rattle.hwp_cpu_command.proofs.of_hwp_cpu_control.ForkLaws.{more-than, target-there}
+use Rattle.hwp_cpu_command.specs.hwp_cpu_control.declared.Denied.{Denied}
+use Rattle.hwp_cpu_command.specs.hwp_cpu_control.declared.denied.DeniedAt.{DeniedAt}
+use Rattle.hwp_cpu_command.specs.hwp_cpu_control.declared.denied.DeniedAt.TheVariants as denied_at
+use Rattle.hwp_cpu_command.specs.hwp_cpu_control.Denieds as denieds
 use Rattle.hwp_cpu_command.specs.hwp_cpu_control.declared.Prctl.{Prctl}
 use Rattle.hwp_cpu_command.specs.hwp_cpu_control.declared.Spoil.{Spoil}
 use Rattle.hwp_cpu_command.specs.hwp_cpu_control.declared.nested.NestedAt.{NestedAt}
@@ -231,6 +235,22 @@ module _ {layout : Layout} {old new : View} {p : Prctl} {after : Job} (s : Stepp
             counted = λ has. ap counts_owed own.told.next ∙ has ∙ sym blank.2;
           }
       which (prctl_at.Over answer) at e = absurd (none-some s.step e)
+
+-- an access that its guest doesn't admit does none of these
+module _ {layout : Layout} {old new : View} {d : Denied} {after : Job} (s : Stepped layout old new (jobs.Denied d) after) where
+  denied-done : HasDone old new d.who (jobs.Denied d) after
+  denied-done = which d.at s.planned
+    where
+      none : policies_now after ≡ []
+      none = ap policies_now s.follows.0
+
+      blank : IsBlank after
+      blank = subst IsBlank (sym s.follows.0) (refl, refl, refl)
+
+      which : (x : DeniedAt) → denieds.plan_at d.process x ≡ Some s.step → HasDone old new d.who (jobs.Denied d) after
+      which denied_at.LoadStop e = nothing s (leaves s.made (quiet-step {o = Some (steps.Load places.Stop)} tt e)) (refl, refl, refl) blank none
+      which denied_at.LoadProcess e = nothing s (leaves s.made (quiet-step {o = Some (steps.Load (places.Process d.process))} tt e)) (refl, refl, refl) blank none
+      which (denied_at.Over answer) e = absurd (none-some s.step e)
 
 -- a machine check inside a machine check does none of these, nor does damage to a line
 module _ {layout : Layout} {old new : View} {n : Nested} {after : Job} (s : Stepped layout old new (jobs.Nested n) after) where
@@ -456,6 +476,7 @@ done {j = jobs.Evict e} s = nothing s (leaves s.made (quiet-step (evict e.at) s.
 done {j = jobs.Fsync f} s = fsync-done s
 done {j = jobs.Prctl p} s = prctl-done s
 done {j = jobs.Fork f} s = fork-done s
+done {j = jobs.Denied d} s = denied-done s
 done {j = jobs.Log l} s = nothing s (leaves s.made (quiet-step (read l.read.at) s.planned)) (refl, refl, refl) (subst IsBlank (sym s.follows.0) (refl, refl, refl)) (ap policies_now s.follows.0)
 done {j = jobs.Raise r} s = raise-done-so s
 done {j = jobs.Scrub c} s = scrub-done-so s
@@ -567,6 +588,7 @@ failures-at-end layout view (jobs.Evict e) fits none is has = let own = mapped _
     evict-failures layout view e.who e.page e.what own.0 (evict-caused e (subst (λ (b : List Made). FitsFrom b layout view (jobs.Evict e)) (none refl) fits) own.1).1
 failures-at-end layout view (jobs.Fsync f) fits none is has = ap (filter_map failed_in) fits.1.made_none
 failures-at-end layout view (jobs.Prctl p) fits none is has = ap (filter_map failed_in) fits.1.made
+failures-at-end layout view (jobs.Denied p) fits none is has = ap (filter_map failed_in) fits.1.made
 failures-at-end layout view (jobs.Fork f) fits none is has = ap (filter_map failed_in) fits.1.made
 failures-at-end layout view (jobs.Log l) fits none is has = ap (filter_map failed_in) fits.1.read.made
 failures-at-end layout view (jobs.Spoil s) fits none is has = ap (filter_map failed_in) fits.1.made

@@ -21,6 +21,10 @@ use Rattle.hwp_cpu_command.specs.hwp_cpu_control.declared.Fork.{Fork}
 use Rattle.hwp_cpu_command.specs.hwp_cpu_control.declared.fork.ForkAt.{ForkAt}
 use Rattle.hwp_cpu_command.specs.hwp_cpu_control.declared.fork.ForkAt.TheVariants as fork_at
 use Rattle.hwp_cpu_command.specs.hwp_cpu_control.Forks as forks
+use Rattle.hwp_cpu_command.specs.hwp_cpu_control.declared.Denied.{Denied}
+use Rattle.hwp_cpu_command.specs.hwp_cpu_control.declared.denied.DeniedAt.{DeniedAt}
+use Rattle.hwp_cpu_command.specs.hwp_cpu_control.declared.denied.DeniedAt.TheVariants as denied_at
+use Rattle.hwp_cpu_command.specs.hwp_cpu_control.Denieds as denieds
 use Rattle.hwp_cpu_command.specs.hwp_cpu_control.declared.Prctl.{Prctl}
 use Rattle.hwp_cpu_command.specs.hwp_cpu_control.declared.Spoil.{Spoil}
 use Rattle.hwp_cpu_command.specs.hwp_cpu_control.declared.nested.NestedAt.{NestedAt}
@@ -389,6 +393,15 @@ module _ {layout : Layout} {old new : View} {p : Prctl} {after : Job} (s : Stepp
       which prctl_at.LoadPolicy e = let same = leaves (steps-planned e s.made) tt in (same.spoiled, same.stops)
       which (prctl_at.SetPolicy policy settings) e = let own = steps-planned e s.made in (ap (λ (v : View). v.spoiled) own.told.next, ap (λ (v : View). v.stops) own.told.next)
       which (prctl_at.Over answer) e = absurd (none-some s.step e)
+
+module _ {layout : Layout} {old new : View} {d : Denied} {after : Job} (s : Stepped layout old new (jobs.Denied d) after) where
+  pub denied-left : (new.spoiled ≡ old.spoiled) × (new.stops ≡ old.stops)
+  denied-left = which d.at s.planned
+    where
+      which : (x : DeniedAt) → denieds.plan_at d.process x ≡ Some s.step → (new.spoiled ≡ old.spoiled) × (new.stops ≡ old.stops)
+      which denied_at.LoadStop e = let same = leaves (steps-planned e s.made) tt in (same.spoiled, same.stops)
+      which denied_at.LoadProcess e = let same = leaves (steps-planned e s.made) tt in (same.spoiled, same.stops)
+      which (denied_at.Over answer) e = absurd (none-some s.step e)
 
 module _ {layout : Layout} {old new : View} {f : Fork} {after : Job} (s : Stepped layout old new (jobs.Fork f) after) where
   pub fork-left : (new.spoiled ≡ old.spoiled) × (new.stops ≡ old.stops)

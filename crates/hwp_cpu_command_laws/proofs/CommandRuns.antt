@@ -1,5 +1,5 @@
 -- A task stays one of its command, from the beginning on; and a command that may begin fits.
-use Rattle.std.proofs.Common.{◌≡◌, inl, inr, ℕ, Bool, true, false, [], Option, Some, None, refl, sym, ap, ◌∙◌, subst}
+use Rattle.std.proofs.Common.{◌≡◌, inl, inr, ℕ, Bool, true, false, [], Option, Some, None, option_map, refl, sym, ap, ◌∙◌, subst}
 use Rattle.std.specs.declared.alloc.Global.{Global}
 use Rattle.hwp_cpu_command.specs.hwp_geom.declared.Damage.{Damage}
 use Rattle.hwp_cpu_command.specs.hwp_geom.declared.FileNo.{FileNo}
@@ -23,6 +23,8 @@ use Rattle.hwp_cpu_command.specs.hwp_script_lines.declared.PrctlArgs.{PrctlArgs}
 use Rattle.hwp_cpu_command.specs.hwp_core_rule.declared.View.{View}
 use Rattle.hwp_cpu_command.specs.hwp_core_task.declared.Turn.{Turn}
 use Rattle.hwp_cpu_command.specs.hwp_banks.Banks.{Banks}
+use Rattle.hwp_cpu_command.specs.hwp_report_text.declared.Answer.{Answer}
+use Rattle.hwp_cpu_command.specs.hwp_cpu_control.declared.Denial.{Denial}
 use Rattle.hwp_cpu_command.specs.hwp_cpu_control.declared.ReadStopAnswer.{ReadStopAnswer}
 use Rattle.hwp_cpu_command.specs.hwp_evict.declared.Evict.{Evict}
 use Rattle.hwp_cpu_command.specs.hwp_evict.declared.EvictAnswer.{EvictAnswer}
@@ -72,11 +74,12 @@ use Rattle.hwp_cpu_command.proofs.of_hwp_scrub.ScrubLaws as scrubbing
 use Rattle.hwp_cpu_command.specs.hwp_soft.declared.Soft.{Soft}
 use Rattle.hwp_cpu_command.specs.declared.job.Job.{Job}
 use Rattle.hwp_cpu_command.specs.declared.job.Job.TheVariants as jobs
-use Rattle.hwp_cpu_command.specs.Begins.{Begins, BeginsAccess, BeginsCopy, BeginsCopying, BeginsFork, BeginsWith, BeginsEviction, BeginsFsync, BeginsInject, BeginsLog, BeginsPrctl, BeginsRaiseKernel, BeginsRaiseUser, BeginsScrub, BeginsSoft, BeginsSpoil, BeginsUnpoison, request_of}
+use Rattle.hwp_cpu_command.specs.Begins.{Begins, BeginsAccess, BeginsAs, BeginsCopy, BeginsCopying, BeginsFork, BeginsWith, IsDenied, denial_by, BeginsEviction, BeginsFsync, BeginsInject, BeginsLog, BeginsPrctl, BeginsRaiseKernel, BeginsRaiseUser, BeginsScrub, BeginsSoft, BeginsSpoil, BeginsUnpoison, request_of}
+use Rattle.hwp_cpu_command.specs.Answers.{denial_answer}
 use Rattle.hwp_cpu_command.specs.Done.{can_fail}
-use Rattle.hwp_cpu_command.specs.Jobs.{FitsFrom, Next, banks_before, bare, claims, class, left_in, who}
+use Rattle.hwp_cpu_command.specs.Jobs.{FitsFrom, Next, banks_before, bare, claims, class, denial_of, left_in, who}
 use Rattle.hwp_cpu_command.specs.FileHandles.{HasChangeWithin, KnowsHandle}
-use Rattle.hwp_cpu_command.specs.Runs.{AtRest, CanFork, IsFresh, Runs, anew, collects_now}
+use Rattle.hwp_cpu_command.specs.Runs.{AtRest, CanFork, IsFresh, Runs, RunsAs, anew, collects_now}
 use Rattle.hwp_cpu_command.specs.Stays.{IsAtStop}
 
 -- ---- what a task asks for never changes
@@ -281,6 +284,7 @@ goes-on layout found got turn (jobs.Soft s) after next = subst (GoesOn (jobs.Sof
 goes-on layout found got turn (jobs.Unpoison u) after next = subst (GoesOn (jobs.Unpoison u)) (sym next.0) (record { anew_is = refl; before = λ kept. refl; fails = refl; collects = refl })
 goes-on layout found got turn (jobs.Fsync f) after next = subst (GoesOn (jobs.Fsync f)) (sym next.0) (record { anew_is = refl; before = λ kept. refl; fails = refl; collects = refl })
 goes-on layout found got turn (jobs.Prctl p) after next = subst (GoesOn (jobs.Prctl p)) (sym next.0) (record { anew_is = refl; before = λ kept. refl; fails = refl; collects = refl })
+goes-on layout found got turn (jobs.Denied p) after next = subst (GoesOn (jobs.Denied p)) (sym next.0) (record { anew_is = refl; before = λ kept. refl; fails = refl; collects = refl })
 goes-on layout found got turn (jobs.Fork f) after next = subst (GoesOn (jobs.Fork f)) (sym next.0) (record { anew_is = refl; before = λ kept. refl; fails = refl; collects = refl })
 goes-on layout found got turn (jobs.Spoil s) after next = subst (GoesOn (jobs.Spoil s)) (sym next.0) (record { anew_is = refl; before = λ kept. refl; fails = refl; collects = refl })
 goes-on layout found got turn (jobs.Nested n) after next = subst (GoesOn (jobs.Nested n)) (sym next.0) (record { anew_is = refl; before = λ kept. refl; fails = refl; collects = refl })
@@ -293,12 +297,21 @@ can-fail-stays layout j after found got turn next = (goes-on layout found got tu
 
 -- so the command is the same
 pub runs-alike : (layout : Layout) (by : Who) (command : Command) (copies : Option VSlot) (j after : Job) → GoesOn j after → Runs layout by command copies j → Runs layout by command copies after
-runs-alike layout by command copies j after on runs = subst (λ (c : Bool). BeginsWith layout by command copies (banks_before after []) c (anew after)) (sym on.collects)
-    (subst (λ (b : Banks). BeginsWith layout by command copies b (collects_now j) (anew after)) (sym (on.before [])) (subst (BeginsWith layout by command copies (banks_before j []) (collects_now j)) (sym on.anew_is) runs))
+runs-alike layout by command copies j after on (inl denied) = inl (denied.0, subst (IsDenied layout by command copies denied.0) (sym on.anew_is) denied.1)
+runs-alike layout by command copies j after on (inr runs) = inr (subst (λ (c : Bool). BeginsAs layout by command copies (banks_before after []) c (anew after)) (sym on.collects)
+    (subst (λ (b : Banks). BeginsAs layout by command copies b (collects_now j) (anew after)) (sym (on.before [])) (subst (BeginsAs layout by command copies (banks_before j []) (collects_now j)) (sym on.anew_is) runs)))
 
 pub runs-on : (layout : Layout) (who : Who) (command : Command) (copies : Option VSlot) (j after : Job) (found : ℕ) (got : Option BodyValue) (turn : Turn) → Runs layout who command copies j → Next layout (bare j) found got after turn → Runs layout who command copies after
 runs-on layout by command copies j after found got turn runs next = let on = goes-on layout found got turn j after next in
     runs-alike layout by command copies j after on runs
+
+-- and what it answers of an access that its guest doesn't admit
+denial-anew : (j : Job) → denial_of (anew j) ≡ denial_of j
+denial-anew (jobs.Denied d) = refl
+denial-anew _ = refl
+
+pub denial-alike : (j after : Job) → GoesOn j after → denial_of after ≡ denial_of j
+denial-alike j after on = sym (denial-anew after) ∙ ap denial_of on.anew_is ∙ denial-anew j
 
 -- ---- where it begins
 
@@ -308,9 +321,10 @@ IsTold collects (jobs.Instruction i) = i.collects ≡ collects
 IsTold collects (jobs.Copying c) = c.instruction.collects ≡ collects
 IsTold collects _ = Unit {0}
 
--- a task at the beginning of its command
-pub record HasBegun (layout : Layout) (by : Who) (command : Command) (copies : Option VSlot) (banks : Banks) (collects : Bool) (j : Job) : Type 0 where
+-- a task at the beginning of its command, which its guest doesn't admit where there is an answer that it says
+pub record HasBegun (layout : Layout) (by : Who) (command : Command) (copies : Option VSlot) (said : Option Answer) (banks : Banks) (collects : Bool) (j : Job) : Type 0 where
   pub runs : Runs layout by command copies j
+  pub denial : denial_of j ≡ said
   pub who_is : who j ≡ by
   pub start : IsAtStop j
   pub before : banks_before j (left_in j banks) ≡ banks
@@ -318,40 +332,41 @@ pub record HasBegun (layout : Layout) (by : Who) (command : Command) (copies : O
   pub told : IsTold collects j
   pub within : HasChangeWithin j
 
-has-begun-plain : (layout : Layout) (by : Who) (command : Command) (banks : Banks) (collects : Bool) (j : Job) → Begins layout by command banks collects j → HasBegun layout by command None banks collects j
+has-begun-plain : (layout : Layout) (by : Who) (command : Command) (banks : Banks) (collects : Bool) (j : Job) → Begins layout by command banks collects j → HasBegun layout by command None None banks collects j
 has-begun-plain layout by command banks collects j begun = which command begun
   where
-    from : (c : Command) (x : Job) → j ≡ x → (Begins layout by c banks collects x → HasBegun layout by c None banks collects x) → Begins layout by c banks collects j → HasBegun layout by c None banks collects j
-    from c x is has b = subst (HasBegun layout by c None banks collects) (sym is) (has (subst (Begins layout by c banks collects) is b))
+    from : (c : Command) (x : Job) → j ≡ x → (Begins layout by c banks collects x → HasBegun layout by c None None banks collects x) → Begins layout by c banks collects j → HasBegun layout by c None None banks collects j
+    from c x is has b = subst (HasBegun layout by c None None banks collects) (sym is) (has (subst (Begins layout by c banks collects) is b))
 
-    which : (c : Command) → Begins layout by c banks collects j → HasBegun layout by c None banks collects j
-    which (commands.Load thread slot line) b = from (commands.Load thread slot line) _ b.job_is (λ r. record { runs = r; who_is = refl; start = (_, refl, refl, refl); before = refl; idle = (refl, refl); told = refl; within = tt }) b
-    which (commands.Fetch thread slot line) b = from (commands.Fetch thread slot line) _ b.job_is (λ r. record { runs = r; who_is = refl; start = (_, refl, refl, refl); before = refl; idle = (refl, refl); told = refl; within = tt }) b
-    which (commands.KLoad thread slot line) b = from (commands.KLoad thread slot line) _ b.job_is (λ r. record { runs = r; who_is = refl; start = (_, refl, refl, refl); before = refl; idle = (refl, refl); told = refl; within = tt }) b
-    which (commands.Store thread slot line word) b = from (commands.Store thread slot line word) _ b.job_is (λ r. record { runs = r; who_is = refl; start = (_, refl, refl, refl); before = refl; idle = (refl, refl); told = refl; within = tt }) b
-    which (commands.Free slot) b = from (commands.Free slot) _ b.1.job_is (λ r. record { runs = r; who_is = refl; start = refl; before = refl; idle = (refl, refl); told = tt; within = tt }) b
-    which (commands.Drop page) b = from (commands.Drop page) _ b.job_is (λ r. record { runs = r; who_is = refl; start = refl; before = refl; idle = (refl, refl); told = tt; within = tt }) b
-    which (commands.Sync page) b = from (commands.Sync page) _ b.job_is (λ r. record { runs = r; who_is = refl; start = refl; before = refl; idle = (refl, refl); told = tt; within = tt }) b
-    which (commands.Out page) b = from (commands.Out page) _ b.job_is (λ r. record { runs = r; who_is = refl; start = refl; before = refl; idle = (refl, refl); told = tt; within = tt }) b
-    which (commands.Fsync file) b = from (commands.Fsync file) _ b.2 (λ r. record { runs = r; who_is = refl; start = refl; before = refl; idle = (refl, refl); told = tt; within = tt }) b
-    which (commands.Open file) b = from (commands.Open file) _ b.2 (λ r. record { runs = r; who_is = refl; start = refl; before = refl; idle = (refl, refl); told = tt; within = tt }) b
-    which (commands.Prctl thread args) b = from (commands.Prctl thread args) _ b.job_is (λ r. record { runs = r; who_is = refl; start = refl; before = refl; idle = (refl, refl); told = tt; within = tt }) b
-    which (commands.Fork thread child) b = from (commands.Fork thread child) _ b.job_is (λ r. record { runs = r; who_is = refl; start = refl; before = refl; idle = (refl, refl); told = tt; within = tt }) b
-    which (commands.Bad frame line) b = from (commands.Bad frame line) _ b.job_is (λ r. record { runs = r; who_is = refl; start = refl; before = refl; idle = (refl, refl); told = tt; within = tt }) b
-    which (commands.Weak frame line) b = from (commands.Weak frame line) _ b.job_is (λ r. record { runs = r; who_is = refl; start = refl; before = refl; idle = (refl, refl); told = tt; within = tt }) b
-    which (commands.Scrub first last) b = from (commands.Scrub first last) _ b.job_is (λ r. record { runs = r; who_is = refl; start = (refl, refl); before = refl; idle = (refl, refl); told = tt; within = tt }) b
-    which (commands.Log status addr misc) b = from (commands.Log status addr misc) _ b.job_is (λ r. record { runs = r; who_is = refl; start = refl; before = refl; idle = (refl, refl); told = tt; within = r.within }) b
-    which (commands.Watch threshold window) b = from (commands.Watch threshold window) _ b.job_is (λ r. record { runs = r; who_is = refl; start = refl; before = refl; idle = (refl, refl); told = tt; within = r.within }) b
-    which (commands.RaiseUser thread ripv eipv) b = from (commands.RaiseUser thread ripv eipv) _ b.job_is (λ r. record { runs = r; who_is = refl; start = (refl, refl); before = refl; idle = (refl, refl); told = tt; within = tt }) b
-    which (commands.RaiseKernel ripv eipv) b = from (commands.RaiseKernel ripv eipv) _ b.job_is (λ r. record { runs = r; who_is = refl; start = (refl, refl); before = refl; idle = (refl, refl); told = tt; within = tt }) b
-    which commands.RaiseNested b = from commands.RaiseNested _ b (λ r. record { runs = r; who_is = refl; start = refl; before = refl; idle = (refl, refl); told = tt; within = tt }) b
-    which (commands.Inject frame) b = from (commands.Inject frame) _ b.job_is (λ r. record { runs = r; who_is = refl; start = refl; before = refl; idle = (refl, refl); told = tt; within = tt }) b
-    which (commands.Soft frame) b = from (commands.Soft frame) _ b.job_is (λ r. record { runs = r; who_is = refl; start = refl; before = refl; idle = (refl, refl); told = tt; within = tt }) b
-    which (commands.Unpoison frame) b = from (commands.Unpoison frame) _ b.job_is (λ r. record { runs = r; who_is = refl; start = refl; before = refl; idle = (refl, refl); told = tt; within = tt }) b
+    which : (c : Command) → Begins layout by c banks collects j → HasBegun layout by c None None banks collects j
+    which (commands.Load thread slot line) b = from (commands.Load thread slot line) _ b.job_is (λ r. record { runs = inr r; denial = refl; who_is = refl; start = (_, refl, refl, refl); before = refl; idle = (refl, refl); told = refl; within = tt }) b
+    which (commands.Fetch thread slot line) b = from (commands.Fetch thread slot line) _ b.job_is (λ r. record { runs = inr r; denial = refl; who_is = refl; start = (_, refl, refl, refl); before = refl; idle = (refl, refl); told = refl; within = tt }) b
+    which (commands.KLoad thread slot line) b = from (commands.KLoad thread slot line) _ b.job_is (λ r. record { runs = inr r; denial = refl; who_is = refl; start = (_, refl, refl, refl); before = refl; idle = (refl, refl); told = refl; within = tt }) b
+    which (commands.Store thread slot line word) b = from (commands.Store thread slot line word) _ b.job_is (λ r. record { runs = inr r; denial = refl; who_is = refl; start = (_, refl, refl, refl); before = refl; idle = (refl, refl); told = refl; within = tt }) b
+    which (commands.Free slot) b = from (commands.Free slot) _ b.1.job_is (λ r. record { runs = inr r; denial = refl; who_is = refl; start = refl; before = refl; idle = (refl, refl); told = tt; within = tt }) b
+    which (commands.Drop page) b = from (commands.Drop page) _ b.job_is (λ r. record { runs = inr r; denial = refl; who_is = refl; start = refl; before = refl; idle = (refl, refl); told = tt; within = tt }) b
+    which (commands.Sync page) b = from (commands.Sync page) _ b.job_is (λ r. record { runs = inr r; denial = refl; who_is = refl; start = refl; before = refl; idle = (refl, refl); told = tt; within = tt }) b
+    which (commands.Out page) b = from (commands.Out page) _ b.job_is (λ r. record { runs = inr r; denial = refl; who_is = refl; start = refl; before = refl; idle = (refl, refl); told = tt; within = tt }) b
+    which (commands.Fsync file) b = from (commands.Fsync file) _ b.2 (λ r. record { runs = inr r; denial = refl; who_is = refl; start = refl; before = refl; idle = (refl, refl); told = tt; within = tt }) b
+    which (commands.Open file) b = from (commands.Open file) _ b.2 (λ r. record { runs = inr r; denial = refl; who_is = refl; start = refl; before = refl; idle = (refl, refl); told = tt; within = tt }) b
+    which (commands.Prctl thread args) b = from (commands.Prctl thread args) _ b.job_is (λ r. record { runs = inr r; denial = refl; who_is = refl; start = refl; before = refl; idle = (refl, refl); told = tt; within = tt }) b
+    which (commands.Fork thread child) b = from (commands.Fork thread child) _ b.job_is (λ r. record { runs = inr r; denial = refl; who_is = refl; start = refl; before = refl; idle = (refl, refl); told = tt; within = tt }) b
+    which (commands.Bad frame line) b = from (commands.Bad frame line) _ b.job_is (λ r. record { runs = inr r; denial = refl; who_is = refl; start = refl; before = refl; idle = (refl, refl); told = tt; within = tt }) b
+    which (commands.Weak frame line) b = from (commands.Weak frame line) _ b.job_is (λ r. record { runs = inr r; denial = refl; who_is = refl; start = refl; before = refl; idle = (refl, refl); told = tt; within = tt }) b
+    which (commands.Scrub first last) b = from (commands.Scrub first last) _ b.job_is (λ r. record { runs = inr r; denial = refl; who_is = refl; start = (refl, refl); before = refl; idle = (refl, refl); told = tt; within = tt }) b
+    which (commands.Log status addr misc) b = from (commands.Log status addr misc) _ b.job_is (λ r. record { runs = inr r; denial = refl; who_is = refl; start = refl; before = refl; idle = (refl, refl); told = tt; within = r.within }) b
+    which (commands.Watch threshold window) b = from (commands.Watch threshold window) _ b.job_is (λ r. record { runs = inr r; denial = refl; who_is = refl; start = refl; before = refl; idle = (refl, refl); told = tt; within = r.within }) b
+    which (commands.RaiseUser thread ripv eipv) b = from (commands.RaiseUser thread ripv eipv) _ b.job_is (λ r. record { runs = inr r; denial = refl; who_is = refl; start = (refl, refl); before = refl; idle = (refl, refl); told = tt; within = tt }) b
+    which (commands.RaiseKernel ripv eipv) b = from (commands.RaiseKernel ripv eipv) _ b.job_is (λ r. record { runs = inr r; denial = refl; who_is = refl; start = (refl, refl); before = refl; idle = (refl, refl); told = tt; within = tt }) b
+    which commands.RaiseNested b = from commands.RaiseNested _ b (λ r. record { runs = inr r; denial = refl; who_is = refl; start = refl; before = refl; idle = (refl, refl); told = tt; within = tt }) b
+    which (commands.Inject frame) b = from (commands.Inject frame) _ b.job_is (λ r. record { runs = inr r; denial = refl; who_is = refl; start = refl; before = refl; idle = (refl, refl); told = tt; within = tt }) b
+    which (commands.Soft frame) b = from (commands.Soft frame) _ b.job_is (λ r. record { runs = inr r; denial = refl; who_is = refl; start = refl; before = refl; idle = (refl, refl); told = tt; within = tt }) b
+    which (commands.Unpoison frame) b = from (commands.Unpoison frame) _ b.job_is (λ r. record { runs = inr r; denial = refl; who_is = refl; start = refl; before = refl; idle = (refl, refl); told = tt; within = tt }) b
 
-copy-begun : (layout : Layout) (by : Who) (command : Command) (from : VSlot) (banks : Banks) (collects : Bool) (j : Job) → BeginsCopy layout by command from banks collects j → HasBegun layout by command (Some from) banks collects j
-copy-begun layout by (commands.Store thread slot line word) from banks collects j begun = subst (HasBegun layout by (commands.Store thread slot line word) (Some from) banks collects) (sym begun.job_is) (record {
-  runs = subst (BeginsCopying layout by thread slot line word from banks collects) begun.job_is begun;
+copy-begun : (layout : Layout) (by : Who) (command : Command) (from : VSlot) (banks : Banks) (collects : Bool) (j : Job) → BeginsCopy layout by command from banks collects j → HasBegun layout by command (Some from) None banks collects j
+copy-begun layout by (commands.Store thread slot line word) from banks collects j begun = subst (HasBegun layout by (commands.Store thread slot line word) (Some from) None banks collects) (sym begun.job_is) (record {
+  runs = inr (subst (BeginsCopying layout by thread slot line word from banks collects) begun.job_is begun);
+  denial = refl;
   who_is = refl;
   start = (refl, refl, (_, refl, refl, refl));
   before = refl;
@@ -361,12 +376,42 @@ copy-begun layout by (commands.Store thread slot line word) from banks collects 
 })
 copy-begun layout by command from banks collects j begun = absurd begun
 
-pub has-begun : (layout : Layout) (by : Who) (command : Command) (copies : Option VSlot) (banks : Banks) (collects : Bool) (j : Job) → BeginsWith layout by command copies banks collects j → HasBegun layout by command copies banks collects j
-has-begun layout by command None banks collects j begun = has-begun-plain layout by command banks collects j begun
-has-begun layout by command (Some from) banks collects j begun = copy-begun layout by command from banks collects j begun
+pub as-begun : (layout : Layout) (by : Who) (command : Command) (copies : Option VSlot) (banks : Banks) (collects : Bool) (j : Job) → BeginsAs layout by command copies banks collects j → HasBegun layout by command copies None banks collects j
+as-begun layout by command None banks collects j begun = has-begun-plain layout by command banks collects j begun
+as-begun layout by command (Some from) banks collects j begun = copy-begun layout by command from banks collects j begun
 
-pub begins-runs : (layout : Layout) (who : Who) (command : Command) (copies : Option VSlot) (banks : Banks) (collects : Bool) (j : Job) → BeginsWith layout who command copies banks collects j → Runs layout who command copies j
-begins-runs layout by command copies banks collects j begun = (has-begun layout by command copies banks collects j begun).runs
+-- an access that its guest doesn't admit
+denied-begun : (layout : Layout) (by : Who) (command : Command) (copies : Option VSlot) (why : Denial) (banks : Banks) (collects : Bool) (j : Job) → IsDenied layout by command copies why j → HasBegun layout by command copies (Some (denial_answer why)) banks collects j
+denied-begun layout by command copies why banks collects j begun = subst (HasBegun layout by command copies (Some (denial_answer why)) banks collects) (sym begun.job_is) (record {
+  runs = inl (why, subst (IsDenied layout by command copies why) begun.job_is begun);
+  denial = refl;
+  who_is = refl;
+  start = refl;
+  before = refl;
+  idle = (refl, refl);
+  told = tt;
+  within = tt;
+})
+
+-- no other task is one of such an access
+pub runs-admitted : (layout : Layout) (by : Who) (command : Command) (copies : Option VSlot) (j : Job) → RunsAs layout by command copies j → denial_of j ≡ None
+runs-admitted layout by command copies j runs = sym (denial-anew j) ∙ (as-begun layout by command copies (banks_before j []) (collects_now j) (anew j) runs).denial
+
+-- what a guest says that doesn't admit it, by the answer that it was asked for
+abbrev pub said_by : Option Answer → Option Answer
+said_by denied = option_map (λ (a : Answer). denial_answer (denial_by a)) denied
+
+pub has-begun : (layout : Layout) (by : Who) (command : Command) (copies : Option VSlot) (denied : Option Answer) (banks : Banks) (collects : Bool) (j : Job) → BeginsWith layout by command copies denied banks collects j → HasBegun layout by command copies (said_by denied) banks collects j
+has-begun layout by command copies None banks collects j begun = as-begun layout by command copies banks collects j begun
+has-begun layout by command copies (Some answer) banks collects j begun = denied-begun layout by command copies (denial_by answer) banks collects j begun
+
+-- so is the task that it runs as, begun anew
+runs-begun : (layout : Layout) (by : Who) (command : Command) (copies : Option VSlot) (j : Job) → Runs layout by command copies j → (said : Option Answer) × HasBegun layout by command copies said (banks_before j []) (collects_now j) (anew j)
+runs-begun layout by command copies j (inl denied) = (Some (denial_answer denied.0), denied-begun layout by command copies denied.0 (banks_before j []) (collects_now j) (anew j) denied.1)
+runs-begun layout by command copies j (inr runs) = (None, as-begun layout by command copies (banks_before j []) (collects_now j) (anew j) runs)
+
+pub begins-runs : (layout : Layout) (who : Who) (command : Command) (copies : Option VSlot) (denied : Option Answer) (banks : Banks) (collects : Bool) (j : Job) → BeginsWith layout who command copies denied banks collects j → Runs layout who command copies j
+begins-runs layout by command copies denied banks collects j begun = (has-begun layout by command copies denied banks collects j begun).runs
 
 anew-within : (j : Job) → HasChangeWithin (anew j) → HasChangeWithin j
 anew-within (jobs.Log l) within = within
@@ -374,10 +419,10 @@ anew-within _ within = tt
 
 -- the numbers of a collector that it begins are within their limits
 pub runs-within : (layout : Layout) (by : Who) (command : Command) (copies : Option VSlot) (j : Job) → Runs layout by command copies j → HasChangeWithin j
-runs-within layout by command copies j runs = anew-within j (has-begun layout by command copies (banks_before j []) (collects_now j) (anew j) runs).within
+runs-within layout by command copies j runs = anew-within j (runs-begun layout by command copies j runs).1.within
 
-pub before-begins : (layout : Layout) (who : Who) (command : Command) (copies : Option VSlot) (banks : Banks) (collects : Bool) (j : Job) → BeginsWith layout who command copies banks collects j → banks_before j (left_in j banks) ≡ banks
-before-begins layout by command copies banks collects j begun = (has-begun layout by command copies banks collects j begun).before
+pub before-begins : (layout : Layout) (who : Who) (command : Command) (copies : Option VSlot) (denied : Option Answer) (banks : Banks) (collects : Bool) (j : Job) → BeginsWith layout who command copies denied banks collects j → banks_before j (left_in j banks) ≡ banks
+before-begins layout by command copies denied banks collects j begun = (has-begun layout by command copies denied banks collects j begun).before
 
 -- the command is the one that is its turn
 anew-who : (j : Job) → who (anew j) ≡ who j
@@ -385,7 +430,7 @@ anew-who (jobs.Instruction i) = refl
 anew-who _ = refl
 
 pub runs-who : (layout : Layout) (by : Who) (command : Command) (copies : Option VSlot) (j : Job) → Runs layout by command copies j → who j ≡ by
-runs-who layout by command copies j runs = sym (anew-who j) ∙ (has-begun layout by command copies (banks_before j []) (collects_now j) (anew j) runs).who_is
+runs-who layout by command copies j runs = sym (anew-who j) ∙ (runs-begun layout by command copies j runs).1.who_is
 
 -- ---- a command that may begin
 
@@ -412,6 +457,9 @@ module _ {layout : Layout} {view : View} {who : Who} (rest : AtRest view who) {j
       at = rest.left thread;
     },
   )
+
+  denied-fits : {command : Command} {copies : Option VSlot} {why : Denial} → IsDenied layout who command copies why j → FitsFrom [] layout view j
+  denied-fits begun = subst (FitsFrom [] layout view) (sym begun.job_is) (refl, record { on_turn = rest.on_turn; hand_is = rest.hand_is; made = rest.made; process = begun.within; at = tt })
 
   fork-fits : {thread : Thread} {child : Proc} → BeginsFork layout who thread child j → IsFresh layout view who thread child → FitsFrom [] layout view j
   fork-fits {thread} {child} begun fresh = subst (FitsFrom [] layout view) (sym begun.job_is) (
@@ -528,6 +576,7 @@ copying-fits : (layout : Layout) (view : View) (who : Who) (command : Command) (
 copying-fits layout view by (commands.Store thread slot line word) from banks collects j begun rest = copy-fits rest begun
 copying-fits layout view by command from banks collects j begun rest = absurd begun
 
-pub begins-fits : (layout : Layout) (view : View) (who : Who) (command : Command) (copies : Option VSlot) (banks : Banks) (collects : Bool) (j : Job) → BeginsWith layout who command copies banks collects j → AreBanks banks → AtRest view who → KnowsHandle view j → CanFork layout view who command → FitsFrom [] layout view j
-begins-fits layout view by command None banks collects j begun free rest known fresh = plain-fits layout view by command banks collects j begun free rest known fresh
-begins-fits layout view by command (Some from) banks collects j begun free rest known fresh = copying-fits layout view by command from banks collects j begun rest
+pub begins-fits : (layout : Layout) (view : View) (who : Who) (command : Command) (copies : Option VSlot) (denied : Option Answer) (banks : Banks) (collects : Bool) (j : Job) → BeginsWith layout who command copies denied banks collects j → AreBanks banks → AtRest view who → KnowsHandle view j → CanFork layout view who command → FitsFrom [] layout view j
+begins-fits layout view by command copies (Some answer) banks collects j begun free rest known fresh = denied-fits rest begun
+begins-fits layout view by command None None banks collects j begun free rest known fresh = plain-fits layout view by command banks collects j begun free rest known fresh
+begins-fits layout view by command (Some from) None banks collects j begun free rest known fresh = copying-fits layout view by command from banks collects j begun rest

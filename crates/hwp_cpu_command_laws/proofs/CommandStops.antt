@@ -47,6 +47,13 @@ use Rattle.hwp_cpu_command.specs.hwp_cpu_copy.declared.copying.CopyingAt.TheVari
 use Rattle.hwp_cpu_command.specs.hwp_cpu_copy.Copyings as copyings
 use Rattle.hwp_cpu_command.specs.hwp_cpu_copy.Fits as copying_fits
 use Rattle.hwp_cpu_command.specs.hwp_cpu_copy.Runs.{Run, checks_by, made_by}
+use Rattle.hwp_cpu_command.specs.hwp_cpu_control.declared.Denial.{Denial}
+use Rattle.hwp_cpu_command.specs.hwp_cpu_control.declared.Denial.TheVariants as denials
+use Rattle.hwp_cpu_command.specs.hwp_cpu_control.declared.Denied.{Denied}
+use Rattle.hwp_cpu_command.specs.hwp_cpu_control.declared.DeniedAnswer.TheVariants as denied_answers
+use Rattle.hwp_cpu_command.specs.hwp_cpu_control.declared.denied.DeniedAt.{DeniedAt}
+use Rattle.hwp_cpu_command.specs.hwp_cpu_control.declared.denied.DeniedAt.TheVariants as denied_at
+use Rattle.hwp_cpu_command.specs.hwp_cpu_control.Denieds as denieds
 use Rattle.hwp_cpu_command.specs.hwp_cpu_control.declared.Prctl.{Prctl}
 use Rattle.hwp_cpu_command.specs.hwp_cpu_control.declared.PrctlAnswer.TheVariants as prctl_answers
 use Rattle.hwp_cpu_command.specs.hwp_cpu_control.declared.ReadStop.{ReadStop}
@@ -134,12 +141,12 @@ use Rattle.hwp_cpu_command.specs.hwp_soft_unpoison.Unpoisons as unpoisons
 use Rattle.hwp_cpu_command.specs.hwp_soft_move.Seizes as seizes
 use Rattle.hwp_cpu_command.specs.declared.job.Job.{Job}
 use Rattle.hwp_cpu_command.specs.declared.job.Job.TheVariants as jobs
-use Rattle.hwp_cpu_command.specs.Answers.{evict_answer, fail_answer, fork_answer, fsync_answer, instruction_answer, nested_answer, prctl_answer, raise_answer, read_stop_answer, refusal_answer, scrub_answer, soft_answer, spoil_answer, unpoison_answer}
+use Rattle.hwp_cpu_command.specs.Answers.{denial_answer, denied_answer, evict_answer, fail_answer, fork_answer, fsync_answer, instruction_answer, nested_answer, prctl_answer, raise_answer, read_stop_answer, refusal_answer, scrub_answer, soft_answer, spoil_answer, unpoison_answer}
 use Rattle.hwp_cpu_command.specs.Begins.{BeginsWith}
 use Rattle.hwp_cpu_command.specs.Jobs.{FitsFrom, answer, plan, put, told_of, who}
 use Rattle.hwp_cpu_command.specs.Stays.{EndsAtOnce, EndsStopped, HasSpoiled, HasStopped, IsAtStop, IsHalted, IsInstructionAtStop, IsStopping, Stepped, StopsItself}
 use Rattle.hwp_cpu_command.proofs.JobEnds.{InjectEnded, answered-over, inject-ended, instruction-ended, instruction-over, mapped, raise-ended, scrub-ended, soft-ended, unpoison-ended}
-use Rattle.hwp_cpu_command_laws.proofs.CommandLeaves.{StopsLeft, copying-left, evict-left, fork-left, fsync-left, inject-left, instruction-left, log-left, nested-left, prctl-left, raise-left, scrub-left, soft-left, spoil-left, unpoison-left}
+use Rattle.hwp_cpu_command_laws.proofs.CommandLeaves.{StopsLeft, copying-left, denied-left, evict-left, fork-left, fsync-left, inject-left, instruction-left, log-left, nested-left, prctl-left, raise-left, scrub-left, soft-left, spoil-left, unpoison-left}
 use Rattle.hwp_cpu_command_laws.proofs.CommandRuns.{has-begun}
 
 -- ---- answers
@@ -158,6 +165,7 @@ unanswered (jobs.Copying c) is = ap (λ (x : CopyingAt). option_map instruction_
 unanswered (jobs.Evict e) is = ap (λ (x : EvictAt). option_map evict_answer (evicts.answer_at x)) is
 unanswered (jobs.Fsync f) is = ap (λ (x : FsyncAt). option_map fsync_answer (fsyncs.answer_at x)) is
 unanswered (jobs.Prctl p) is = ap (λ (x : PrctlAt). option_map prctl_answer (prctls.answer_at x)) is
+unanswered (jobs.Denied d) is = ap (λ (x : DeniedAt). option_map (denied_answer d.why) (denieds.answer_at x)) is
 unanswered (jobs.Fork f) is = ap (λ (x : ForkAt). option_map fork_answer (forks.answer_at x)) is
 unanswered (jobs.Log l) is = ap (λ (x : ReadStopAt). option_map read_stop_answer (read_stops.answer_at x)) is
 unanswered (jobs.Raise r) is = ap (λ (x : RaiseAt). option_map (raise_answer (length r.lines.told)) (raises.answer_at x)) is.0
@@ -261,6 +269,7 @@ stops-after {j = jobs.Copying c} s = (copying-left s).stops
 stops-after {j = jobs.Evict e} s = (evict-left s).stops
 stops-after {j = jobs.Fsync f} s = inl (fsync-left s).1
 stops-after {j = jobs.Prctl p} s = inl (prctl-left s).1
+stops-after {j = jobs.Denied d} s = inl (denied-left s).1
 stops-after {j = jobs.Fork f} s = inl (fork-left s).1
 stops-after {j = jobs.Log l} s = (log-left s).stops
 stops-after {j = jobs.Raise r} s = (raise-left s).stops
@@ -278,6 +287,7 @@ spoils-after {j = jobs.Copying c} s = inl (copying-left s).rest.spoiled
 spoils-after {j = jobs.Evict e} s = inl (evict-left s).rest.spoiled
 spoils-after {j = jobs.Fsync f} s = inl (fsync-left s).0
 spoils-after {j = jobs.Prctl p} s = inl (prctl-left s).0
+spoils-after {j = jobs.Denied d} s = inl (denied-left s).0
 spoils-after {j = jobs.Fork f} s = inl (fork-left s).0
 spoils-after {j = jobs.Log l} s = inl (log-left s).rest.spoiled
 spoils-after {j = jobs.Raise r} s = inl (raise-left s).rest.spoiled
@@ -326,6 +336,7 @@ look-first (jobs.Copying c) (own, fresh, (a, start, look, none)) = ap (copyings.
 look-first (jobs.Evict e) start = ap evicts.plan_at start
 look-first (jobs.Fsync f) start = ap (fsyncs.plan_at f.file) start
 look-first (jobs.Prctl p) start = ap (prctls.plan_at p.thread p.process) start
+look-first (jobs.Denied d) start = ap (denieds.plan_at d.process) start
 look-first (jobs.Fork f) start = ap (forks.plan_at f.thread f.process) start
 look-first (jobs.Log l) start = ap read_stops.plan_at start
 look-first (jobs.Raise r) (start, none) = ap raises.plan_at start
@@ -378,6 +389,9 @@ looks (jobs.Fsync f) after s word start =
 looks (jobs.Prctl p) after s word start =
     ap answer s.follows.0 ∙ ap (λ (x : PrctlAt). option_map prctl_answer (prctls.answer_at (prctls.next_at p.arguments x s.found))) start
     ∙ ap (λ (b : Bool). option_map prctl_answer (prctls.answer_at (cond b (prctl_at.Over prctl_answers.Stopped) prctl_at.LoadProcess))) word
+looks (jobs.Denied d) after s word start =
+    ap answer s.follows.0 ∙ ap (λ (x : DeniedAt). option_map (denied_answer d.why) (denieds.answer_at (denieds.next_at x s.found))) start
+    ∙ ap (λ (b : Bool). option_map (denied_answer d.why) (denieds.answer_at (cond b (denied_at.Over denied_answers.Stopped) denied_at.LoadProcess))) word
 looks (jobs.Fork f) after s word start =
     ap answer s.follows.0 ∙ ap (λ (x : ForkAt). option_map fork_answer (forks.answer_at (forks.next_at f.targets x s.found))) start
     ∙ ap (λ (b : Bool). option_map fork_answer (forks.answer_at (cond b (fork_at.Over fork_answers.Stopped) fork_at.LoadProcess))) word
@@ -435,6 +449,7 @@ looks-untold (jobs.Inject i) after s word start = ap told_of s.follows.1
 looks-untold (jobs.Soft o) after s word start = ap told_of s.follows.1
 looks-untold (jobs.Fsync f) after s word start = ap told_of s.follows.0
 looks-untold (jobs.Prctl p) after s word start = ap told_of s.follows.0
+looks-untold (jobs.Denied p) after s word start = ap told_of s.follows.0
 looks-untold (jobs.Fork f) after s word start = ap told_of s.follows.0
 looks-untold (jobs.Log l) after s word start = ap told_of s.follows.0
 looks-untold (jobs.Spoil p) after s word start = ap told_of s.follows.0
@@ -459,8 +474,8 @@ looks-first {new = new} {j = j} {after = after} s start = which (is_stopped s.fo
 
 -- ---- the beginning and the end of a command
 
-pub begins-stop : (layout : Layout) (by : Who) (command : Command) (copies : Option VSlot) (banks : Banks) (collects : Bool) (j : Job) → BeginsWith layout by command copies banks collects j → IsAtStop j
-begins-stop layout by command copies banks collects j begins = (has-begun layout by command copies banks collects j begins).start
+pub begins-stop : (layout : Layout) (by : Who) (command : Command) (copies : Option VSlot) (denied : Option Answer) (banks : Banks) (collects : Bool) (j : Job) → BeginsWith layout by command copies denied banks collects j → IsAtStop j
+begins-stop layout by command copies denied banks collects j begins = (has-begun layout by command copies denied banks collects j begins).start
 
 -- what a command saw of the stop word
 halts : {view : View} {by : Who} → SawStop view by → IsHalted view
@@ -477,6 +492,10 @@ refused refusals.Locked at = refl
 refused refusals.Dirty at = refl
 refused refusals.Mapped at = refl
 refused (refusals.BadLines mask) at = refl
+
+denial-said : (why : Denial) → says_stopped (Some (denial_answer why)) ≡ false
+denial-said denials.BadFrame = refl
+denial-said denials.Stopped = refl
 
 replied : (reply : Reply) → says_stopped (Some (reply_answer reply)) ≡ false
 replied (replies.Set policy) = refl
@@ -546,6 +565,12 @@ module _ (layout : Layout) (view : View) where
   prctl-halts p (prctl_at.Over (prctl_answers.Replied reply)) fits is = absurd (other _ (replied reply) is)
   prctl-halts p _ fits is = absurd (none-some _ is)
 
+  denied-halts : (d : Denied) (x : DeniedAt) → denieds.FitsAt view d.who d.process x → option_map (denied_answer d.why) (denieds.answer_at x) ≡ Some answers.Stopped → IsHalted view
+  denied-halts d (denied_at.Over denied_answers.Stopped) fits is = halts fits
+  denied-halts d (denied_at.Over (denied_answers.Gone page)) fits is = absurd (other _ refl is)
+  denied-halts d (denied_at.Over denied_answers.Denied) fits is = absurd (other _ (denial-said d.why) is)
+  denied-halts d _ fits is = absurd (none-some _ is)
+
   fork-halts : (f : Fork) (x : ForkAt) → forks.FitsAt view f.who f.thread f.process f.targets x → option_map fork_answer (forks.answer_at x) ≡ Some answers.Stopped → IsHalted view
   fork-halts f (fork_at.Over fork_answers.Stopped) fits is = halts fits
   fork-halts f (fork_at.Over (fork_answers.Gone page)) fits is = absurd (other _ refl is)
@@ -596,6 +621,7 @@ stopped-halts base layout view (jobs.Copying c) fits is = let own = mapped _ (co
 stopped-halts base layout view (jobs.Evict e) fits is = evict-halts layout view base e e.at fits.at is
 stopped-halts base layout view (jobs.Fsync f) fits is = fsync-halts layout view f f.at fits.1.at is
 stopped-halts base layout view (jobs.Prctl p) fits is = prctl-halts layout view p p.at fits.1.at is
+stopped-halts base layout view (jobs.Denied p) fits is = denied-halts layout view p p.at fits.1.at is
 stopped-halts base layout view (jobs.Fork f) fits is = fork-halts layout view f f.at fits.1.at is
 stopped-halts base layout view (jobs.Log l) fits is = read-halts layout view l.read l.read.at fits.1.read.at is
 stopped-halts base layout view (jobs.Raise r) fits is = let own = mapped _ (raises.answer r) is in raise-halts layout view r own.0 (raise-ended r fits.1 own.1).1 own.2

@@ -41,6 +41,7 @@ handle-stays layout handles (jobs.Scrub s) after found got turn next has = subst
 handle-stays layout handles (jobs.Inject i) after found got turn next has = subst (HasHandle handles) (sym next.1) tt
 handle-stays layout handles (jobs.Soft s) after found got turn next has = subst (HasHandle handles) (sym next.1) tt
 handle-stays layout handles (jobs.Prctl p) after found got turn next has = subst (HasHandle handles) (sym next.0) tt
+handle-stays layout handles (jobs.Denied p) after found got turn next has = subst (HasHandle handles) (sym next.0) tt
 handle-stays layout handles (jobs.Fork f) after found got turn next has = subst (HasHandle handles) (sym next.0) tt
 handle-stays layout handles (jobs.Log l) after found got turn next has = subst (HasHandle handles) (sym next.0) tt
 handle-stays layout handles (jobs.Spoil s) after found got turn next has = subst (HasHandle handles) (sym next.0) tt

@@ -1,4 +1,5 @@
 pub mod CommandRuns
+pub mod DeniedAnswers
 pub mod Quiet
 pub mod TaskLeaves
 pub mod CommandLeaves

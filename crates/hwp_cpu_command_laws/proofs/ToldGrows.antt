@@ -190,6 +190,7 @@ told-longer layout (jobs.Inject i) after found got turn next = same-lines (ap to
 told-longer layout (jobs.Soft s) after found got turn next = same-lines (ap told_of next.1)
 told-longer layout (jobs.Fsync f) after found got turn next = same-lines (ap told_of next.0)
 told-longer layout (jobs.Prctl p) after found got turn next = same-lines (ap told_of next.0)
+told-longer layout (jobs.Denied p) after found got turn next = same-lines (ap told_of next.0)
 told-longer layout (jobs.Fork f) after found got turn next = same-lines (ap told_of next.0)
 told-longer layout (jobs.Log l) after found got turn next = same-lines (ap told_of next.0)
 told-longer layout (jobs.Spoil p) after found got turn next = same-lines (ap told_of next.0)

@@ -15,6 +15,7 @@ use Rattle.hwp_core_task.specs.Calls.{IsOnTurn}
 use Rattle.hwp_core_task.specs.Hands.{hand_of, empty}
 use Rattle.hwp_core_task.specs.Known.{HasMadeNone, Saw, SawStop}
 use Rattle.hwp_core_task.specs.Turns.{Member}
+use Rattle.hwp_cpu_control.specs.declared.denied.Denial.{Denial}
 use Rattle.hwp_cpu_control.specs.declared.denied.Denied.{Denied}
 use Rattle.hwp_cpu_control.specs.declared.denied.DeniedAt.{DeniedAt}
 use Rattle.hwp_cpu_control.specs.declared.denied.DeniedAt.TheVariants as at
@@ -22,8 +23,8 @@ use Rattle.hwp_cpu_control.specs.declared.denied.DeniedAnswer.{DeniedAnswer}
 use Rattle.hwp_cpu_control.specs.declared.denied.DeniedAnswer.TheVariants as answers
 use Rattle.hwp_cpu_control.specs.Prctls.{GoesOn}
 
-abbrev pub begin : Who → Proc → Denied
-begin who process = record { who = who; process = process; at = at.LoadStop }
+abbrev pub begin : Who → Proc → Denial → Denied
+begin who process why = record { who = who; process = process; why = why; at = at.LoadStop }
 
 abbrev pub plan_at : Proc → DeniedAt → Option Step
 plan_at process at.LoadStop = Some (steps.Load places.Stop)

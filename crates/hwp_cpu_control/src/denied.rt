@@ -10,7 +10,17 @@ use hwp_core_task::{
 pub struct Denied {
     who: Who,
     process: Proc,
+    why: Denial,
     at: DeniedAt,
+}
+
+/// Why a guest doesn't admit an access (this project's rule).
+#[derive(Clone, Copy)]
+pub enum Denial {
+    /// Its guest frame is bad.
+    BadFrame,
+    /// The guest is stopped.
+    Stopped,
 }
 
 #[derive(Clone, Copy)]
@@ -35,12 +45,13 @@ impl Denied {
     ghost use Rattle.hwp_cpu_control.specs.Denieds.{answer, at_process, at_start, begin};
 
     /// A thread of the process makes an access that its guest doesn't admit.
-    pub fn new(who: Who, process: Proc) -> Denied
-        ensures { result ≡ begin who process }
+    pub fn new(who: Who, process: Proc, why: Denial) -> Denied
+        ensures { result ≡ begin who process why }
     {
         Denied {
             who,
             process,
+            why,
             at: DeniedAt::LoadStop,
         }
     }
@@ -53,6 +64,13 @@ impl Denied {
             DeniedAt::LoadStop | DeniedAt::LoadProcess => None,
             DeniedAt::Over { answer } => Some(answer),
         }
+    }
+
+    /// Why the guest doesn't admit it.
+    pub fn why(&self) -> Denial
+        ensures { result ≡ self.now.why }
+    {
+        self.why
     }
 
     fn at_start(found: u64) -> DeniedAt

@@ -9,7 +9,7 @@ mod prctl;
 mod read_stop;
 mod spoil;
 
-pub use denied::{Denied, DeniedAnswer};
+pub use denied::{Denial, Denied, DeniedAnswer};
 pub use fork::{Fork, ForkAnswer, Targets};
 pub use nested::{Nested, NestedAnswer};
 pub use prctl::{Prctl, PrctlAnswer};

@@ -20,6 +20,7 @@ on-turn base layout view (kinds.Copying c) fits = fits.on_turn
 on-turn base layout view (kinds.Evict e) fits = fits.on_turn
 on-turn base layout view (kinds.Fsync f) fits = fits.1.on_turn
 on-turn base layout view (kinds.Prctl p) fits = fits.1.on_turn
+on-turn base layout view (kinds.Denied p) fits = fits.1.on_turn
 on-turn base layout view (kinds.Fork p) fits = fits.1.on_turn
 on-turn base layout view (kinds.Log l) fits = fits.1.read.on_turn
 on-turn base layout view (kinds.Raise r) fits = fits.1.on_turn

@@ -109,6 +109,7 @@ module _ {layout : Layout} {seat : ℕ} {a b : State} {k : Job} {t : Turn} (fram
   pause-owns (kinds.Evict x) made = absurd (both_ways true (sym pauses ∙ ap jobs.pauses made.follows.1) refl)
   pause-owns (kinds.Fsync x) made = absurd (both_ways true (sym pauses ∙ ap jobs.pauses made.follows.0) refl)
   pause-owns (kinds.Prctl x) made = absurd (both_ways true (sym pauses ∙ ap jobs.pauses made.follows.0) refl)
+  pause-owns (kinds.Denied x) made = absurd (both_ways true (sym pauses ∙ ap jobs.pauses made.follows.0) refl)
   pause-owns (kinds.Fork x) made = absurd (both_ways true (sym pauses ∙ ap jobs.pauses made.follows.0) refl)
   pause-owns (kinds.Log x) made = absurd (both_ways true (sym pauses ∙ ap jobs.pauses made.follows.0) refl)
   pause-owns (kinds.Raise x) made = absurd (both_ways true (sym pauses ∙ ap jobs.pauses made.follows.1) refl)

@@ -116,6 +116,7 @@ at-rest base layout view (kinds.Copying c) fits is = let some = some-of (copying
 at-rest base layout view (kinds.Evict x) fits is = other-rest base layout view (kinds.Evict x) fits is
 at-rest base layout view (kinds.Fsync x) fits is = other-rest base layout view (kinds.Fsync x) fits is
 at-rest base layout view (kinds.Prctl x) fits is = other-rest base layout view (kinds.Prctl x) fits is
+at-rest base layout view (kinds.Denied x) fits is = other-rest base layout view (kinds.Denied x) fits is
 at-rest base layout view (kinds.Fork x) fits is = other-rest base layout view (kinds.Fork x) fits is
 at-rest base layout view (kinds.Log x) fits is = other-rest base layout view (kinds.Log x) fits is
 at-rest base layout view (kinds.Raise x) fits is = other-rest base layout view (kinds.Raise x) fits is

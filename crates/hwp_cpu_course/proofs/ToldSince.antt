@@ -159,6 +159,7 @@ since-few base layout old new (kinds.Scrub s) k step found got turn fits after p
 since-few base layout old new (kinds.Evict x) k step found got turn fits after planned made next noted passed rest = subst (λ (x : Job). length (drop noted (jobs.told_of x)) ≤ most x) (sym next.1) (none-told noted due_room)
 since-few base layout old new (kinds.Fsync x) k step found got turn fits after planned made next noted passed rest = subst (λ (x : Job). length (drop noted (jobs.told_of x)) ≤ most x) (sym next.0) (none-told noted due_room)
 since-few base layout old new (kinds.Prctl x) k step found got turn fits after planned made next noted passed rest = subst (λ (x : Job). length (drop noted (jobs.told_of x)) ≤ most x) (sym next.0) (none-told noted due_room)
+since-few base layout old new (kinds.Denied x) k step found got turn fits after planned made next noted passed rest = subst (λ (x : Job). length (drop noted (jobs.told_of x)) ≤ most x) (sym next.0) (none-told noted due_room)
 since-few base layout old new (kinds.Fork x) k step found got turn fits after planned made next noted passed rest = subst (λ (x : Job). length (drop noted (jobs.told_of x)) ≤ most x) (sym next.0) (none-told noted due_room)
 since-few base layout old new (kinds.Log x) k step found got turn fits after planned made next noted passed rest = subst (λ (x : Job). length (drop noted (jobs.told_of x)) ≤ most x) (sym next.0) (none-told noted due_room)
 since-few base layout old new (kinds.Spoil x) k step found got turn fits after planned made next noted passed rest = subst (λ (x : Job). length (drop noted (jobs.told_of x)) ≤ most x) (sym next.0) (none-told noted due_room)

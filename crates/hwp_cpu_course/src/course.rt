@@ -2,7 +2,7 @@ ghost use Rattle.std.specs.Prelude.{◌≡◌, ◌<◌, ◌≤◌, true, length,
 ghost use Rattle.hwp_cpu_row.specs.hwp_geom.Layout.{IsSound};
 ghost use Rattle.hwp_cpu_row.specs.hwp_script_read.Valid.{IsCommandOf};
 ghost use Rattle.hwp_cpu_row.specs.Locals.{collects};
-ghost use Rattle.hwp_cpu_command_laws.specs.hwp_cpu_command.Begins.{CanCopy};
+ghost use Rattle.hwp_cpu_command_laws.specs.hwp_cpu_command.Begins.{CanCopy, CanDeny};
 ghost use Rattle.hwp_cpu_command_laws.specs.hwp_cpu_command.FileHandles.{HasChangeWithin, StandsOn};
 ghost use Rattle.hwp_cpu_command_laws.specs.hwp_cpu_command.Jobs.{told_of};
 ghost use Rattle.hwp_cpu_course.specs.Courses.{AfterCollecting, AfterOwnBy, AfterRest, BeginsCourse, Covers, IsGoingOn, answer, local_after, local_left, offline_result, passed, rests, row_of, with_result};
@@ -37,22 +37,25 @@ pub struct Course {
 
 impl Course {
     /// The command at its beginning. It takes what its processor's banks hold, where it can add to that, and its collector. A store copies
-    /// the page of the translation `copies` first, where there is one.
+    /// the page of the translation `copies` first, where there is one. An access that its guest doesn't admit is answered by `denied`, where
+    /// that is an answer.
     pub fn new(
         alloc: Global,
         layout: &Layout,
         who: Who,
         command: Command,
         copies: Option<VSlot>,
+        denied: Option<Answer>,
         local: &mut Local,
     ) -> Course
         requires sound { IsSound layout.now }
         requires of { IsCommandOf layout.now who.cpu.0 command }
         requires copies { CanCopy layout.now who.cpu.0 command copies }
-        ensures begins { BeginsCourse layout.now who command copies local.old result }
+        requires denied { CanDeny command denied }
+        ensures begins { BeginsCourse layout.now who command copies denied local.old result }
         ensures local { local.new ≡ local_left result local.old }
     {
-        let own = Job::new(alloc, layout, who, command, copies, local);
+        let own = Job::new(alloc, layout, who, command, copies, denied, local);
         Course {
             own,
             beside: None,
@@ -71,16 +74,18 @@ impl Course {
         who: Who,
         command: Command,
         copies: Option<VSlot>,
+        denied: Option<Answer>,
         local: &mut Local,
     )
         requires sound { IsSound layout.now }
         requires of { IsCommandOf layout.now who.cpu.0 command }
         requires copies { CanCopy layout.now who.cpu.0 command copies }
-        ensures begins { BeginsCourse layout.now who command copies local.old self.new }
+        requires denied { CanDeny command denied }
+        ensures begins { BeginsCourse layout.now who command copies denied local.old self.new }
         ensures local { local.new ≡ local_left self.new local.old }
     {
         self.own
-            .begin_next(alloc, layout, who, command, copies, local);
+            .begin_next(alloc, layout, who, command, copies, denied, local);
         set(&mut self.beside, None);
         set(&mut self.watching, local.watching.take());
         self.noted = 0;

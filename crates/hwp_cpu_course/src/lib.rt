@@ -9,6 +9,6 @@ pub use course::Course;
 pub use due::DueFrames;
 pub use hwp_cpu_command_laws::Job;
 pub use hwp_cpu_row::{
-    Answer, Body, Command, Cpu, Layout, List, Local, OutOfMemory, Ranked, Row, Scheduled, Step,
-    Task, Turn, VSlot, Who,
+    Answer, Body, Command, Cpu, GuestLine, Layout, List, Local, OutOfMemory, Ranked, Row,
+    Scheduled, Step, Task, Turn, VSlot, Who,
 };

@@ -2,22 +2,31 @@
 use Rattle.std.proofs.Common.{◌≡◌, ◌≢◌, ℕ, zero, suc, ◌<◌, ◌==◌, ◌||◌, Bool, true, false, List, [], ◌∷◌, ◌++◌, Option, Some, None, get_or, length, replicate, set, if◌then◌else◌, refl, sym, ap, ◌∙◌, subst, inl, inr, true≢false, arith}
 use Rattle.std.specs.List.{list_any}
 use Rattle.std.specs.Option.{option_map_or}
-use Rattle.std.specs.Prelude.{option_and_then}
+use Rattle.std.specs.Prelude.{◌≤◌, IsSomeAnd, option_and_then, slice_get}
 use Rattle.std.proofs.lemmas.Bool.{cases_eq, eq-eqb, ne_eqb}
 use Rattle.std.proofs.lemmas.List.{get_or-set_other, get_or-set_same, length-replicate, length-set}
 use Rattle.std.proofs.lemmas.List.Sums.{fold-append}
-use Rattle.std.proofs.lemmas.Option.{none-some, same_Some}
+use Rattle.std.proofs.lemmas.Option.{none-some, same_Some, slice_get_within}
 use Rattle.hwp_cpu_check.specs.hwp_geom.Layout.{is_guest}
 use Rattle.hwp_cpu_check.specs.hwp_geom.declared.Layout.{Layout}
+use Rattle.hwp_cpu_check.specs.hwp_geom.Limits.{translation_limit}
 use Rattle.hwp_cpu_check.specs.hwp_geom.declared.Proc.{Proc}
+use Rattle.hwp_cpu_check.specs.hwp_geom.declared.Thread.{Thread}
+use Rattle.hwp_cpu_check.specs.hwp_geom.declared.ThreadDecl.{ThreadDecl}
+use Rattle.hwp_cpu_check.specs.hwp_geom.declared.TransDecl.{TransDecl}
+use Rattle.hwp_cpu_check.specs.hwp_geom.declared.VSlot.{VSlot}
 use Rattle.hwp_cpu_check.specs.hwp_script_lines.declared.Command.{Command}
+use Rattle.hwp_cpu_check.specs.hwp_script_lines.declared.Command.TheVariants as commands
+use Rattle.hwp_cpu_check.specs.hwp_script_read.Valid.{IsAccess, IsCommandOf}
 use Rattle.hwp_cpu_check.specs.hwp_report_text.declared.Answer.{Answer}
 use Rattle.hwp_cpu_check.specs.hwp_report_text.declared.Answer.TheVariants as answers
+use Rattle.hwp_guest.specs.declared.Admit.{Admit}
+use Rattle.hwp_guest.specs.declared.Admit.TheVariants as admissions
 use Rattle.hwp_guest.specs.GuestState.{GuestState, admitted, after}
 use Rattle.hwp_cpu_check.specs.hwp_law_commands.Commands as access
 use Rattle.hwp_cpu_check.specs.hwp_law_commands.Commands.{access_of, arrival_of, process_of_thread}
 use Rattle.hwp_cpu_check.specs.hwp_law_commands.Guests.{GuestAccess, denial, denied, guest_access, guest_after, guest_met, guest_of, kind_of, new_guest}
-use Rattle.hwp_cpu_row.specs.GuestLists.{AreGuestsOf, KnowsGuests, denied_in, first_guests, guest_in, has_guests, met_in, told_in}
+use Rattle.hwp_cpu_row.specs.GuestLists.{AreGuestsOf, KnowsGuests, MayMeet, MayTell, denied_in, first_guests, guest_in, has_guests, met_in, told_in}
 
 -- ---- at first
 
@@ -121,3 +130,79 @@ pub told-known : (layout : Layout) (earlier : List (Command × Answer)) (command
 told-known layout earlier command answer guests are known = λ process is.
     told-is layout command answer guests process (are process is) ∙ ap (λ (g : GuestState). guest_after layout process g command answer) (known process is)
     ∙ sym (guest-more layout earlier command answer process)
+
+-- ---- an access that is admitted
+
+-- only two answers deny an access
+pub denied-either : (layout : Layout) (guests : List GuestState) (command : Command) (P : Option Answer → Type 0) → P None → P (Some answers.GuestBad) → P (Some answers.GuestStopped) → P (denied_in layout guests command)
+denied-either layout guests command P none bad stopped = which (guest_access layout command)
+  where
+    by : (x : Admit) → P (denial x)
+    by admissions.Yes = none
+    by admissions.Bad = bad
+    by admissions.Stopped = stopped
+
+    which : (o : Option GuestAccess) → P (option_and_then (λ (a : GuestAccess). denial (admitted (guest_in guests a.process) a.slot.0)) o)
+    which None = none
+    which (Some a) = by (admitted (guest_in guests a.process) a.slot.0)
+
+-- the guest access is that of the command
+slot-by : (layout : Layout) (a : access.Access) (command : Command) (o : Option Proc) (g : GuestAccess)
+    → option_and_then (λ (process : Proc). if is_guest layout process then Some (record { process = process; slot = a.slot; line = a.line; kind = kind_of command; mode = (arrival_of command).mode }) else None) o ≡ Some g
+    → g.slot ≡ a.slot
+slot-by layout a command None g is = absurd (none-some g is)
+slot-by layout a command (Some process) g is = which (is_guest layout process) is
+  where
+    which : (b : Bool) → (if b then Some (record { process = process; slot = a.slot; line = a.line; kind = kind_of command; mode = (arrival_of command).mode }) else None) ≡ Some g → g.slot ≡ a.slot
+    which true e = ap (λ (x : GuestAccess). x.slot) (sym (same_Some _ g e))
+    which false e = absurd (none-some g e)
+
+pub of-access : (layout : Layout) (command : Command) (g : GuestAccess) → guest_access layout command ≡ Some g → (a : access.Access) × (access_of command ≡ Some a) × (g.slot ≡ a.slot)
+of-access layout command g is = which (access_of command) refl is
+  where
+    which : (o : Option access.Access) → access_of command ≡ o → option_and_then (λ (a : access.Access). option_and_then (λ (process : Proc).
+        if is_guest layout process then Some (record { process = process; slot = a.slot; line = a.line; kind = kind_of command; mode = (arrival_of command).mode }) else None)
+        (process_of_thread layout a.thread)) o ≡ Some g → (a : access.Access) × (access_of command ≡ Some a) × (g.slot ≡ a.slot)
+    which None of e = absurd (none-some g e)
+    which (Some a) of e = (a, of, slot-by layout a command (process_of_thread layout a.thread) g e)
+
+-- a translation that an access names is declared
+declared-by : (layout : Layout) (cpu : ℕ) (thread : Thread) (slot : VSlot) → IsAccess layout cpu thread slot → slot.0 < length layout.trans
+declared-by layout cpu thread slot has = which (slice_get layout.threads thread.0) (slice_get layout.trans slot.0) refl has
+  where
+    which : (t : Option ThreadDecl) (o : Option TransDecl) → slice_get layout.trans slot.0 ≡ o → IsSomeAnd t (λ (d : ThreadDecl). (d.cpu.0 ≡ cpu) × IsSomeAnd o (λ (v : TransDecl). v.process ≡ d.process)) → slot.0 < length layout.trans
+    which None o o_is is = absurd is
+    which (Some d) None o_is is = absurd is.1
+    which (Some d) (Some v) o_is is = slice_get_within layout.trans slot.0 v o_is
+
+slot-within : (layout : Layout) (cpu : ℕ) (command : Command) (a : access.Access) → IsCommandOf layout cpu command → access_of command ≡ Some a → a.slot.0 < length layout.trans
+slot-within layout cpu (commands.Load thread slot line) a of is = subst (λ (x : access.Access). x.slot.0 < length layout.trans) (same_Some _ a is) (declared-by layout cpu thread slot of.0)
+slot-within layout cpu (commands.Fetch thread slot line) a of is = subst (λ (x : access.Access). x.slot.0 < length layout.trans) (same_Some _ a is) (declared-by layout cpu thread slot of.0)
+slot-within layout cpu (commands.KLoad thread slot line) a of is = subst (λ (x : access.Access). x.slot.0 < length layout.trans) (same_Some _ a is) (declared-by layout cpu thread slot of.0)
+slot-within layout cpu (commands.Store thread slot line word) a of is = subst (λ (x : access.Access). x.slot.0 < length layout.trans) (same_Some _ a is) (declared-by layout cpu thread slot of.0)
+slot-within layout cpu command a of is = absurd (none-some a is)
+
+admits : (x : Admit) → denial x ≡ None → x ≡ admissions.Yes
+admits admissions.Yes none = refl
+admits admissions.Bad none = absurd (none-some _ (sym none))
+admits admissions.Stopped none = absurd (none-some _ (sym none))
+
+-- what is no access of a guest isn't denied
+pub denied-none : (layout : Layout) (guests : List GuestState) (command : Command) → guest_access layout command ≡ None → denied_in layout guests command ≡ None
+denied-none layout guests command none = ap (option_and_then (λ (a : GuestAccess). denial (admitted (guest_in guests a.process) a.slot.0))) none
+
+-- one that isn't denied can meet a bad line
+pub may-meet : (layout : Layout) (cpu : ℕ) (guests : List GuestState) (command : Command) → length layout.trans ≤ translation_limit → AreGuestsOf layout guests → IsCommandOf layout cpu command → denied_in layout guests command ≡ None → MayMeet layout guests command
+may-meet layout cpu guests command few are of none a is = record {
+  there = are a.process (of-guest layout command a is);
+  admitted_is = admits (admitted (guest_in guests a.process) a.slot.0) (sym (ap (option_and_then (λ (x : GuestAccess). denial (admitted (guest_in guests x.process) x.slot.0))) is) ∙ none);
+  within =
+      let own = of-access layout command a is in
+      let there : own.0.slot.0 < length layout.trans = slot-within layout cpu command own.0 of own.1 in
+      subst (λ (v : VSlot). v.0 < translation_limit) (sym own.2) (omega (arith, few, there));
+}
+
+-- whatever it is answered
+pub may-tell : (layout : Layout) (guests : List GuestState) (command : Command) (answer : Answer) → MayMeet layout guests command → MayTell layout guests command answer
+may-tell layout guests command (answers.Sigbus at) may = may
+may-tell layout guests command answer may = tt

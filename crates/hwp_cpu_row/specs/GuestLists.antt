@@ -20,6 +20,10 @@ use Rattle.hwp_guest.specs.GuestState.{GuestState, admitted, after}
 use Rattle.hwp_cpu_check.specs.hwp_law_commands.Commands.{process_of_thread}
 use Rattle.hwp_cpu_check.specs.hwp_law_commands.Guests.{GuestAccess, denial, guest_access, guest_line, guest_of, new_guest}
 
+-- what each process is as a guest
+abbrev pub States : Type 0
+States = List GuestState
+
 -- what the list says of a process; one that it doesn't hold is as at first
 abbrev pub guest_in : List GuestState → Proc → GuestState
 guest_in guests process = get_or guests process.0 new_guest
@@ -60,6 +64,11 @@ pub record CanMeet (guests : List GuestState) (a : GuestAccess) : Type 0 where
 -- the command's access, if it is one of a guest, can meet a bad line
 abbrev pub MayMeet : Layout → List GuestState → Command → Type 0
 MayMeet layout guests command = (a : GuestAccess) → guest_access layout command ≡ Some a → CanMeet guests a
+
+-- only one that is answered by SIGBUS met one
+abbrev pub MayTell : Layout → List GuestState → Command → Answer → Type 0
+MayTell layout guests command (answers.Sigbus at) = MayMeet layout guests command
+MayTell layout guests command answer = Unit {0}
 
 abbrev pub met_in : List GuestState → GuestAccess → List GuestState
 met_in guests a = slice_set guests a.process.0 (after a.mode a.slot.0 (guest_in guests a.process))

@@ -3,7 +3,7 @@ ghost use Rattle.std.specs.Option.{option_map};
 ghost use Rattle.hwp_guest.specs.GuestState.{admitted};
 ghost use Rattle.hwp_guest.specs.Guests.{outcome};
 ghost use Rattle.hwp_cpu_check.specs.hwp_law_commands.Guests.{denial, guest_access, guest_line, new_guest, stops};
-ghost use Rattle.hwp_cpu_row.specs.GuestLists.{CanMeet, MayMeet, access_by, denied_in, first_guests, guest_in, has_guests, line_in, met_in, told_in};
+ghost use Rattle.hwp_cpu_row.specs.GuestLists.{CanMeet, MayTell, access_by, denied_in, first_guests, guest_in, has_guests, line_in, met_in, told_in};
 
 use hwp_cpu_check::{
     Answer, Command, GuestLine, Layout, Line, Mode, OutOfMemory, Proc, Thread, VSlot,
@@ -40,9 +40,12 @@ pub struct Guests {
 
 impl Model for Guests {
     ghost use Rattle.std.specs.Prelude.{List};
-    ghost use Rattle.hwp_guest.specs.GuestState.{GuestState};
+    ghost use Rattle.std.specs.Coded.{coded_list};
+    ghost use Rattle.hwp_guest.specs.GuestState.{GuestState, state_code};
 
     ghost Value = { List GuestState };
+
+    ghost coded = { coded_list state_code };
 
     ghost view = { λ g. g.guests.items };
 }
@@ -93,7 +96,7 @@ impl Guests {
         command: &Command,
         answer: Answer,
     ) -> Option<GuestLine>
-        requires { MayMeet layout.now self.old command.now }
+        requires { MayTell layout.now self.old command.now answer }
         ensures line { result ≡ line_in layout.now seq command.now answer }
         ensures state { self.new ≡ told_in layout.now command.now answer self.old }
     {
@@ -198,9 +201,13 @@ fn guest_access(layout: &Layout, command: &Command) -> Option<GuestAccess>
     ensures { result ≡ guest_access layout.now command.now }
 {
     match *command {
-        Command::Load { thread, slot, line } | Command::Store { thread, slot, line, .. } => {
-            access_by(layout, thread, slot, line, Access::Plain, Mode::User)
-        }
+        Command::Load { thread, slot, line }
+        | Command::Store {
+            thread,
+            slot,
+            line,
+            ..
+        } => { access_by(layout, thread, slot, line, Access::Plain, Mode::User) }
         Command::Fetch { thread, slot, line } => {
             access_by(layout, thread, slot, line, Access::Fetch, Mode::User)
         }

@@ -1,6 +1,6 @@
 -- Each command of a run has its answer, in order, and the report shows its cause; and the stop record is that of a command that
 -- stopped the machine.
-use Rattle.std.proofs.Common.{◌≡◌, ℕ, zero, suc, ◌+◌, ◌<◌, List, [], ◌∷◌, ◌++◌, Option, Some, length, map, slice_get, option_and_then, append_assoc, sym, ap, ◌∙◌, subst, arith, refl}
+use Rattle.std.proofs.Common.{◌≡◌, ℕ, zero, suc, ◌+◌, ◌<◌, List, [], ◌∷◌, ◌++◌, Option, None, Some, length, map, slice_get, option_and_then, append_assoc, sym, ap, ◌∙◌, subst, arith, refl}
 use Rattle.std.specs.List.{list_any}
 use Rattle.std.proofs.lemmas.Option.{same_Some}
 use Rattle.hwp_law_records.specs.hwp_geom.declared.VSlot.{VSlot}
@@ -14,6 +14,7 @@ use Rattle.hwp_law_records.specs.hwp_report_text.declared.Answer.{Answer}
 use Rattle.hwp_law_records.specs.hwp_report_text.declared.Answer.TheVariants as answers
 use Rattle.hwp_law_records.specs.hwp_report_text.declared.CpuLine.{CpuLine}
 use Rattle.hwp_law_records.specs.hwp_report_text.declared.CpuLine.TheVariants as lines
+use Rattle.hwp_law_records.specs.hwp_report_text.declared.GuestLine.{GuestLine}
 use Rattle.hwp_law_records.specs.hwp_report_text.declared.Report.{Report}
 use Rattle.hwp_law_records.specs.hwp_report_text.declared.Stop.{Stop}
 use Rattle.hwp_law_records.specs.hwp_law.Causes.{AreCaused, IsHeeded, IsPastEvents, IsCaused as IsLawCaused}
@@ -24,7 +25,7 @@ use Rattle.hwp_law_records.specs.hwp_law.Stops.{StaysStopped}
 use Rattle.hwp_law_records.specs.hwp_cpu_row.declared.Offlining.{Offlining}
 use Rattle.hwp_law_records.specs.hwp_cpu_row.declared.Row.{Row}
 use Rattle.hwp_law_records.specs.hwp_cpu_check.declared.EventOutcome.{EventOutcome}
-use Rattle.hwp_law_records.specs.hwp_law_served.Rows.{event_line, lines_from, offlined_line}
+use Rattle.hwp_law_records.specs.hwp_law_served.Rows.{end_lines, event_line, lines_from, offlined_line}
 use Rattle.hwp_law_records.specs.hwp_law_served.Runs.{IsCauseOf, IsRunOf, row_at}
 use Rattle.hwp_law_records.specs.hwp_law_served.Served.{CanStop}
 use Rattle.hwp_law_records.specs.hwp_law_served.Served as served
@@ -56,7 +57,7 @@ module _ (script : Script) (copies : Who → Option VSlot) (seat : Cpu → ℕ) 
   heeded who of any = of.served.heeded (sym (ends-by who.seq of.row.told) ∙ sym (ap (list_any ends_machine) (events-told script copies seat last report end (view_of last (seat who.cpu)) who of)) ∙ any)
 
   module _ (cpu : Cpu) (all : List Command) (all_is : slice_get script.lists cpu.0 ≡ Some all) (own : List Row) (own_is : slice_get end.rows cpu.0 ≡ Some own) where
-    -- the lines of a command's events, and of frames that were taken out of use beside it, go before its answer
+    -- the lines of a command's events, of frames that were taken out of use beside it, and of a guest go before its answer
     past-events : (n : ℕ) (command : Command) (list : List Command) (told : List EventOutcome) (rest : List CpuLine) → AreCaused script report cpu n (command ∷ list) rest → AreCaused script report cpu n (command ∷ list) (map (event_line n) told ++ rest)
     past-events n command list [] rest caused = caused
     past-events n command list (t ∷ ts) rest caused = (refl, past-events n command list ts rest caused)
@@ -65,6 +66,11 @@ module _ (script : Script) (copies : Who → Option VSlot) (seat : Cpu → ℕ) 
         → IsPastEvents (map (offlined_line n) offlined ++ rest) × AreCaused script report cpu n (command ∷ list) (map (offlined_line n) offlined ++ rest)
     past-offlined n command list [] rest past caused = (past, caused)
     past-offlined n command list (o ∷ os) rest past caused = let later = past-offlined n command list os rest past caused in (tt, (refl, later.0, later.1))
+
+    past-guest : (n : ℕ) (command : Command) (list : List Command) (guest : Option GuestLine) (answer : Answer) (rest : List CpuLine) → AreCaused script report cpu n (command ∷ list) (lines.Answer n answer ∷ rest)
+        → IsPastEvents (end_lines n guest answer ++ rest) × AreCaused script report cpu n (command ∷ list) (end_lines n guest answer ++ rest)
+    past-guest n command list None answer rest caused = (tt, caused)
+    past-guest n command list (Some line) answer rest caused = (tt, (refl, tt, caused))
 
     -- a command with its row
     one-caused : (n : ℕ) (command : Command) (row : Row) → slice_get all n ≡ Some command → slice_get own n ≡ Some row → IsLawCaused script report (record { cpu = cpu; seq = n }) command row.answer × IsHeeded report (record { cpu = cpu; seq = n }) row.answer
@@ -91,11 +97,12 @@ module _ (script : Script) (copies : Who → Option VSlot) (seat : Cpu → ℕ) 
         let next : (i : ℕ) → n + suc i ≡ (n + 1) + i = λ i. omega arith in
         let later = caused-from (n + 1) cs rows (λ i d there. subst (λ (k : ℕ). slice_get all k ≡ Some d) (next i) (commands (suc i) d there)) (λ i r there. subst (λ (k : ℕ). slice_get own k ≡ Some r) (next i) (its (suc i) r there))
         (let both : suc (length rows) ≡ suc (length cs) = same in let less : length rows ≡ length cs = omega arith in less) in
-        let answer : List CpuLine = lines.Answer n row.answer ∷ lines_from (n + 1) rows in
-        let behind : AreCaused script report cpu n (c ∷ cs) (map (offlined_line n) row.offlined ++ answer) = (past-offlined n c cs row.offlined answer tt (refl, one.0, one.1, later)).1 in
+        let answer : List CpuLine = end_lines n row.guest row.answer ++ lines_from (n + 1) rows in
+        let last = past-guest n c cs row.guest row.answer (lines_from (n + 1) rows) (refl, one.0, one.1, later) in
+        let behind : AreCaused script report cpu n (c ∷ cs) (map (offlined_line n) row.offlined ++ answer) = (past-offlined n c cs row.offlined answer last.0 last.1).1 in
         subst (AreCaused script report cpu n (c ∷ cs))
-        (sym (append_assoc (map (event_line n) row.told) (map (offlined_line n) row.offlined ++ lines.Answer n row.answer ∷ []) (lines_from (n + 1) rows)
-        ∙ ap (λ (l : List CpuLine). map (event_line n) row.told ++ l) (append_assoc (map (offlined_line n) row.offlined) (lines.Answer n row.answer ∷ []) (lines_from (n + 1) rows))))
+        (sym (append_assoc (map (event_line n) row.told) (map (offlined_line n) row.offlined ++ end_lines n row.guest row.answer) (lines_from (n + 1) rows)
+        ∙ ap (λ (l : List CpuLine). map (event_line n) row.told ++ l) (append_assoc (map (offlined_line n) row.offlined) (end_lines n row.guest row.answer) (lines_from (n + 1) rows))))
         (past-events n c cs row.told (map (offlined_line n) row.offlined ++ answer) behind)
 
   pub all-caused : (cpu : Cpu) (list : List Command) (rows : List CpuLine) → slice_get script.lists cpu.0 ≡ Some list → slice_get report.cpus cpu.0 ≡ Some rows → AreCaused script report cpu 0 list rows

@@ -9,8 +9,9 @@ use Rattle.hwp_law_records.specs.hwp_script_read.declared.Script.{Script}
 use Rattle.hwp_law_records.specs.hwp_report_text.declared.Report.{Report}
 use Rattle.hwp_law_records.specs.hwp_law.Law.{AnswersFit, HasShape, HistoriesFit, IsLawful}
 use Rattle.hwp_law_records.proofs.of_hwp_law_run.Reported.{histories-lead, histories-ordered}
-use Rattle.hwp_law_records.specs.hwp_law_served.Runs.{IsRunOf}
+use Rattle.hwp_law_records.specs.hwp_law_served.Runs.{IsRunOf, KnowsAllGuests}
 use Rattle.hwp_law_holds.proofs.Caused.{all-caused, stop-agrees}
+use Rattle.hwp_law_holds.proofs.Guests.{guests-kept}
 use Rattle.hwp_law_holds.proofs.OfflinedLines.{are-offlined}
 use Rattle.hwp_law_records.proofs.of_hwp_law_served.RunEnds.{IsEnd}
 use Rattle.hwp_law_sights.proofs.endings.Endings.{endings-stay}
@@ -56,9 +57,10 @@ module _ (script : Script) (copies : Who → Option VSlot) (seat : Cpu → ℕ) 
     offlined = are-offlined script copies seat last report end;
   }
 
--- the whole, of what the processors of a script acted on
-pub law-holds : (script : Script) → IsValid script → (seat : Cpu → ℕ) (turns : List Played) (last : State) (report : Report) → IsRunOf (acting_script script report) (copied_at script report) seat turns last report → IsLawful script report
-law-holds script valid seat turns last report run =
+-- the whole, of what the processors of a script acted on, and of what their rows say of guests
+pub law-holds : (script : Script) → IsValid script → (seat : Cpu → ℕ) (turns : List Played) (last : State) (report : Report) → (run : IsRunOf (acting_script script report) (copied_at script report) seat turns last report) → KnowsAllGuests script seat last run.rows
+    → IsLawful script report
+law-holds script valid seat turns last report run knows =
     let acted : Script = acting_script script report in
     let histories : HistoriesFit (acting_script script report) (copied_at script report) report = histories-fit acted (copied_at script report) seat turns last report run in
     let answers : AnswersFit (acting_script script report) (copied_at script report) report = answers-fit acted (copied_at script report) seat turns last report run in
@@ -69,4 +71,5 @@ law-holds script valid seat turns last report run =
       frames = frames-lawful acted (copied_at script report) seat turns last report run;
       losses = losses-acted script report (losses-lawful acted (copied_at script report) seat turns last report run);
       private = private-holds script report valid histories answers (copies-keep-words acted (copied_at script report) seat last report (ended acted (copied_at script report) seat turns last report run));
+      guests = guests-kept script valid seat turns last report run knows;
     }

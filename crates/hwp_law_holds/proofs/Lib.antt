@@ -4,6 +4,7 @@ pub mod Answered
 pub mod StopCauses
 pub mod Caused
 pub mod OfflinedLines
+mod Guests
 pub mod Lawful
 pub mod copied
 pub mod Settled

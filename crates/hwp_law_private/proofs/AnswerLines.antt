@@ -69,7 +69,9 @@ caused-given script report cpu n (c ∷ cs) (lines.Event event ∷ rest) are i a
 caused-given script report cpu n (c ∷ cs) (lines.Offlined line ∷ rest) are i answer there =
     let g = caused-given script report cpu n (c ∷ cs) rest are.2 i answer there in
     record { command = g.command; command_is = g.command_is; caused = g.caused; found = g.found }
-caused-given script report cpu n (c ∷ cs) (lines.Guest line ∷ rest) are i answer there = absurd are
+caused-given script report cpu n (c ∷ cs) (lines.Guest line ∷ rest) are i answer there =
+    let g = caused-given script report cpu n (c ∷ cs) rest are.2 i answer there in
+    record { command = g.command; command_is = g.command_is; caused = g.caused; found = g.found }
 caused-given script report cpu n (c ∷ cs) (lines.Answer seq a ∷ rest) are zero answer there =
     let same : n ≡ n + 0 = omega arith in
     let is : a ≡ answer = same_Some a answer there in
@@ -107,7 +109,8 @@ line-given script report cpu n (c ∷ cs) (lines.Event event ∷ rest) are zero 
 line-given script report cpu n (c ∷ cs) (lines.Event event ∷ rest) are (suc j) seq answer there = line-given script report cpu n (c ∷ cs) rest are.1 j seq answer there
 line-given script report cpu n (c ∷ cs) (lines.Offlined line ∷ rest) are zero seq answer there = absurd (no-answer (lines.Offlined line) seq answer refl there)
 line-given script report cpu n (c ∷ cs) (lines.Offlined line ∷ rest) are (suc j) seq answer there = line-given script report cpu n (c ∷ cs) rest are.2 j seq answer there
-line-given script report cpu n (c ∷ cs) (lines.Guest line ∷ rest) are j seq answer there = absurd are
+line-given script report cpu n (c ∷ cs) (lines.Guest line ∷ rest) are zero seq answer there = absurd (no-answer (lines.Guest line) seq answer refl there)
+line-given script report cpu n (c ∷ cs) (lines.Guest line ∷ rest) are (suc j) seq answer there = line-given script report cpu n (c ∷ cs) rest are.2 j seq answer there
 line-given script report cpu n (c ∷ cs) (lines.Answer number a ∷ rest) are zero seq answer there =
     let same : (number ≡ seq) × (a ≡ answer) = same_answer number seq a answer (same_Some (lines.Answer number a) (lines.Answer seq answer) there) in
     (0, omega (arith, are.0, same.0), ap Some same.1)

@@ -47,7 +47,7 @@ use Rattle.hwp_cpu_row.specs.declared.FrameChange.{FrameChange}
 use Rattle.hwp_cpu_row.specs.declared.Offlining.{Offlining}
 use Rattle.hwp_cpu_row.specs.declared.Row.{Row}
 use Rattle.hwp_cpu_row.specs.hwp_cpu_check.declared.EventOutcome.{EventOutcome}
-use Rattle.hwp_law_served.specs.Causes.{FoundGone, FoundNoFrame, FoundPoisoned, FoundState, FoundStopped, FoundBadLines, HasCome, HasFailed, HasMoved, HasOnlyBegun, HasOnlyMet, HasSpoiledLine, HasTaken, IsAnswerCaused, IsCausedWith, IsCopiedOut, IsInjectCaused, IsLoadCaused, IsOfflineCaused, IsPageCaused, IsReplied, IsSoftCaused, IsStoreCaused, IsTableCaused, MadeOne, Reached, SawBadLines, SawProcess, WasRaised, WasSignalled, IsUnpoisonCaused}
+use Rattle.hwp_law_served.specs.Causes.{FoundGone, FoundNoFrame, FoundPoisoned, FoundState, FoundStopped, FoundBadLines, HasCome, HasFailed, HasMoved, HasOnlyBegun, HasOnlyMet, HasSpoiledLine, HasTaken, IsAnswerCaused, IsCausedWith, IsCopiedOut, IsInjectCaused, IsLoadCaused, IsOfflineCaused, IsPageCaused, IsReplied, IsSoftCaused, IsStoreCaused, IsTableCaused, MadeOne, Reached, SawBadLines, SawProcess, WasDenied, WasRaised, WasSignalled, IsUnpoisonCaused}
 use Rattle.hwp_law_served.specs.Offlinings.{AreBeside, IsOfflineServed, left_among}
 use Rattle.hwp_law_served.specs.Served.{IsOffliningServed, IsRowServed, SawRunning}
 use Rattle.hwp_law_served.proofs.AccountKeeps.{account-stays}
@@ -313,6 +313,14 @@ module _ {layout : Layout} {by : Who} {step : Step} {body : Option BodyValue} {o
   either-stays earlier command told at (inl caused) = inl (table-stays earlier command (answers.Sigbus at) caused)
   either-stays earlier command told at (inr was) = inr (sigbus-stays command told at (access_of command) was)
 
+  -- an access that its guest didn't admit
+  going-stays : (access : Option Access) → IsSomeAnd access (λ (a : Access). SawProcess layout old who a.thread 0) → IsSomeAnd access (λ (a : Access). SawProcess layout new who a.thread 0)
+  going-stays (Some a) saw = saw-process-stays a.thread 0 saw
+  going-stays None saw = absurd saw
+
+  denied-stays : (command : Command) → WasDenied layout old who command → WasDenied layout new who command
+  denied-stays command was = (made-none-later was.0, going-stays (access_of command) was.1)
+
   answer-stays : (earlier : List (Command × Answer)) (command : Command) (told : List EventOutcome) (own : Option FrameChange) (answer : Answer) → IsAnswerCaused layout earlier old who command told own answer
       → IsAnswerCaused layout earlier new who command told own answer
   answer-stays earlier command told own answers.Stopped caused = stopped-stays command caused
@@ -324,6 +332,8 @@ module _ {layout : Layout} {by : Who} {step : Step} {body : Option BodyValue} {o
   answer-stays earlier (commands.Soft frame) told own answer caused = soft-stays frame own answer caused
   answer-stays earlier (commands.Unpoison frame) told own answer caused = (made-none-later caused.0, unpoison-stays frame own answer caused.1)
   answer-stays earlier command told own (answers.Sigbus at) caused = either-stays earlier command told at caused
+  answer-stays earlier command told own answers.GuestBad caused = denied-stays command caused
+  answer-stays earlier command told own answers.GuestStopped caused = denied-stays command caused
   answer-stays earlier command told own answer caused = table-stays earlier command answer caused
 
   -- where it copied a page first, too

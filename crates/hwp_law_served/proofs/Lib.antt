@@ -1,5 +1,6 @@
 pub mod RunEnds
 pub mod RowLines
+pub mod GuestRows
 pub mod RowTold
 pub mod Picked
 pub mod Seen

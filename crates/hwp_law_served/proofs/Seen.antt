@@ -322,6 +322,8 @@ module _ (layout : Layout) (earlier : List (Command × Answer)) (view : View) (w
   answer-place (commands.Soft frame) told own answer either caused at is = soft-place frame own answer caused at is
   answer-place (commands.Unpoison frame) told own answer either caused at is = unpoison-place frame own answer caused.1 at is
   answer-place command told own (answers.Sigbus bt) either caused at is = either bt caused at is
+  answer-place command told own answers.GuestBad either caused at is = absurd (none-some at is)
+  answer-place command told own answers.GuestStopped either caused at is = absurd (none-some at is)
   answer-place command told own answer either caused at is = table-place command answer caused at is
 
   pub plain-place : (command : Command) (row : Row) → IsAnswerCaused layout earlier view who command row.told row.own row.answer → IsAccounted layout earlier view who command row → Names row.answer
@@ -391,6 +393,8 @@ module _ (layout : Layout) (earlier : List (Command × Answer)) (view : View) (w
   answer-state (commands.Soft frame) told own answer caused at is = soft-state frame own answer caused at is
   answer-state (commands.Unpoison frame) told own answer caused at is = unpoison-state frame own answer caused.1 at is
   answer-state command told own (answers.Sigbus bt) caused at is = absurd (none-some at is)
+  answer-state command told own answers.GuestBad caused at is = absurd (none-some at is)
+  answer-state command told own answers.GuestStopped caused at is = absurd (none-some at is)
   answer-state command told own answer caused at is = table-state command answer caused at is
 
   pub plain-state : (command : Command) (row : Row) → IsAnswerCaused layout earlier view who command row.told row.own row.answer → (at : At) → state_named row.answer ≡ Some at → SawAt view who at

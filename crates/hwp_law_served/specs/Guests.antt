@@ -1,7 +1,11 @@
 -- What the rows of a processor say of guests, by the commands of its list: which accesses weren't admitted, and which guests were told of a bad
 -- line.
 use Rattle.std.specs.Prelude.{◌≡◌, ◌≢◌, ◌⊎◌, ℕ, List, [], Option, Some, None, map, option_to_list, slice_get, take}
+use Rattle.hwp_law_run.specs.hwp_geom.declared.Cpu.{Cpu}
 use Rattle.hwp_law_run.specs.hwp_geom.declared.Layout.{Layout}
+use Rattle.hwp_law_run.specs.hwp_geom.declared.Who.{Who}
+use Rattle.hwp_law_run.specs.hwp_core_rule.declared.View.{View}
+use Rattle.hwp_law_run.specs.hwp_core_task.Known.{HasMadeNone}
 use Rattle.hwp_law_run.specs.hwp_script_read.declared.Command.{Command}
 use Rattle.hwp_law_run.specs.hwp_report_text.declared.Answer.{Answer}
 use Rattle.hwp_law_run.specs.hwp_report_text.declared.Answer.TheVariants as answers
@@ -15,18 +19,29 @@ abbrev pub SaysGone : Answer → Type 0
 SaysGone (answers.Gone page) = Unit {0}
 SaysGone answer = ⊥
 
--- by the answer that is due where a guest doesn't admit the access: that is the row's, or one of the machine, and nothing was told. No other row has
--- such an answer
-abbrev pub IsDeniedRow : Option Answer → Row → Type 0
-IsDeniedRow (Some due) row = ((row.answer ≡ due) ⊎ (row.answer ≡ answers.Stopped) ⊎ SaysGone row.answer) × (row.told ≡ [])
-IsDeniedRow None row = (row.answer ≢ answers.GuestBad) × (row.answer ≢ answers.GuestStopped)
+-- the guest didn't admit the access: the answer is the one that is due, or one of the machine, and the command made no entry and told nothing
+pub record IsDenied (view : View) (who : Who) (due : Answer) (row : Row) : Type 0 where
+  pub answered : (row.answer ≡ due) ⊎ ((row.answer ≡ answers.Stopped) ⊎ SaysGone row.answer)
+  pub made : HasMadeNone view who
+  pub untold : row.told ≡ []
 
--- the row of a command with this number, behind these with their answers
-pub record IsGuestRow (layout : Layout) (earlier : List (Command × Answer)) (seq : ℕ) (command : Command) (row : Row) : Type 0 where
-  pub admits : IsDeniedRow (denied layout earlier command) row
-  pub told : map (guest_at seq) (option_to_list row.guest) ≡ guest_lines layout seq command row.answer
+-- no other row has an answer of a guest
+pub record IsAdmitted (row : Row) : Type 0 where
+  pub not_bad : row.answer ≢ answers.GuestBad
+  pub not_stopped : row.answer ≢ answers.GuestStopped
+
+-- by the answer that is due where a guest doesn't admit the access
+abbrev pub IsDeniedRow : View → Who → Option Answer → Row → Type 0
+IsDeniedRow view who (Some due) row = IsDenied view who due row
+IsDeniedRow view who None row = IsAdmitted row
+
+-- the row of a command, behind these with their answers
+pub record IsGuestRow (layout : Layout) (earlier : List (Command × Answer)) (view : View) (who : Who) (command : Command) (row : Row) : Type 0 where
+  pub admits : IsDeniedRow view who (denied layout earlier command) row
+  pub told : map (guest_at who.seq) (option_to_list row.guest) ≡ guest_lines layout who.seq command row.answer
 
 -- each row is so
-abbrev pub KnowsGuests : Layout → List Command → List Row → Type 0
-KnowsGuests layout list rows =
-    (i : ℕ) (command : Command) (row : Row) → slice_get list i ≡ Some command → slice_get rows i ≡ Some row → IsGuestRow layout (take i (answers_by list rows)) i command row
+abbrev pub KnowsGuests : Layout → View → Cpu → List Command → List Row → Type 0
+KnowsGuests layout view cpu list rows =
+    (i : ℕ) (command : Command) (row : Row) → slice_get list i ≡ Some command → slice_get rows i ≡ Some row
+    → IsGuestRow layout (take i (answers_by list rows)) view (record { cpu = cpu; seq = i }) command row

@@ -34,6 +34,7 @@ use Rattle.hwp_cpu_row.specs.hwp_cpu_check.declared.EventOutcome.{EventOutcome}
 use Rattle.hwp_cpu_row.specs.hwp_cpu_check.Told.{halts}
 use Rattle.hwp_law_served.specs.Accounts.{IsAccounted, IsNote}
 use Rattle.hwp_law_served.specs.Causes.{IsCaused}
+use Rattle.hwp_law_served.specs.Guests.{KnowsGuests}
 use Rattle.hwp_law_served.specs.Handles.{KnowsNumbers, answers_by}
 use Rattle.hwp_law_served.specs.Offlinings.{AreBeside, IsOfflineServed, KnowsDue}
 use Rattle.hwp_law_served.specs.Rows.{notes_from}
@@ -151,5 +152,10 @@ pub record IsServedBy (Are : Banks → Type 0) (layout : Layout) (view : View) (
 abbrev pub IsServed : Layout → (Who → Option VSlot) → View → Cpu → List Command → List Row → Type 0
 IsServed layout copies view cpu list rows = IsServedBy (λ (after : Banks). AreRowsServed layout copies [] view cpu 0 empty_banks list rows after) layout view cpu list rows
 
-abbrev pub HasServed : Layout → View → Cpu → List Command → List Row → Type 0
-HasServed layout view cpu list rows = IsServedBy (λ (after : Banks). AreRowsActed layout [] view cpu 0 empty_banks list rows after) layout view cpu list rows
+abbrev pub HasActed : Layout → View → Cpu → List Command → List Row → Type 0
+HasActed layout view cpu list rows = IsServedBy (λ (after : Banks). AreRowsActed layout [] view cpu 0 empty_banks list rows after) layout view cpu list rows
+
+-- of those of the script the rows also say which accesses of guests were denied, and what guests were told
+pub record HasServed (layout : Layout) (view : View) (cpu : Cpu) (list : List Command) (rows : List Row) : Type 0 where
+  pub acted : HasActed layout view cpu list rows
+  pub guests : KnowsGuests layout view cpu list rows

@@ -253,6 +253,21 @@ module _ (script : Script) (turns : List Played) (view : View) (said : Said (tol
   sigbus-shown (commands.Fsync file) at = tt
   sigbus-shown command at = tt
 
+  -- nor does a guest that doesn't admit an access
+  denied-bad : (command : Command) → AnswerShown script turns who (slot_of command) command answers.GuestBad
+  denied-bad (commands.Inject frame) = tt
+  denied-bad (commands.Soft frame) = tt
+  denied-bad (commands.Unpoison frame) = tt
+  denied-bad (commands.Fsync file) = tt
+  denied-bad command = tt
+
+  denied-stopped : (command : Command) → AnswerShown script turns who (slot_of command) command answers.GuestStopped
+  denied-stopped (commands.Inject frame) = tt
+  denied-stopped (commands.Soft frame) = tt
+  denied-stopped (commands.Unpoison frame) = tt
+  denied-stopped (commands.Fsync file) = tt
+  denied-stopped command = tt
+
   -- what came of taking a frame out of use rests on this, by the answer of a `soft` that says the same
   came-shown : (frame : Frame) (change : Option FrameChange) (result : OfflineResult) → IsOfflineServed script.layout view who frame change result → AnswerShown script turns who None (commands.Soft frame) (offline_answer result)
   came-shown frame change (results.Moved other entry) (users, marked, (word, free)) =
@@ -318,6 +333,8 @@ module _ (script : Script) (turns : List Played) (view : View) (said : Said (tol
   answer-shown (commands.Soft frame) told own answer at caused = soft-shown frame own answer caused
   answer-shown (commands.Unpoison frame) told own answer at caused = unpoison-shown frame own answer caused.1
   answer-shown command told own (answers.Sigbus entry) at caused = sigbus-shown command entry
+  answer-shown command told own answers.GuestBad at caused = denied-bad command
+  answer-shown command told own answers.GuestStopped at caused = denied-stopped command
   answer-shown command told own answer at caused = table-shown command answer at caused
 
   -- an event's frame that was poisoned already
@@ -372,6 +389,14 @@ module _ (script : Script) (turns : List Played) (view : View) (said : Said (tol
     goes-sigbus command told at is (inl caused) = goes-table command (answers.Sigbus at) is caused
     goes-sigbus command told at is (inr was) = goes-signalled command told at is was
 
+    -- an access that its guest didn't admit
+    goes-denied : (command : Command) → option_and_then (process_of_thread script.layout) (thread_of command) ≡ Some process → IsSomeAnd (access_of command) (λ (a : Access). SawProcess script.layout view who a.thread 0) → ProcessShown script.layout turns who process 0
+    goes-denied (commands.Load thread slot line) is saw = runs-on (commands.Load thread slot line) thread refl is saw
+    goes-denied (commands.Fetch thread slot line) is saw = runs-on (commands.Fetch thread slot line) thread refl is saw
+    goes-denied (commands.KLoad thread slot line) is saw = runs-on (commands.KLoad thread slot line) thread refl is saw
+    goes-denied (commands.Store thread slot line word) is saw = runs-on (commands.Store thread slot line word) thread refl is saw
+    goes-denied command is saw = absurd saw
+
     goes : (command : Command) (told : List EventOutcome) (own : Option FrameChange) (answer : Answer) → option_and_then (process_of_thread script.layout) (thread_of command) ≡ Some process → IsAnswerCaused script.layout earlier view who command told own answer
         → GoesOn script.layout turns who process answer
     goes command told own answers.Stopped is caused = tt
@@ -383,6 +408,8 @@ module _ (script : Script) (turns : List Played) (view : View) (said : Said (tol
     goes (commands.Soft frame) told own answer is caused = absurd (none-some process is)
     goes (commands.Unpoison frame) told own answer is caused = absurd (none-some process is)
     goes command told own (answers.Sigbus at) is caused = goes-sigbus command told at is caused
+    goes command told own answers.GuestBad is caused = goes-denied command is caused.1
+    goes command told own answers.GuestStopped is caused = goes-denied command is caused.1
     goes command told own answer is caused = goes-table command answer is caused
 
     pub goes-shown : (command : Command) (told : List EventOutcome) (own : Option FrameChange) (answer : Answer) → command_at script who ≡ Some command → process_at script who ≡ Some process → IsAnswerCaused script.layout earlier view who command told own answer

@@ -113,8 +113,8 @@ module _ (script : Script) (seat : Cpu → ℕ) (last : State) (rows : List (Lis
         let inside : c < script.layout.cpus = subst (λ (n : ℕ). c < n) many (slice_get_within rows c by.0 by.1) in
         let list = there-is script.lists c (subst (λ (n : ℕ). c < n) (sym valid.one_each) inside) in
         let number : 0 + c ≡ c = omega arith in
-        subst (λ (l : List Note). Pairs IsNote l (view_of last (seat cpu)).marks) (sym (by.2 ∙ ap (λ (n : ℕ). notes_from (record { 0 = n }) 0 by.0) number)) (served cpu list.0 by.0 list.1 by.1).0.noted;
-    marked = λ c inside j m there. ((serves (record { 0 = c }) inside).served.marked j m there).0;
+        subst (λ (l : List Note). Pairs IsNote l (view_of last (seat cpu)).marks) (sym (by.2 ∙ ap (λ (n : ℕ). notes_from (record { 0 = n }) 0 by.0) number)) (served cpu list.0 by.0 list.1 by.1).0.acted.noted;
+    marked = λ c inside j m there. ((serves (record { 0 = c }) inside).served.acted.marked j m there).0;
   }
 
   halter : (i j : ℕ) (v : View) (who : Who) → slice_get last.views i ≡ Some v → slice_get v.stops j ≡ Some who → IsHalter script.layout script.lists rows who
@@ -122,7 +122,7 @@ module _ (script : Script) (seat : Cpu → ℕ) (last : State) (rows : List (Lis
       let past = (holds.rule.processors.commands.own i v view).stops j who listed in
       let own = seat-view script.layout seat last holds seated i past.0 v past.1 view past.2 in
       let by = serves past.1.cpu own.0 in
-      let stop : IsOwnStop script.layout past.1.cpu by.list by.own who = by.served.stops j who (sym (ap (λ (x : View). slice_get x.stops j) own.1) ∙ listed) in
+      let stop : IsOwnStop script.layout past.1.cpu by.list by.own who = by.served.acted.stops j who (sym (ap (λ (x : View). slice_get x.stops j) own.1) ∙ listed) in
       record {
         stopper = record { own = by.own; of_cpu = ap (λ (c : Cpu). slice_get rows c.0) stop.cpu_is ∙ by.own_is; row = stop.row; first = stop.answered };
         command = stop.command;
@@ -157,7 +157,7 @@ module _ (script : Script) (seat : Cpu → ℕ) (last : State) (rows : List (Lis
       few =
           let most : length (get_or script.lists c list.0) ≤ command_limit = omega (arith, get_or-le-sum_by length script.lists c list.0 inside, valid.few) in
           let is : length (get_or script.lists c list.0) ≡ length list.0 = ap length (get_or_from_slice_get script.lists c list.0 list.0 list.1) in
-          let count : length own ≡ length list.0 = (served cpu list.0 own list.1 there).0.count in
+          let count : length own ≡ length list.0 = (served cpu list.0 own list.1 there).0.acted.count in
           omega (arith, most, is, count)
 
       small : script.layout.frames ≤ 2 ^ 16
@@ -174,7 +174,7 @@ module _ (script : Script) (seat : Cpu → ℕ) (last : State) (rows : List (Lis
 
   pub ended-of : IsEnded script.layout script.lists last.views rows
   ended-of = record {
-    nothing = nothing-held script.layout seat last holds seated (λ cpu inside. (serves cpu inside).served.nothing);
+    nothing = nothing-held script.layout seat last holds seated (λ cpu inside. (serves cpu inside).served.acted.nothing);
     marked = are-marks script.layout seat last holds seated (notes_of 0 rows) are-noted;
     stops = λ i v view j who listed. halter i j v who view listed;
     cpus = let most : script.layout.cpus ≤ cpu_limit = holds.sound.cpus in let all : length rows ≡ script.layout.cpus = many in omega (arith, most, all);

@@ -102,6 +102,8 @@ module _ (script : Script) (copies : Who → Option VSlot) (seat : Cpu → ℕ) 
       which (answers.Gone ended) is = is-gone script copies seat last report end cpu inside who (commands.Store thread to line word) thread ended at refl
           (copy-gone script.layout (view_of last (seat cpu)) (store_by who thread to line word caused.page caused.process) caused.has.page (sub_next (store_by who thread to line word caused.page caused.process) from word caused.has.runs) caused.has.runs caused.has.rest told ended is)
       which answers.Stopped is = stop-by script copies seat last report end cpu who inside is.stopped
+      which answers.GuestBad is = tt
+      which answers.GuestStopped is = tt
       which _ is = absurd is
 
   law-with : (who : Who) (earlier : List (Command × Answer)) → earlier ≡ answered_before script report who → (copied : Option VSlot) (command : Command) (before : Banks) (told : List EventOutcome) (own : Option FrameChange) (answer : Answer) → command_at script who ≡ Some command

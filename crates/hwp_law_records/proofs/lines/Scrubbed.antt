@@ -59,6 +59,10 @@ spoiled-or layout earlier view who frame n damages.Bad told own (answers.Sigbus 
 spoiled-or layout earlier view who frame n damages.Bad told own (answers.Sigbus at) (inr never) = absurd never
 spoiled-or layout earlier view who frame n damages.Weak told own (answers.Sigbus at) (inl never) = absurd never
 spoiled-or layout earlier view who frame n damages.Weak told own (answers.Sigbus at) (inr never) = absurd never
+spoiled-or layout earlier view who frame n damages.Bad told own answers.GuestBad caused = absurd caused.1
+spoiled-or layout earlier view who frame n damages.Bad told own answers.GuestStopped caused = absurd caused.1
+spoiled-or layout earlier view who frame n damages.Weak told own answers.GuestBad caused = absurd caused.1
+spoiled-or layout earlier view who frame n damages.Weak told own answers.GuestStopped caused = absurd caused.1
 spoiled-or layout earlier view who frame n damages.Bad told own answer caused = absurd caused
 spoiled-or layout earlier view who frame n damages.Weak told own answer caused = absurd caused
 

@@ -36,7 +36,7 @@ use Rattle.hwp_cpu_row.specs.Acts.{told_notes}
 use Rattle.hwp_cpu_row.specs.hwp_cpu_check.declared.EventOutcome.{EventOutcome}
 use Rattle.hwp_law_served.specs.Handles.{KnowsNumber, KnowsNumbers, answers_by, number_at}
 use Rattle.hwp_law_served.specs.Offlinings.{AreDue, KnowsDue, watched_along, watched_at}
-use Rattle.hwp_law_served.specs.Served.{AreRowsActed, AreRowsServed, CanStop, HasServed, IsBegun, IsOneOf, IsOwnSpoil, IsOwnStop, IsRowServed, IsServed, spoiling}
+use Rattle.hwp_law_served.specs.Served.{AreRowsActed, AreRowsServed, CanStop, HasActed, IsBegun, IsOneOf, IsOwnSpoil, IsOwnStop, IsRowServed, IsServed, spoiling}
 use Rattle.hwp_law_served.proofs.copied.EarlierSame.{row-earlier}
 use Rattle.hwp_law_served.proofs.copied.NumbersActed.{numbers-acted, tells-acted}
 
@@ -173,7 +173,7 @@ module _ (layout : Layout) (list : List Command) (rows : List Row) where
   due-acted : KnowsDue layout list rows → KnowsDue layout (acted layout list rows) rows
   due-acted knows n row row_is = subst (λ (w : Option Watched). AreDue layout w row) (sym (watched-acted layout [] list rows n None)) (knows n row row_is)
 
-  pub served-acted : (copies : Who → Option VSlot) (view : View) (cpu : Cpu) → CopiesFrom layout copies cpu [] 0 list rows → HasServed layout view cpu list rows → IsServed layout copies view cpu (acted layout list rows) rows
+  pub served-acted : (copies : Who → Option VSlot) (view : View) (cpu : Cpu) → CopiesFrom layout copies cpu [] 0 list rows → HasActed layout view cpu list rows → IsServed layout copies view cpu (acted layout list rows) rows
   served-acted copies view cpu from served = record {
     count = served.count ∙ sym long;
     banks = served.banks;

@@ -173,6 +173,8 @@ copy-rest layout view who thread from to line word store page slot_is thread_is 
       | inl b ↦ all answers.Stopped rest b
       | inr none_is ↦ none answers.Stopped none_is
     ]
+    which answers.GuestBad (going, begun, is) = none answers.GuestBad is
+    which answers.GuestStopped (going, begun, is) = none answers.GuestStopped is
     which _ is = absurd is
 
 copy-deeds : (layout : Layout) (view : View) (who : Who) (thread : Thread) (from to : VSlot) (line word : ℕ) (before : Banks) (told : List EventOutcome) (answer : Answer) → IsCopyCaused layout view who thread from to line word before told answer

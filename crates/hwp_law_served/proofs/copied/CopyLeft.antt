@@ -62,4 +62,6 @@ module _ (store : Request) (page : Page) (sub : Sub) where
     | inl b ↦ left-behind rest b
     | inr none ↦ left-none rest none
   ]
+  left-of layout view runs rest told answers.GuestBad (going, begun, is) = left-none rest is
+  left-of layout view runs rest told answers.GuestStopped (going, begun, is) = left-none rest is
   left-of layout view runs rest told _ is = absurd is

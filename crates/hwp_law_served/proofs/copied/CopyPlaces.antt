@@ -63,6 +63,8 @@ module _ (layout : Layout) (view : View) (who : Who) (thread : Thread) (from to 
       which answers.NoFrame ended names = absurd (none-some at names)
       which (answers.Gone page) ended names = absurd (none-some at names)
       which answers.Stopped ended names = absurd (none-some at names)
+      which answers.GuestBad ended names = absurd (none-some at names)
+      which answers.GuestStopped ended names = absurd (none-some at names)
       which _ ended names = absurd ended
 
   copy-state : (row : Row) (answer : Answer) → IsCopyCaused layout view who thread from to line word before row.told answer → (at : At) → state_named answer ≡ Some at → SawAt view who at
@@ -75,6 +77,8 @@ module _ (layout : Layout) (view : View) (who : Who) (thread : Thread) (from to 
       which answers.NoFrame ended names = absurd (none-some at names)
       which (answers.Gone page) ended names = absurd (none-some at names)
       which answers.Stopped ended names = absurd (none-some at names)
+      which answers.GuestBad ended names = absurd (none-some at names)
+      which answers.GuestStopped ended names = absurd (none-some at names)
       which _ ended names = absurd ended
 
 -- ---- of any command

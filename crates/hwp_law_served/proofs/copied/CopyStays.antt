@@ -73,6 +73,8 @@ module _ {layout : Layout} {by : Who} {step : Step} {body : Option BodyValue} {o
     ended-stays answers.NoFrame (going, is) = (going-stays going, record { available = saw-stays made is.available; behind = is.behind; place = is.place; away = saw-state-stays made is.away })
     ended-stays (answers.Gone ended) is = record { process_is = is.process_is; saw = saw-stays made is.saw; behind = is.behind }
     ended-stays answers.Stopped is = stopped-stays is
+    ended-stays answers.GuestBad (going, begun, is) = (going-stays going, begun, is)
+    ended-stays answers.GuestStopped (going, begun, is) = (going-stays going, begun, is)
     ended-stays _ is = absurd is
 
 module _ {layout : Layout} {by : Who} {step : Step} {body : Option BodyValue} {old new : View} {found : ℕ} {got : Option BodyValue} (can : CanMake layout by step body old) (made : Steps layout by step (logs body) old new found got)

@@ -63,6 +63,8 @@ module _ (layout : Layout) (earlier other : List (Command × Answer)) (same : (t
   answer-earlier (commands.Unpoison frame) told own answer caused = caused
   answer-earlier command told own (answers.Sigbus at) (inl caused) = inl (table-earlier command (answers.Sigbus at) caused)
   answer-earlier command told own (answers.Sigbus at) (inr was) = inr was
+  answer-earlier command told own answers.GuestBad caused = caused
+  answer-earlier command told own answers.GuestStopped caused = caused
   answer-earlier command told own answer caused = table-earlier command answer caused
 
   caused-earlier : (copied : Option VSlot) (command : Command) (before : Banks) (told : List EventOutcome) (own : Option FrameChange) (answer : Answer) → IsCausedWith layout earlier copied view who command before told own answer

@@ -38,7 +38,7 @@ copies_by layout list own who = option_and_then (copied_from layout (take who.se
 
 -- so of one processor
 pub served-alone : (layout : Layout) (view : View) (cpu : Cpu) (list : List Command) (own : List Row) → HasServed layout view cpu list own → IsServed layout (copies_by layout list own) view cpu (acted layout list own) own
-served-alone layout view cpu list own served = served-acted layout list own (copies_by layout list own) view cpu from served
+served-alone layout view cpu list own served = served-acted layout list own (copies_by layout list own) view cpu from served.acted
   where
     from : CopiesFrom layout (copies_by layout list own) cpu [] 0 list own
     from k c there =
@@ -65,7 +65,7 @@ module _ (script : Script) (report : Report) where
   pub acting-long : length (acting_script script report).lists ≡ length script.lists
   acting-long = lists-long script.layout report.cpus 0 script.lists
 
-  answered-are : (cpu : Cpu) (list : List Command) (own : List Row) → slice_get script.lists cpu.0 ≡ Some list → slice_get report.cpus cpu.0 ≡ Some (lines_from 0 own) → answered_on script report cpu ≡ answers_by list own
+  pub answered-are : (cpu : Cpu) (list : List Command) (own : List Row) → slice_get script.lists cpu.0 ≡ Some list → slice_get report.cpus cpu.0 ≡ Some (lines_from 0 own) → answered_on script report cpu ≡ answers_by list own
   answered-are cpu list own list_is lines_is =
       ap (λ (o : Option (List Command)). answered (unwrap_or o []) (unwrap_or (slice_get report.cpus cpu.0) [])) list_is
       ∙ ap (λ (o : Option (List CpuLine)). answered list (unwrap_or o [])) lines_is
@@ -91,7 +91,7 @@ module _ (script : Script) (report : Report) where
           let same : acted script.layout mine own ≡ list =
           ap (acting_from script.layout [] mine) (sym given_is) ∙ same_Some (acting_from script.layout [] mine (answers_in (unwrap_or (slice_get report.cpus cpu.0) []))) list there in (
             subst (λ (l : List Command). IsServed script.layout (copied_at script report) (view_of last (seat cpu)) cpu l own) same
-                (served-acted script.layout mine own (copied_at script report) (view_of last (seat cpu)) cpu (copies-from cpu mine own some s.1) s.0),
+                (served-acted script.layout mine own (copied_at script report) (view_of last (seat cpu)) cpu (copies-from cpu mine own some s.1) s.0.acted),
             s.1,
           )
 

@@ -262,6 +262,8 @@ module _ (layout : Layout) (earlier : List (Command × Answer)) (view : View) (w
   answer-deeds (commands.Soft frame) told own answer need caused = offline frame own answer need caused
   answer-deeds (commands.Unpoison frame) told own answer need caused = none view who _ caused.0
   answer-deeds command told own (answers.Sigbus at) need caused = either command told at need caused
+  answer-deeds command told own answers.GuestBad need caused = none view who _ caused.0
+  answer-deeds command told own answers.GuestStopped need caused = none view who _ caused.0
   answer-deeds command told own answer need caused = table-deeds command answer need caused
 
   pub are-deeds : (command : Command) (row : Row) → IsAnswerCaused layout earlier view who command row.told row.own row.answer → IsAccounted layout earlier view who command row → Are command row.answer

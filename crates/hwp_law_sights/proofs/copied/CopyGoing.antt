@@ -36,6 +36,8 @@ copy-goes layout view store page sub runs rest told (answers.Sigbus at) (going, 
 copy-goes layout view store page sub runs rest told answers.NoFrame (going, is) = inr (saw-going layout view store going)
 copy-goes layout view store page sub runs rest told (answers.Gone ended) is = inl tt
 copy-goes layout view store page sub runs rest told answers.Stopped is = inl tt
+copy-goes layout view store page sub runs rest told answers.GuestBad (going, begun, is) = inr (saw-going layout view store going)
+copy-goes layout view store page sub runs rest told answers.GuestStopped (going, begun, is) = inr (saw-going layout view store going)
 copy-goes layout view store page sub runs rest told _ is = absurd is
 
 pub copy-gone : (layout : Layout) (view : View) (store : Request) (page : Page) (sub : Sub) (runs : List Run) (rest : List Made) (told : List EventOutcome) (ended : Page) → IsCopyEnded layout view store page sub runs rest told (answers.Gone ended) → FoundGone layout view store.who store.thread ended

@@ -65,6 +65,8 @@ module _ (script : Script) (copies : Who → Option VSlot) (seat : Cpu → ℕ) 
   copy-shown thread from to line word before told_ (answers.Gone ended) some at caused =
       gone-shown script turns (view_of last (seat who.cpu)) said who [] (commands.Store thread to line word) thread ended at refl (copy-gone script.layout (view_of last (seat who.cpu)) (store_by who thread to line word caused.page caused.process) caused.has.page (sub_next (store_by who thread to line word caused.page caused.process) from word caused.has.runs) caused.has.runs caused.has.rest told_ ended caused.ended)
   copy-shown thread from to line word before told_ answers.Stopped some at caused = stopped-shown script.layout turns (view_of last (seat who.cpu)) said who caused.ended.stopped
+  copy-shown thread from to line word before told_ answers.GuestBad some at caused = tt
+  copy-shown thread from to line word before told_ answers.GuestStopped some at caused = tt
   copy-shown thread from to line word before told_ _ some at caused = absurd caused.ended
 
   -- the answer of any command

@@ -97,6 +97,11 @@ module _ (layout : Layout) (earlier : List (Command × Answer)) (view : View) (w
   either-going command told at is (inl caused) = table-going command (answers.Sigbus at) is caused
   either-going command told at is (inr was) = inr (signalled-going command told at (access_of command) refl is was)
 
+  -- an access that its guest didn't admit
+  denied-going : (command : Command) (o : Option Access) → access_of command ≡ o → IsProcess command → IsSomeAnd o (λ (a : Access). SawProcess layout view who a.thread 0) → Saw view who (places.Process process) 0
+  denied-going command None access is saw = absurd saw
+  denied-going command (Some a) access is saw = saw-process a.thread 0 (sym (ap (option_and_then (process_of_thread layout)) (access-thread command a access)) ∙ is) saw
+
   going : (command : Command) (told : List EventOutcome) (own : Option FrameChange) (answer : Answer) → IsProcess command → IsAnswerCaused layout earlier view who command told own answer → IsOver answer ⊎ Saw view who (places.Process process) 0
   going command told own answers.Stopped is caused = inl tt
   going (commands.RaiseUser thread ripv eipv) told own (answers.Raised n) is caused = inr (saw-process thread 0 is caused.0)
@@ -107,6 +112,8 @@ module _ (layout : Layout) (earlier : List (Command × Answer)) (view : View) (w
   going (commands.Soft frame) told own answer is caused = absurd (none-some process is)
   going (commands.Unpoison frame) told own answer is caused = absurd (none-some process is)
   going command told own (answers.Sigbus at) is caused = either-going command told at is caused
+  going command told own answers.GuestBad is caused = inr (denied-going command (access_of command) refl is caused.1)
+  going command told own answers.GuestStopped is caused = inr (denied-going command (access_of command) refl is caused.1)
   going command told own answer is caused = table-going command answer is caused
 
   -- a command that was answered that the process had ended saw its word

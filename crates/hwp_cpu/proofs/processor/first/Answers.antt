@@ -1,7 +1,7 @@
 use Rattle.std.proofs.Common.{◌≡◌, ◌<◌, length, Some, ap, sym, ◌∙◌, ltb-true}
 use Rattle.std.specs.Prelude.{slice_get}
 use Rattle.std.proofs.lemmas.Option.{slice_get-get_or}
-use Rattle.hwp_cpu.proofs.ActingFits.{begins-copies, begins-fits}
+use Rattle.hwp_cpu.proofs.ActingFits.{begins-copies, begins-denied, begins-fits}
 use Rattle.hwp_cpu.proofs.processor.first.Goals as goal
 
 pub new-requires-clause-of : goal.new-requires-clause-of
@@ -15,3 +15,6 @@ new-requires-clause-copies c =
     let within : 0 < length c.args.commands.now = ltb-true 0 (length c.args.commands.now) (sym c.in-Some.ensures.lookup.0) in
     let there : slice_get c.args.commands.now 0 ≡ Some c.in-Some.command.now = slice_get-get_or c.args.commands.now 0 c.in-Some.command.now within ∙ ap Some (sym c.in-Some.ensures.lookup.1) in
     begins-copies c.args.layout.now c.args.cpu c.args.commands.now c.args.local.now.cows 0 c.in-Some.command.now c.acting-acting.result c.copied_from-copies.result c.requires.commands there c.acting-acting.ensures c.copied_from-copies.ensures
+
+pub new-requires-clause-denied : goal.new-requires-clause-denied
+new-requires-clause-denied c = begins-denied c.args.layout.now c.args.local.now.cows c.args.local.now.guests c.in-Some.command.now c.acting-acting.result c.denied-denied.result c.acting-acting.ensures c.denied-denied.ensures

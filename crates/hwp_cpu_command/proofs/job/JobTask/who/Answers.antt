@@ -42,3 +42,6 @@ returns-in-Copying-clause-law c = lawful
 
 pub returns-in-Fork-clause-law : goal.returns-in-Fork-clause-law
 returns-in-Fork-clause-law c = lawful
+
+pub returns-in-Denied-clause-law : goal.returns-in-Denied-clause-law
+returns-in-Denied-clause-law c = lawful
