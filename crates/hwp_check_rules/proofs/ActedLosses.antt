@@ -115,6 +115,15 @@ module _ (script : Script) (report : Report) where
       by None is = absurd (none-some made (sym (at cpu ∙ ap (option_map (acted-list cpu)) is) ∙ there))
       by (Some list) is = (list, is, same_Some _ _ (sym (at cpu ∙ ap (option_map (acted-list cpu)) is) ∙ there))
 
+  -- the list that was acted on in place of one of the script, which is as long
+  acting-many : (layout : Layout) (earlier : Pairs) (list : List Command) (given : List Answer) → length (acting_from layout earlier list given) ≡ length list
+  acting-many layout earlier [] given = refl
+  acting-many layout earlier (c ∷ cs) [] = ap suc (acting-many layout earlier cs [])
+  acting-many layout earlier (c ∷ cs) (a ∷ given) = ap suc (acting-many layout (earlier ++ (c, a) ∷ []) cs given)
+
+  pub acted-there : (cpu : ℕ) (list : List Command) → slice_get script.lists cpu ≡ Some list → (made : List Command) × (slice_get (acting_script script report).lists cpu ≡ Some made) × (length made ≡ length list)
+  acted-there cpu list there = (acted-list cpu list, at cpu ∙ ap (option_map (acted-list cpu)) there, acting-many script.layout [] list (answers_in (rows-of cpu)))
+
   -- the answers are those of the rows
   given-is : (cpu : ℕ) (list : List Command) (rows : List CpuLine) → slice_get report.cpus cpu ≡ Some rows → answers_to list (rows-of cpu) ≡ answers_to list rows
   given-is cpu list rows is = ap (λ (o : Option (List CpuLine)). answers_to list (unwrap_or o [])) is

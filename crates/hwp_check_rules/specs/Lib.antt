@@ -5,6 +5,7 @@ pub mod Rules
 pub mod Faults
 pub mod MarkFaults
 pub mod AnswerFaults
+pub mod GuestFaults
 pub mod Verdicts
 pub mod Pasts
 pub use Rattle.hwp_law.specs.hwp_banks as hwp_banks

@@ -17,7 +17,7 @@ pub use hwp_check_events::{
 };
 pub use hwp_law::{
     Acted, Answer, At, Code, Command, Cpu, CpuLine, Entry, EventLine, FileNo, Frame, FrameLine,
-    How, Layout, Line, List, MarkLine, Mask, McgBits, Met, Mode, OfflineResult, OfflinedLine,
+    GuestLine, How, Layout, Line, List, MarkLine, Mask, McgBits, Met, Mode, OfflineResult, OfflinedLine,
     OutOfMemory, Outcome, Page, PageKind, PageState, Policy, PrctlArgs, Proc, ReadScript, Reply,
     Report, Script, Seen, Signal, Situation, Stop, StopCause, Text, Thread, VSlot, Version, What,
     Whereabouts, Who, is_text, prctl, read, words_in,

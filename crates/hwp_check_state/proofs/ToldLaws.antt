@@ -292,7 +292,7 @@ module _ (script : Script) (report : Report) (room : (file : FileNo) → losses_
     walk-first n (c ∷ cs) [] numbers found caused left pairs end are first = absurd caused
     walk-first n (c ∷ cs) (lines.Event event ∷ rows) numbers found caused left pairs end are first = walk-first n (c ∷ cs) rows numbers found caused.1 left pairs end are first
     walk-first n (c ∷ cs) (lines.Offlined offlined ∷ rows) numbers found caused left pairs end are first = walk-first n (c ∷ cs) rows numbers found caused.2 left pairs end are first
-    walk-first n (c ∷ cs) (lines.Guest guest ∷ rows) numbers found caused left pairs end are first = absurd caused
+    walk-first n (c ∷ cs) (lines.Guest guest ∷ rows) numbers found caused left pairs end are first = walk-first n (c ∷ cs) rows numbers found caused.2 left pairs end are first
     walk-first n (c ∷ cs) (lines.Answer s a ∷ rows) numbers found caused left pairs end are first =
         subst (IsFirst (IsWrongIn (length full))) (sym here)
         (walk-first (n + 1) cs rows (raised_by numbers (told_by c a)) (soonest found (fault_by script report (who n) numbers (told_by c a))) caused.3
