@@ -4,8 +4,8 @@ ghost use Rattle.hwp_banks.specs.declared.Origin.TheVariants.{Access};
 ghost use Rattle.hwp_law.specs.Events.{access_lines};
 ghost use Rattle.hwp_law.specs.Lines.{answer_of};
 ghost use Rattle.hwp_law.specs.Pairings.{entries_of};
-ghost use Rattle.hwp_check_event_line.specs.Firsts.{IsScanned, shown_lines};
-ghost use Rattle.hwp_check_event_line.specs.Found.{of_access};
+ghost use Rattle.hwp_check_scrub.specs.hwp_check_event_line.Firsts.{IsScanned, shown_lines};
+ghost use Rattle.hwp_check_scrub.specs.hwp_check_event_line.Found.{of_access};
 ghost use Rattle.hwp_check_acting.specs.ActedOn.{copies_in};
 ghost use Rattle.hwp_check_events.specs.Copied.{copied_by};
 ghost use Rattle.hwp_check_events.specs.Judged.{IsAccessJudged, IsJudged, IsScrubJudged, IsTable};
@@ -15,8 +15,7 @@ use crate::faults::{access_faults, any, raise_faults};
 use crate::known::{Checks, Known};
 use hwp_banks::{Bank, Event, Origin, Status};
 use hwp_check_acting::copy_of;
-use hwp_check_event_line::{Faults, Shown, Traced};
-use hwp_check_scrub::scrub_faults;
+use hwp_check_scrub::{Faults, Shown, Traced, scrub_faults};
 use hwp_law::{Answer, Arrival, Command, Frame, Line, List, McgBits, Mode, Script, VSlot, Who};
 
 /// How the machine checks of a command arrive.

@@ -7,9 +7,9 @@ use Rattle.std.specs.FinSet as set
 use Rattle.std.specs.Ordering.{nat_cmp}
 use Rattle.std.specs.Cmp.{nat_cmp_total, unsigned_tied}
 use Rattle.std.proofs.lemmas.Bool.{cases_eq, eq-eqb, ne_eqb}
-use Rattle.hwp_guest.specs.declared.Admit.{Admit}
-use Rattle.hwp_guest.specs.declared.Admit.TheVariants as admissions
-use Rattle.hwp_guest.specs.GuestState.{GuestState, admitted, after}
+use Rattle.hwp_check_rules.specs.hwp_guest.declared.Admit.{Admit}
+use Rattle.hwp_check_rules.specs.hwp_guest.declared.Admit.TheVariants as admissions
+use Rattle.hwp_check_rules.specs.hwp_guest.GuestState.{GuestState, admitted, after}
 use Rattle.hwp_check_rules.specs.hwp_geom.declared.Layout.{Layout}
 use Rattle.hwp_check_rules.specs.hwp_geom.declared.Mode.{Mode}
 use Rattle.hwp_check_rules.specs.hwp_geom.declared.Mode.TheVariants as modes

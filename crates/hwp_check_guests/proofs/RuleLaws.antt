@@ -24,7 +24,7 @@ use Rattle.hwp_check_rules.specs.hwp_law_commands.Guests.{GuestAccess, denial, d
 use Rattle.hwp_check_rules.specs.Firsts.{IsLeast}
 use Rattle.hwp_check_rules.specs.GuestFaults.{IsAdmitted, IsGuestFault, IsGuestLacking, IsGuestWrong, IsMisadmitted}
 use Rattle.hwp_check_rules.specs.Standing.{cpu_height, cpu_line, last_line, row_line}
-use Rattle.hwp_guest.specs.GuestState.{admitted}
+use Rattle.hwp_check_rules.specs.hwp_guest.GuestState.{admitted}
 use Rattle.hwp_check_guests.specs.Accesses.{has_guests}
 use Rattle.hwp_check_guests.specs.Busy.{busy_by}
 use Rattle.hwp_check_guests.specs.Judging.{AreEnough, AreRight, HasNoFault, HasNoFaultOn, IsFirstIn, IsFirstLacking, IsFirstOn, IsFirstWrong, IsKnown, IsMisadmittedBy, IsWrongBy}

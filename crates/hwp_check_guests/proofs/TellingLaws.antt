@@ -14,7 +14,7 @@ use Rattle.hwp_check_rules.specs.hwp_report_text.declared.CpuLine.TheVariants as
 use Rattle.hwp_check_rules.specs.hwp_report_text.declared.GuestLine.{GuestLine}
 use Rattle.hwp_check_rules.specs.hwp_law.Lines.{guests_among}
 use Rattle.hwp_check_rules.specs.hwp_law_commands.Guests.{GuestAccess, guest_line, guest_lines, stops}
-use Rattle.hwp_guest.specs.Guests.{outcome, outcome_row}
+use Rattle.hwp_check_rules.specs.hwp_guest.Guests.{outcome, outcome_row}
 use Rattle.hwp_check_guests.specs.Accesses.{access_in}
 use Rattle.hwp_check_guests.specs.Telling.{due_by, has_event, has_outcome, is_guest_of, is_line, is_told}
 use Rattle.hwp_check_guests.specs.declared.accesses.GuestAccess.{GuestAccess as Found}

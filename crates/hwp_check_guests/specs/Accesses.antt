@@ -1,7 +1,7 @@
 -- Accesses by threads of guests.
 use Rattle.std.specs.Prelude.{ℕ, Bool, Option, Some, None, option_and_then, if◌then◌else◌}
 use Rattle.std.specs.List.{list_any}
-use Rattle.hwp_guest.specs.declared.Access.{Access}
+use Rattle.hwp_check_rules.specs.hwp_guest.declared.Access.{Access}
 use Rattle.hwp_check_rules.specs.hwp_geom.Layout.{is_guest}
 use Rattle.hwp_check_rules.specs.hwp_geom.declared.Layout.{Layout}
 use Rattle.hwp_check_rules.specs.hwp_geom.declared.Mode.{Mode}

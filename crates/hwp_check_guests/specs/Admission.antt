@@ -1,8 +1,8 @@
 -- Whether a guest admits an access, by the earlier commands of its processor with their answers.
 use Rattle.std.specs.Prelude.{ℕ, ◌==◌, ◌&&◌, Bool, false, List, Option, None}
 use Rattle.std.specs.Option.{option_map_or}
-use Rattle.hwp_guest.specs.declared.Admit.{Admit}
-use Rattle.hwp_guest.specs.GuestState.{admitted}
+use Rattle.hwp_check_rules.specs.hwp_guest.declared.Admit.{Admit}
+use Rattle.hwp_check_rules.specs.hwp_guest.GuestState.{admitted}
 use Rattle.hwp_check_rules.specs.hwp_geom.declared.Layout.{Layout}
 use Rattle.hwp_check_rules.specs.hwp_geom.declared.Mode.{Mode}
 use Rattle.hwp_check_rules.specs.hwp_geom.declared.Mode.TheVariants as modes

@@ -1,7 +1,7 @@
 -- Guests' lines: of which accesses a guest has to be told, and which line is that of one.
 use Rattle.std.specs.Prelude.{ℕ, ◌==◌, ◌&&◌, Bool, false, not, Option, None}
 use Rattle.std.specs.Option.{option_map_or}
-use Rattle.hwp_guest.specs.Guests.{guest_frame, origin_of}
+use Rattle.hwp_check_rules.specs.hwp_guest.Guests.{guest_frame, origin_of}
 use Rattle.hwp_check_rules.specs.hwp_geom.declared.Layout.{Layout}
 use Rattle.hwp_check_rules.specs.hwp_geom.declared.Mode.{Mode}
 use Rattle.hwp_check_rules.specs.hwp_geom.declared.Mode.TheVariants as modes

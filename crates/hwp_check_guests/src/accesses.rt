@@ -2,8 +2,7 @@ ghost use Rattle.std.specs.Prelude.{◌≡◌, option_map};
 ghost use Rattle.hwp_check_rules.specs.hwp_law_commands.Guests.{guest_access};
 ghost use Rattle.hwp_check_guests.specs.Accesses.{access_by, access_in, has_guests};
 
-use hwp_check_rules::{Command, Layout, Line, Mode, Proc, Thread, VSlot};
-use hwp_guest::Access;
+use hwp_check_rules::{Access, Command, Layout, Line, Mode, Proc, Thread, VSlot};
 
 /// An access by a thread of a guest (this project's rule).
 #[derive(Clone, Copy)]
@@ -55,9 +54,13 @@ pub(crate) fn guest_access(layout: &Layout, command: &Command) -> Option<GuestAc
     ensures { option_map access_in result ≡ guest_access layout.now command.now }
 {
     match *command {
-        Command::Load { thread, slot, line } | Command::Store { thread, slot, line, .. } => {
-            access_by(layout, thread, slot, line, Access::Plain, Mode::User)
-        }
+        Command::Load { thread, slot, line }
+        | Command::Store {
+            thread,
+            slot,
+            line,
+            ..
+        } => { access_by(layout, thread, slot, line, Access::Plain, Mode::User) }
         Command::Fetch { thread, slot, line } => {
             access_by(layout, thread, slot, line, Access::Fetch, Mode::User)
         }

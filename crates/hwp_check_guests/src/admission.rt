@@ -5,8 +5,7 @@ ghost use Rattle.hwp_check_guests.specs.Accesses.{access_in};
 ghost use Rattle.hwp_check_guests.specs.Admission.{admission_of, is_spoil, is_spoil_by, is_stop, is_stop_by, met_by};
 
 use crate::accesses::{GuestAccess, guest_access};
-use hwp_check_rules::{Answer, Command, Layout, Mode, Proc, VSlot};
-use hwp_guest::Admit;
+use hwp_check_rules::{Admit, Answer, Command, Layout, Mode, Proc, VSlot};
 
 /// The access of a command with this answer, where it was one of a guest that met a bad line.
 fn met_by(layout: &Layout, pair: &(Command, Answer)) -> Option<GuestAccess>
@@ -92,11 +91,7 @@ fn admission_of(layout: &Layout, earlier: &[(Command, Answer)], access: &GuestAc
 
 /// The same of the access of a command; one of no guest is admitted.
 #[tactic(auto, using(crate::proofs::AdmissionLaws::no_access, crate::proofs::AdmissionLaws::by_access))]
-pub(crate) fn admission(
-    layout: &Layout,
-    earlier: &[(Command, Answer)],
-    command: &Command,
-) -> Admit
+pub(crate) fn admission(layout: &Layout, earlier: &[(Command, Answer)], command: &Command) -> Admit
     ensures { denial result ≡ denied layout.now earlier.now command.now }
 {
     match guest_access(layout, command) {

@@ -5,8 +5,7 @@ ghost use Rattle.hwp_check_guests.specs.Judging.{AreEnough, AreRight, IsFirstLac
 
 use crate::admission::admission;
 use crate::telling::{has_guest, is_due, is_told};
-use hwp_check_rules::{Answer, Command, CpuLine, GuestLine, Layout};
-use hwp_guest::Admit;
+use hwp_check_rules::{Admit, Answer, Command, CpuLine, GuestLine, Layout};
 
 /// Whether the answer is one by which a guest doesn't admit an access.
 fn says_denied(answer: Answer) -> bool
@@ -90,13 +89,7 @@ fn answer_by(seq: u32, row: &CpuLine) -> Option<Answer>
         CpuLine::Answer {
             seq: number,
             answer,
-        } => {
-            if number == seq {
-                Some(answer)
-            } else {
-                None
-            }
-        }
+        } => { if number == seq { Some(answer) } else { None } }
         _ => None,
     }
 }
@@ -167,15 +160,7 @@ pub(crate) fn first_wrong(
     ensures { MatchOption result (AreRight layout.now commands.now rows.now pairs.now flags.now (length rows.now)) (IsFirstWrong layout.now commands.now rows.now pairs.now flags.now) }
 {
     for number in 0..rows.len() {
-        if is_wrong(
-            layout,
-            commands,
-            rows,
-            pairs,
-            flags,
-            number,
-            &rows[number],
-        ) {
+        if is_wrong(layout, commands, rows, pairs, flags, number, &rows[number]) {
             return Some(number);
         }
     }

@@ -1,4 +1,4 @@
-use Rattle.hwp_check_event_line.specs.Firsts.{shown_lines}
+use Rattle.hwp_check_scrub.specs.hwp_check_event_line.Firsts.{shown_lines}
 use Rattle.hwp_check_events.proofs.JudgeLaws.{accessed-judged, scrubbed-judged, store-judged}
 use Rattle.hwp_check_events.proofs.judge.command_faults.Goals as goal
 use Rattle.hwp_check_events.proofs.judge.command_faults.Goals.{in-Load, in-Load-2}

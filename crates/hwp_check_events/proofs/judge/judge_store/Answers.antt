@@ -2,7 +2,7 @@ use Rattle.std.proofs.Common.{Option, cond, is_some, sym, ◌∙◌, subst}
 use Rattle.hwp_banks.specs.hwp_geom.declared.VSlot.{VSlot}
 use Rattle.hwp_banks.specs.declared.Origin.TheVariants as origins
 use Rattle.hwp_law.specs.Events.{access_lines}
-use Rattle.hwp_check_event_line.specs.Firsts.{shown_lines}
+use Rattle.hwp_check_scrub.specs.hwp_check_event_line.Firsts.{shown_lines}
 use Rattle.hwp_check_events.specs.Judged.{IsAccessJudged}
 use Rattle.hwp_check_events.proofs.judge.judge_store.Goals as goal
 
