@@ -50,7 +50,7 @@ in-order-from script report cpu n [] (row ∷ rest) are = absurd are
 in-order-from script report cpu n (c ∷ cs) [] are = absurd are
 in-order-from script report cpu n (c ∷ cs) (lines.Event event ∷ rest) are = in-order-from script report cpu n (c ∷ cs) rest are.1
 in-order-from script report cpu n (c ∷ cs) (lines.Offlined line ∷ rest) are = in-order-from script report cpu n (c ∷ cs) rest are.2
-in-order-from script report cpu n (c ∷ cs) (lines.Guest line ∷ rest) are = absurd are
+in-order-from script report cpu n (c ∷ cs) (lines.Guest line ∷ rest) are = in-order-from script report cpu n (c ∷ cs) rest are.2
 in-order-from script report cpu n (c ∷ cs) (lines.Answer seq answer ∷ rest) are =
     let same : seq ≡ n = are.0 in
     ap (λ (o : Option Answer). unwrap_or o answers.Stopped ∷ answers_from (answer_among (lines.Answer seq answer ∷ rest)) (n + 1) (length cs)) (own-answer seq answer rest n (sym same))
