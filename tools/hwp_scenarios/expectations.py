@@ -72,6 +72,11 @@ def _events(outcome: Outcome, numbers: Sequence[int]) -> list[Words]:
     return [words[2:] for words in _cpu_lines(outcome, numbers) if words[1] == "event"]
 
 
+def _guests(outcome: Outcome, numbers: Sequence[int]) -> list[Words]:
+    """The machine check of a guest beside a command's answer."""
+    return [words[2:] for words in _cpu_lines(outcome, numbers) if words[1] == "guest"]
+
+
 def _offlined(outcome: Outcome, numbers: Sequence[int]) -> list[Words]:
     """What came of a frame that a command took out of use beside its answer."""
     cpu, command, frame = numbers
@@ -147,6 +152,7 @@ FORMS = (
     Form("C S is ANSWER", _answer, False),
     Form("C S event EVENT", _events, False),
     Form("C S offlined F RESULT", _offlined, False),
+    Form("C S guest EVENT", _guests, False),
     Form("C S signals SIGNAL", _sent, False),
     Form("C S poisons F MARK", _poisons, False),
     Form("C S unpoisons F", _unpoisons, False),

@@ -23,8 +23,9 @@ RULES = {
     "`fail` line, whichever of its lines is wrong.",
     3: "Each command must have exactly one answer, in order, and answers, event lines and `offlined` lines must have their causes in "
     "the report. The `offlined` lines of a command must be those that its processor's collector asks for, in their order. A load through a "
-    "translation that a fork froze must give the word that a full copy at the fork would hold. The line named is the answer, the event "
-    "or the `offlined` line; the `cpu` line if one is missing.",
+    "translation that a fork froze must give the word that a full copy at the fork would hold. An access that a guest doesn't admit must be "
+    "answered so, and do nothing, and a guest must be told of each of its accesses that is answered `sigbus`, right before that answer. The line "
+    "named is the answer, the event, the `offlined` or the `guest` line; the `cpu` line if one is missing.",
     4: "Each policy that a failure saw must be that of the thread after as many settings as the line says; of a thread of the "
     "failing processor these are the settings done before, and along one processor the number of a thread's settings never "
     "falls. The line named is the `seen` line.",

@@ -128,7 +128,7 @@ REPORTS = [
     ("end\n", "end", 14),
     ("end\n", "end\n\n", 15),
 ]
-# Lines that may stand beside the answers of a processor, and answers of a guest. No run has those of guests yet.
+# Lines that may stand beside the answers of a processor, and answers of a guest.
 BESIDE = """cpu 0 11
 0 event 2 9c000000000000c0 40 86 S4 keep
 0 offlined 0 moved 1 0 3

@@ -1,7 +1,8 @@
 mod InOrder
 mod ActedVerdicts
 mod ActedWhole
-mod PrivateJoin
+mod GuestJoin
+mod AnswerJoin
 mod PartLaws
 mod LineCounts
 mod JudgeLaws

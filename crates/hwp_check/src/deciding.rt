@@ -8,6 +8,7 @@ ghost use Rattle.hwp_check.specs.Acting.{IsActedOn};
 use crate::early::early_verdict;
 use crate::late::late_verdict;
 use hwp_check_answers::answers_fault;
+use hwp_check_guests::guests_fault;
 use hwp_check_private::private_fault;
 use hwp_check_rules::{
     List, OutOfMemory, Rule, Script, VSlot, Verdict, acted_on, has_fork, soonest,
@@ -15,8 +16,9 @@ use hwp_check_rules::{
 use hwp_report::Report;
 use std::alloc::Global;
 
-/// The first line that breaks the rule of answers: one of those that the script acted on asks for, or one by a word that isn't private.
-#[tactic(auto, using(crate::proofs::ActedVerdicts::shape_held, crate::proofs::ActedVerdicts::histories_held, crate::proofs::ActedVerdicts::answers_to_law, crate::proofs::PrivateJoin::answers_joined, crate::proofs::ActedWhole::valid_is_declared))]
+/// The first line that breaks the rule of answers: one of those that the script acted on asks for, one by a word that isn't private, or
+/// one by what guests were told.
+#[tactic(auto, using(crate::proofs::ActedVerdicts::shape_held, crate::proofs::ActedVerdicts::histories_held, crate::proofs::ActedVerdicts::answers_to_law, crate::proofs::AnswerJoin::answers_joined, crate::proofs::ActedWhole::valid_is_declared))]
 fn answers_line(
     alloc: Global,
     script: &Script,
@@ -31,8 +33,9 @@ fn answers_line(
     ensures { IfOk result (λ found. MatchOption found (Holds Answers script.now report.now) (IsBroken Answers script.now report.now)) }
 {
     let line = answers_fault(alloc, acted, copies, report)?;
-    let other = private_fault(alloc, script, report)?;
-    Ok(soonest(line, other))
+    let private = private_fault(alloc, script, report)?;
+    let guests = guests_fault(alloc, script, report)?;
+    Ok(soonest(soonest(line, private), guests))
 }
 
 /// The verdict by the script that the processors acted on.

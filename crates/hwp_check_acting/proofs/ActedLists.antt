@@ -15,9 +15,9 @@ use Rattle.hwp_law.specs.hwp_report_text.declared.Report.{Report}
 use Rattle.hwp_law.specs.hwp_script_read.declared.Command.{Command}
 use Rattle.hwp_law.specs.hwp_script_read.declared.Script.{Script}
 use Rattle.hwp_law.specs.Acting.{acting_from, acting_lists, acting_script, copied_at}
-use Rattle.hwp_law.specs.Lines.{answered, answers_in}
+use Rattle.hwp_law.specs.Lines.{answered, answers_to}
 use Rattle.hwp_law.specs.Policies.{answered_before}
-use Rattle.hwp_law.proofs.ActedLaws.{acted-at}
+use Rattle.hwp_law.proofs.ActedLaws.{acted-at, acting-length}
 use Rattle.hwp_check_acting.specs.ActedOn.{AreActed, AreCopied, IsActedOn, copies_in}
 
 -- ---- what stands at a place of a list that grows
@@ -63,11 +63,6 @@ next-copied layout pairs commands n list c new are there is = record {
         ∙ ap (λ (k : ℕ). option_and_then (copied_from layout (take k pairs)) (slice_get commands k)) (sym same)
   ];
 }
-
-acting-length : (layout : Layout) (earlier : List (Command × Answer)) (commands : List Command) (given : List Answer) → length (acting_from layout earlier commands given) ≡ length commands
-acting-length layout earlier [] given = refl
-acting-length layout earlier (c ∷ cs) [] = ap suc (acting-length layout earlier cs [])
-acting-length layout earlier (c ∷ cs) (a ∷ given) = ap suc (acting-length layout (earlier ++ (c, a) ∷ []) cs given)
 
 -- equal at each place
 pub same-list : {X : Type 0} (d : X) (xs ys : List X) → length xs ≡ length ys → ((i : ℕ) → i < length xs → slice_get xs i ≡ slice_get ys i) → xs ≡ ys
@@ -116,11 +111,11 @@ module _ (script : Script) (report : Report) where
       here : (cpu : ℕ) (cs : List Command) → cpu ≡ n → slice_get script.lists cpu ≡ Some cs → commands ≡ cs
       here cpu cs same there = same_Some _ _ (sym of_script ∙ ap (slice_get script.lists) (sym same) ∙ there)
 
-      last-list : (cpu : ℕ) (cs : List Command) → cpu ≡ n → slice_get script.lists cpu ≡ Some cs → slice_get (lists ++ list ∷ []) cpu ≡ Some (acting_from script.layout [] cs (answers_in (rows-of cpu)))
+      last-list : (cpu : ℕ) (cs : List Command) → cpu ≡ n → slice_get script.lists cpu ≡ Some cs → slice_get (lists ++ list ∷ []) cpu ≡ Some (acting_from script.layout [] cs (answers_to cs (rows-of cpu)))
       last-list cpu cs same there =
-          at-end lists list cpu (same ∙ sym are.many) ∙ ap Some (same-acted script.layout pairs commands list (answers_in (rows-of n)) pairs_are acted)
-          ∙ ap (λ (k : ℕ). Some (acting_from script.layout [] commands (answers_in (rows-of k)))) (sym same)
-          ∙ ap (λ (l : List Command). Some (acting_from script.layout [] l (answers_in (rows-of cpu)))) (here cpu cs same there)
+          at-end lists list cpu (same ∙ sym are.many) ∙ ap Some (same-acted script.layout pairs commands list (answers_to commands (rows-of n)) pairs_are acted)
+          ∙ ap (λ (k : ℕ). Some (acting_from script.layout [] commands (answers_to commands (rows-of k)))) (sym same)
+          ∙ ap (λ (l : List Command). Some (acting_from script.layout [] l (answers_to l (rows-of cpu)))) (here cpu cs same there)
 
       past : (i : ℕ) → length commands ≤ i → get_or own i None ≡ option_and_then (copied_from script.layout (take i pairs)) (slice_get commands i)
       past i high =
@@ -146,7 +141,7 @@ module _ (script : Script) (report : Report) where
   lists-length cpu (l ∷ ls) = ap suc (lists-length (cpu + 1) ls)
 
   abbrev acted : ℕ → List Command → List Command
-  acted cpu list = acting_from script.layout [] list (answers_in (rows-of cpu))
+  acted cpu list = acting_from script.layout [] list (answers_to list (rows-of cpu))
 
   lists-at : (n : ℕ) (lists : List (List Command)) (k : ℕ) → slice_get (acting_lists script.layout report.cpus n lists) k ≡ option_map (acted (n + k)) (slice_get lists k)
   lists-at n [] k = refl

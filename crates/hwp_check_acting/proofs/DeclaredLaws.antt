@@ -19,7 +19,8 @@ use Rattle.hwp_law.specs.hwp_script_read.declared.Command.{Command}
 use Rattle.hwp_law.specs.hwp_script_read.declared.Command.TheVariants as commands
 use Rattle.hwp_law.specs.hwp_script_read.declared.Script.{Script}
 use Rattle.hwp_law.specs.Acting.{acting_from, acting_lists, acting_script}
-use Rattle.hwp_law.specs.Lines.{answers_in}
+use Rattle.hwp_law.specs.Lines.{answers_to}
+use Rattle.hwp_law.proofs.ActedLaws.{acting-length}
 use Rattle.hwp_check_acting.specs.Scripts.{IsDeclared}
 use Rattle.hwp_law.specs.hwp_geom.Limits.{command_limit}
 
@@ -91,14 +92,9 @@ module _ (layout : Layout) (twins : AreTwinsFit layout) where
 
   lists-declared : (cpus : List (List CpuLine)) (n cpu : ℕ) (lists : List (List Command)) → AreLists layout cpu lists → AreLists layout cpu (acting_lists layout cpus n lists)
   lists-declared cpus n cpu [] all = record {}
-  lists-declared cpus n cpu (l ∷ ls) all = (list-declared cpu [] l (answers_in (unwrap_or (slice_get cpus n) [])) all.0, lists-declared cpus (n + 1) (cpu + 1) ls all.1)
+  lists-declared cpus n cpu (l ∷ ls) all = (list-declared cpu [] l (answers_to l (unwrap_or (slice_get cpus n) [])) all.0, lists-declared cpus (n + 1) (cpu + 1) ls all.1)
 
 -- as many lists and commands as in the script
-acting-many : (layout : Layout) (earlier : List (Command × Answer)) (list : List Command) (given : List Answer) → length (acting_from layout earlier list given) ≡ length list
-acting-many layout earlier [] given = refl
-acting-many layout earlier (c ∷ cs) [] = ap suc (acting-many layout earlier cs [])
-acting-many layout earlier (c ∷ cs) (a ∷ given) = ap suc (acting-many layout (earlier ++ (c, a) ∷ []) cs given)
-
 lists-many : (layout : Layout) (cpus : List (List CpuLine)) (n : ℕ) (lists : List (List Command)) → length (acting_lists layout cpus n lists) ≡ length lists
 lists-many layout cpus n [] = refl
 lists-many layout cpus n (l ∷ ls) = ap suc (lists-many layout cpus (n + 1) ls)
@@ -109,10 +105,10 @@ long list = length list
 commands-many : (layout : Layout) (cpus : List (List CpuLine)) (n : ℕ) (lists : List (List Command)) → sum_by long (acting_lists layout cpus n lists) ≡ sum_by long lists
 commands-many layout cpus n [] = refl
 commands-many layout cpus n (l ∷ ls) =
-    let one : length (acting_from layout [] l (answers_in (unwrap_or (slice_get cpus n) []))) ≡ length l = acting-many layout [] l (answers_in (unwrap_or (slice_get cpus n) [])) in
+    let one : length (acting_from layout [] l (answers_to l (unwrap_or (slice_get cpus n) []))) ≡ length l = acting-length layout [] l (answers_to l (unwrap_or (slice_get cpus n) [])) in
     let rest : sum_by long (acting_lists layout cpus (n + 1) ls) ≡ sum_by long ls = commands-many layout cpus (n + 1) ls in
-    let both : sum_by long (acting_lists layout cpus n (l ∷ ls)) ≡ length (acting_from layout [] l (answers_in (unwrap_or (slice_get cpus n) []))) + sum_by long (acting_lists layout cpus (n + 1) ls) =
-    sum_by-cons long (acting_from layout [] l (answers_in (unwrap_or (slice_get cpus n) []))) (acting_lists layout cpus (n + 1) ls) in
+    let both : sum_by long (acting_lists layout cpus n (l ∷ ls)) ≡ length (acting_from layout [] l (answers_to l (unwrap_or (slice_get cpus n) []))) + sum_by long (acting_lists layout cpus (n + 1) ls) =
+    sum_by-cons long (acting_from layout [] l (answers_to l (unwrap_or (slice_get cpus n) []))) (acting_lists layout cpus (n + 1) ls) in
     let own : sum_by long (l ∷ ls) ≡ length l + sum_by long ls = sum_by-cons long l ls in
     omega (arith, one, rest, both, own)
 

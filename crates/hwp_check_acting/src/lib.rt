@@ -9,4 +9,4 @@ mod pairs;
 
 pub use acted::{ActedScript, acted_on, copy_of, has_fork};
 pub use cows::freezes_slot;
-pub use pairs::pairs_of;
+pub use pairs::{answers_to, pairs_of};

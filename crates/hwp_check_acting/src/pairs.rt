@@ -1,26 +1,36 @@
-ghost use Rattle.std.specs.Prelude.{◌≡◌, ◌++◌, option_to_list, option_map, IfOk, OnOk};
-ghost use Rattle.hwp_law.specs.Lines.{answer_in, answered, answers_in};
+ghost use Rattle.std.specs.Prelude.{◌≡◌, IfOk, length};
+ghost use Rattle.hwp_law.specs.Lines.{answered, answers_to};
+ghost use Rattle.hwp_check_acting.specs.ActedOn.{noted};
 
 use hwp_law::{Answer, Command, CpuLine, OutOfMemory};
 use std::alloc::Global;
 
-/// Adds a line's answer, where it is one.
-fn add_answer(answers: &mut Vec<Answer>, row: &CpuLine) -> Result<(), OutOfMemory>
-    ensures { OnOk result (answers.new.items ≡ answers.old.items ++ option_to_list (option_map (λ l. l.answer) (answer_in row.now))) }
+/// Notes a line's answer for its command, where the line is one of them.
+fn note(answers: &mut Vec<Answer>, row: &CpuLine)
+    ensures { answers.new.items ≡ noted row.now answers.old.items }
 {
-    if let CpuLine::Answer { answer, .. } = row {
-        answers.push(*answer)?;
+    if let CpuLine::Answer { seq, answer } = row {
+        let place = *seq as usize;
+        if place < answers.len() {
+            answers[place] = *answer;
+        }
     }
-    Ok(())
 }
 
-/// The answers of a processor's lines.
-fn answers_in(alloc: Global, rows: &[CpuLine]) -> Result<Vec<Answer>, OutOfMemory>
-    ensures { IfOk result (λ answers. answers.items ≡ answers_in rows.now) }
+/// The answers of a processor's commands: of each the first with its number among the lines, or `stopped` where there is none. The lines
+/// are read from the last one on, so the first answer counts.
+pub fn answers_to(
+    alloc: Global,
+    commands: &[Command],
+    rows: &[CpuLine],
+) -> Result<Vec<Answer>, OutOfMemory>
+    ensures many { IfOk result (λ answers. length answers.items ≡ length commands.now) }
+    ensures first { IfOk result (λ answers. answers.items ≡ answers_to commands.now rows.now) }
 {
     let mut answers = Vec::new(alloc);
-    for row in rows {
-        add_answer(&mut answers, row)?;
+    answers.resize(commands.len(), Answer::Stopped)?;
+    for back in 0..rows.len() {
+        note(&mut answers, &rows[rows.len() - 1 - back]);
     }
     Ok(answers)
 }
@@ -33,9 +43,9 @@ pub fn pairs_of(
 ) -> Result<Vec<(Command, Answer)>, OutOfMemory>
     ensures { IfOk result (λ pairs. pairs.items ≡ answered commands.now rows.now) }
 {
-    let answers = answers_in(alloc, rows)?;
+    let answers = answers_to(alloc, commands, rows)?;
     let mut pairs = Vec::new(alloc);
-    for number in 0..commands.len().min(answers.len()) {
+    for number in 0..commands.len() {
         pairs.push((commands[number], answers[number]))?;
     }
     Ok(pairs)

@@ -22,22 +22,22 @@ at-same rows n i one other same there is = same_Some _ _ (sym there ∙ ap (slic
 
 -- one line more is in its place
 pub in-place-next : (commands : List Command) (rows : List CpuLine) (n answered : ℕ) (line : CpuLine) → slice_get rows n ≡ Some line
-    → answered ≡ count_by is_answer (take n rows) → IsOfNext answered (length commands) line → FirstInPlace commands rows n → FirstInPlace commands rows (n + 1)
+    → answered ≡ count_by is_answer (take n rows) → IsOfNext answered (length commands) rows n line → FirstInPlace commands rows n → FirstInPlace commands rows (n + 1)
 in-place-next commands rows n answered line here many next before = λ row other less there. elim (below-next n row less) [
   | inl low ↦ before row other low there
   | inr same ↦
       let line_is : line ≡ other = at-same rows n row line other same here there in
-      let place : IsInPlace commands rows n line = record { of_next = next.0 ∙ many; of_some = next.1; of_kind = next.2 } in
+      let place : IsInPlace commands rows n line = record { of_next = next.0 ∙ many; of_some = next.1; well_before = next.2 } in
       subst (λ (k : ℕ). IsInPlace commands rows k other) (sym same) (subst (λ (l : CpuLine). IsInPlace commands rows n l) line_is place)
 ]
 
 -- the first that isn't
 pub first-out-is : (commands : List Command) (rows : List CpuLine) (n answered : ℕ) (line : CpuLine) → slice_get rows n ≡ Some line
-    → answered ≡ count_by is_answer (take n rows) → (IsOfNext answered (length commands) line → ⊥) → FirstInPlace commands rows n → IsFirstOut commands rows n
+    → answered ≡ count_by is_answer (take n rows) → (IsOfNext answered (length commands) rows n line → ⊥) → FirstInPlace commands rows n → IsFirstOut commands rows n
 first-out-is commands rows n answered line here many out before = record {
   line = line;
   there = here;
-  out = λ place. out (place.of_next ∙ sym many, place.of_some, place.of_kind);
+  out = λ place. out (place.of_next ∙ sym many, place.of_some, place.well_before);
   before = before;
 }
 

@@ -3,7 +3,7 @@ pub mod OrderLaws
 mod JudgeLaws
 mod LastLaws
 mod SoFarLaws
-mod NextLaws
+pub mod NextLaws
 mod FactLaws
 mod WalkLaws
 mod SiftLaws
@@ -15,4 +15,3 @@ mod Places
 mod Processors
 mod Reports
 mod OfflinedOrder
-mod AnswerCounts

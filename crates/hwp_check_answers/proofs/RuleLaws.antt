@@ -51,7 +51,7 @@ over answers.Stopped = inl (record {})
 over answer = inr (λ o. o)
 
 -- the answer of a command stands in some line
-answer-line : (rows : List CpuLine) (seq : ℕ) (answer : Answer) → answer_among rows seq ≡ Some answer → (row : ℕ) × (slice_get rows row ≡ Some (lines.Answer seq answer))
+pub answer-line : (rows : List CpuLine) (seq : ℕ) (answer : Answer) → answer_among rows seq ≡ Some answer → (row : ℕ) × (slice_get rows row ≡ Some (lines.Answer seq answer))
 answer-line [] seq answer is = absurd (none-some answer is)
 answer-line (lines.Event event ∷ rs) seq answer is = let r = answer-line rs seq answer is in (suc r.0, r.1)
 answer-line (lines.Offlined offlined ∷ rs) seq answer is = let r = answer-line rs seq answer is in (suc r.0, r.1)

@@ -3,12 +3,12 @@ use Rattle.std.specs.Prelude.{◌≡◌, ℕ, ◌<◌, Bool, true, false, List, 
 use Rattle.hwp_check_evidence.specs.hwp_script_read.declared.Command.{Command}
 use Rattle.hwp_check_evidence.specs.hwp_report_text.declared.CpuLine.{CpuLine}
 use Rattle.hwp_check_evidence.specs.hwp_report_text.declared.CpuLine.TheVariants as lines
-use Rattle.hwp_check_rules.specs.Answered.{HasAnswer, IsInPlace, is_of_command}
+use Rattle.hwp_check_rules.specs.Answered.{HasAnswer, IsInPlace, is_well_before}
 use Rattle.hwp_check_rules.specs.hwp_law.Lines.{seq_of}
 
--- the line is of the command with this number, of so many, and of a kind that commands have
-abbrev pub IsOfNext : ℕ → ℕ → CpuLine → Type 0
-IsOfNext answered commands line = (seq_of line ≡ answered) × (seq_of line < commands) × (is_of_command line ≡ true)
+-- the line in this row is of the command with this number, of so many, and, if it is a guest's, right before an answer
+abbrev pub IsOfNext : ℕ → ℕ → List CpuLine → ℕ → CpuLine → Type 0
+IsOfNext answered commands rows row line = (seq_of line ≡ answered) × (seq_of line < commands) × (is_well_before rows row line ≡ true)
 
 -- each line is in its place
 abbrev pub AreInPlace : List Command → List CpuLine → Type 0

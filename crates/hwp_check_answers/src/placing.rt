@@ -1,5 +1,5 @@
-ghost use Rattle.std.specs.Prelude.{◌≡◌, ◌↔◌, IsTrue, IfOk, MatchOption, Some, false, slice_get};
-ghost use Rattle.hwp_check_rules.specs.Answered.{is_of_command};
+ghost use Rattle.std.specs.Prelude.{◌≡◌, ◌↔◌, IsTrue, IfOk, MatchOption, Some, false, length, slice_get};
+ghost use Rattle.hwp_check_rules.specs.Answered.{answers_next, is_well_before};
 ghost use Rattle.hwp_check_rules.specs.hwp_law.Lines.{seq_of};
 ghost use Rattle.hwp_check_answers.specs.Placing.{AreInPlace, AreSet, HasNone, HaveAnswers, IsFirstOut, IsOfNext, TellAnswers, marked};
 
@@ -18,32 +18,53 @@ fn seq_of(row: &CpuLine) -> u32
     }
 }
 
-/// Whether the line is of a kind that commands have.
-fn is_of_command(row: &CpuLine) -> bool
-    ensures { result ≡ is_of_command row.now }
+/// Whether the row behind one is an answer.
+fn answers_next(rows: &[CpuLine], row: usize) -> bool
+    requires { row < length rows.now }
+    ensures { result ≡ answers_next rows.now row }
 {
-    match row {
-        CpuLine::Event(_) | CpuLine::Offlined(_) | CpuLine::Answer { .. } => true,
-        CpuLine::Guest(_) => false,
+    match rows.get(row + 1) {
+        Some(line) => is_answer(line),
+        None => false,
     }
 }
 
-/// Whether the line is of the command that comes next, where so many were answered, and of a kind that commands have.
-fn is_of_next(answered: usize, commands: usize, row: &CpuLine) -> bool
-    ensures { IsTrue result ↔ IsOfNext answered commands row.now }
+/// Whether the line in a row, if it is a guest's, has an answer behind it.
+fn is_well_before(rows: &[CpuLine], row: usize, line: &CpuLine) -> bool
+    requires { row < length rows.now }
+    ensures { result ≡ is_well_before rows.now row line.now }
 {
-    let seq = seq_of(row) as usize;
-    seq == answered && seq < commands && is_of_command(row)
+    match line {
+        CpuLine::Guest(_) => answers_next(rows, row),
+        CpuLine::Event(_) | CpuLine::Offlined(_) | CpuLine::Answer { .. } => true,
+    }
 }
 
-/// The number of the first line of a processor that is not of the command whose answer comes next.
+/// Whether the line in a row is of the command that comes next, where so many were answered, and, if it is a guest's, right before an
+/// answer.
+fn is_of_next(
+    answered: usize,
+    commands: usize,
+    rows: &[CpuLine],
+    row: usize,
+    line: &CpuLine,
+) -> bool
+    requires { row < length rows.now }
+    ensures { IsTrue result ↔ IsOfNext answered commands rows.now row line.now }
+{
+    let seq = seq_of(line) as usize;
+    seq == answered && seq < commands && is_well_before(rows, row, line)
+}
+
+/// The number of the first line of a processor that is not of the command whose answer comes next, or a guest's line without an answer
+/// right behind it.
 pub(crate) fn first_out(commands: &[Command], rows: &[CpuLine]) -> Option<usize>
     ensures { MatchOption result (AreInPlace commands.now rows.now) (IsFirstOut commands.now rows.now) }
 {
     let mut answered = 0;
     for number in 0..rows.len() {
         let row = &rows[number];
-        if !is_of_next(answered, commands.len(), row) {
+        if !is_of_next(answered, commands.len(), rows, number, row) {
             return Some(number);
         }
         answered += usize::from(is_answer(row));

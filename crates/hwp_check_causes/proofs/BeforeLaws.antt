@@ -11,11 +11,11 @@ use Rattle.hwp_check_evidence.specs.hwp_script_read.declared.Command.{Command}
 use Rattle.hwp_check_evidence.specs.hwp_script_read.declared.Command.TheVariants as commands
 use Rattle.hwp_check_evidence.specs.hwp_report_text.declared.CpuLine.{CpuLine}
 use Rattle.hwp_check_evidence.specs.hwp_law_commands.Settings.{last_policy}
-use Rattle.hwp_check_rules.specs.Pasts.{AreDoneInOrder}
+use Rattle.hwp_check_rules.specs.Pasts.{AreDone}
 use Rattle.hwp_check_rules.proofs.SettingLaws.{settings-flags}
 use Rattle.hwp_check_causes.specs.Befores.{AreBefore, AreBeforeBy, policy_at, policy_of}
 
-pub before_is : (layout : Layout) (list : List Command) (rows : List CpuLine) (flags : List Bool) (policies : List Policy) → length flags ≡ length list → AreDoneInOrder rows flags → AreBeforeBy layout list flags (length list) policies
+pub before_is : (layout : Layout) (list : List Command) (rows : List CpuLine) (flags : List Bool) (policies : List Policy) → length flags ≡ length list → AreDone rows flags → AreBeforeBy layout list flags (length list) policies
     → AreBefore layout list rows policies
 before_is layout list rows flags policies each are before seq thread args small is =
     let within : seq < length list = slice_get_within list seq (commands.Prctl thread args) is in

@@ -70,6 +70,22 @@ caused-plain script report who (commands.Prctl thread args) (answers.Raised n) p
 caused-plain script report who (commands.Inject frame) (answers.Raised n) plain h = absurd h.1
 caused-plain script report who (commands.Soft frame) (answers.Raised n) plain h = absurd h.1
 caused-plain script report who command (answers.Raised n) plain h = absurd h
+caused-plain script report who (commands.Load thread slot line) answers.GuestBad plain h = h
+caused-plain script report who (commands.Fetch thread slot line) answers.GuestBad plain h = h
+caused-plain script report who (commands.KLoad thread slot line) answers.GuestBad plain h = h
+caused-plain script report who (commands.Store thread slot line word) answers.GuestBad plain h = h
+caused-plain script report who (commands.Prctl thread args) answers.GuestBad plain h = absurd (true≢false (sym plain))
+caused-plain script report who (commands.Inject frame) answers.GuestBad plain h = absurd h.1
+caused-plain script report who (commands.Soft frame) answers.GuestBad plain h = absurd h.1
+caused-plain script report who command answers.GuestBad plain h = absurd h
+caused-plain script report who (commands.Load thread slot line) answers.GuestStopped plain h = h
+caused-plain script report who (commands.Fetch thread slot line) answers.GuestStopped plain h = h
+caused-plain script report who (commands.KLoad thread slot line) answers.GuestStopped plain h = h
+caused-plain script report who (commands.Store thread slot line word) answers.GuestStopped plain h = h
+caused-plain script report who (commands.Prctl thread args) answers.GuestStopped plain h = absurd (true≢false (sym plain))
+caused-plain script report who (commands.Inject frame) answers.GuestStopped plain h = absurd h.1
+caused-plain script report who (commands.Soft frame) answers.GuestStopped plain h = absurd h.1
+caused-plain script report who command answers.GuestStopped plain h = absurd h
 caused-plain script report who command answer plain h = absurd (true≢false (sym plain))
 
 pub plain-caused : (script : Script) (report : Report) (who : Who) (command : Command) (answer : Answer) → IsPlain script report who command answer → IsCaused script report who command answer
@@ -102,4 +118,14 @@ plain-caused script report who command (answers.Scrubbed n) h = absurd h
 plain-caused script report who (commands.RaiseUser thread ripv eipv) (answers.Raised n) h = h
 plain-caused script report who (commands.RaiseKernel ripv eipv) (answers.Raised n) h = h
 plain-caused script report who command (answers.Raised n) h = absurd h
+plain-caused script report who (commands.Load thread slot line) answers.GuestBad h = h
+plain-caused script report who (commands.Fetch thread slot line) answers.GuestBad h = h
+plain-caused script report who (commands.KLoad thread slot line) answers.GuestBad h = h
+plain-caused script report who (commands.Store thread slot line word) answers.GuestBad h = h
+plain-caused script report who command answers.GuestBad h = absurd h
+plain-caused script report who (commands.Load thread slot line) answers.GuestStopped h = h
+plain-caused script report who (commands.Fetch thread slot line) answers.GuestStopped h = h
+plain-caused script report who (commands.KLoad thread slot line) answers.GuestStopped h = h
+plain-caused script report who (commands.Store thread slot line word) answers.GuestStopped h = h
+plain-caused script report who command answers.GuestStopped h = absurd h
 plain-caused script report who command answer h = absurd h

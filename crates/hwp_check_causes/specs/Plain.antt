@@ -33,6 +33,8 @@ is_plain command (answers.HasBad mask) = is_other command
 is_plain command (answers.InUse count) = is_other command
 is_plain command (answers.Scrubbed n) = is_other command
 is_plain command (answers.Raised n) = is_other command
+is_plain command answers.GuestBad = is_other command
+is_plain command answers.GuestStopped = is_other command
 is_plain command _ = false
 
 -- an access, or a soft offline of a frame that isn't the kernel's, found no free frame
@@ -90,6 +92,14 @@ AreRaised report who (commands.RaiseUser thread ripv eipv) n = IsEventCount repo
 AreRaised report who (commands.RaiseKernel ripv eipv) n = IsEventCount report who n
 AreRaised report who _ n = ⊥
 
+-- an access, which its guest may not admit: whether it does is the matter of another rule
+abbrev pub IsAccess : Command → Type 0
+IsAccess (commands.Load thread slot line) = Unit {0}
+IsAccess (commands.Fetch thread slot line) = Unit {0}
+IsAccess (commands.KLoad thread slot line) = Unit {0}
+IsAccess (commands.Store thread slot line word) = Unit {0}
+IsAccess _ = ⊥
+
 -- the answer is right
 abbrev pub IsPlain : Script → Report → Who → Command → Answer → Type 0
 IsPlain script report who command answers.NoFrame = IsShort script command
@@ -101,4 +111,6 @@ IsPlain script report who command (answers.HasBad mask) = HasTheseBad script rep
 IsPlain script report who command (answers.InUse count) = IsUsed command
 IsPlain script report who command (answers.Scrubbed n) = AreScrubbed report who command n
 IsPlain script report who command (answers.Raised n) = AreRaised report who command n
+IsPlain script report who command answers.GuestBad = IsAccess command
+IsPlain script report who command answers.GuestStopped = IsAccess command
 IsPlain script report who command _ = ⊥

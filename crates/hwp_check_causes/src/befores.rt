@@ -1,7 +1,7 @@
 ghost use Rattle.std.specs.Prelude.{◌≡◌, ◌≤◌, ◌<◌, IfOk, length};
 ghost use Rattle.hwp_check_causes.specs.Befores.{AreBefore, AreBeforeBy, policy_of};
 
-use hwp_check_rules::{Command, CpuLine, Layout, OutOfMemory, Policy, dones_of, policy_before};
+use hwp_check_rules::{Command, CpuLine, Layout, OutOfMemory, Policy, done_of, policy_before};
 use std::alloc::Global;
 
 /// The policy of the thread of the command with the number, before it, where the earlier ones were done so.
@@ -43,6 +43,6 @@ pub fn policies_before(
 ) -> Result<Vec<Policy>, OutOfMemory>
     ensures { IfOk result (λ policies. AreBefore layout.now list.now rows.now policies.items) }
 {
-    let done = dones_of(alloc, list.len(), rows)?;
+    let done = done_of(alloc, list.len(), rows)?;
     policies(alloc, layout, list, done.as_slice())
 }

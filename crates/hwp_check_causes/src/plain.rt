@@ -3,7 +3,7 @@ ghost use Rattle.hwp_check_evidence.specs.hwp_law.Answers.{is_ample};
 ghost use Rattle.hwp_check_evidence.specs.hwp_law.Causes.{AreBadLines, IsCaused};
 ghost use Rattle.hwp_check_evidence.specs.hwp_law_commands.Commands.{is_kernels};
 ghost use Rattle.hwp_check_evidence.specs.hwp_law.Lines.{bad_lines_of};
-ghost use Rattle.hwp_check_causes.specs.Plain.{AreRaised, AreScrubbed, HasTheseBad, IsDone, IsLossTold, IsOfKernel, IsOpening, IsPlain, IsShort, IsUsed, is_plain};
+ghost use Rattle.hwp_check_causes.specs.Plain.{AreRaised, AreScrubbed, HasTheseBad, IsAccess, IsDone, IsLossTold, IsOfKernel, IsOpening, IsPlain, IsShort, IsUsed, is_plain};
 
 use crate::case::Case;
 use hwp_check_rules::{Answer, Command, Frame, Layout, Mask, Report};
@@ -140,6 +140,19 @@ fn are_raised(case: &Case<'_>, n: u64) -> bool
     }
 }
 
+/// Whether the command is an access.
+fn is_access(command: &Command) -> bool
+    ensures { IsTrue result ↔ IsAccess command.now }
+{
+    matches!(
+        command,
+        Command::Load { .. }
+            | Command::Fetch { .. }
+            | Command::KLoad { .. }
+            | Command::Store { .. }
+    )
+}
+
 /// Whether an answer is right by itself.
 fn is_plain_right(case: &Case<'_>, answer: &Answer) -> bool
     ensures { IsTrue result ↔ IsPlain case.now.script case.now.report case.now.who case.now.command answer.now }
@@ -154,6 +167,7 @@ fn is_plain_right(case: &Case<'_>, answer: &Answer) -> bool
         Answer::InUse(_) => is_used(case.command),
         Answer::Scrubbed(n) => are_scrubbed(case, n),
         Answer::Raised(n) => are_raised(case, n),
+        Answer::GuestBad | Answer::GuestStopped => is_access(case.command),
         _ => false,
     }
 }

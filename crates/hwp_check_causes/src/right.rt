@@ -53,7 +53,9 @@ fn speaks_plainly(command: &Command, answer: &Answer) -> bool
         | Answer::HasBad(_)
         | Answer::InUse(_)
         | Answer::Scrubbed(_)
-        | Answer::Raised(_) => !matches!(command, Command::Prctl { .. }),
+        | Answer::Raised(_)
+        | Answer::GuestBad
+        | Answer::GuestStopped => !matches!(command, Command::Prctl { .. }),
         _ => false,
     }
 }

@@ -23,8 +23,8 @@ use Rattle.hwp_law.specs.Events.{AreEventsOf, AreScrubbed, IsDamaged, IsRaise, i
 use Rattle.hwp_banks.specs.Banks.{raw_event}
 use Rattle.hwp_law.specs.Lines.{answer_of}
 use Rattle.hwp_check_events.specs.Accesses.{IsAccessLine, IsRaisedLine, asked_by_access, access_of}
-use Rattle.hwp_check_event_line.specs.Firsts.{AreRight}
-use Rattle.hwp_check_event_line.specs.Found.{of_access, resting}
+use Rattle.hwp_check_scrub.specs.hwp_check_event_line.Firsts.{AreRight}
+use Rattle.hwp_check_scrub.specs.hwp_check_event_line.Found.{of_access, resting}
 use Rattle.hwp_check_events.specs.Misfits.{IsFit, IsRightLine, Lacks, course_of, leaves, logged_if}
 use Rattle.hwp_check_scrub.specs.Scrubs.{Course, IsScrubbedLine, after, after_all, comes_instead, is_instead, lacking, marked_from, reach_from, turn}
 use Rattle.hwp_check_scrub.specs.Scrubbing.{IsRightIn}

@@ -1,5 +1,5 @@
 -- The lines that the machine checks of an access meet: one so often, or those of a copy; and how those of a copy are gathered.
-use Rattle.std.proofs.Common.{◌≡◌, ℕ, zero, suc, ◌+◌, ◌-◌, ◌<◌, ◌≤◌, ◌==◌, Bool, true, false, List, [], ◌∷◌, ◌++◌, Option, Some, None, cond, drop, filter, get_or, length, map, replicate, slice_get, unwrap_or, inl, inr, refl, sym, ap, ◌∙◌, arith}
+use Rattle.std.proofs.Common.{◌≡◌, ℕ, zero, suc, ◌+◌, ◌-◌, ◌<◌, ◌≤◌, ◌==◌, Bool, true, false, List, [], ◌∷◌, ◌++◌, Option, Some, None, cond, drop, filter, get_or, is_some, length, map, replicate, slice_get, unwrap_or, inl, inr, refl, sym, ap, ◌∙◌, arith}
 use Rattle.std.specs.Option.{option_map_or}
 use Rattle.std.proofs.lemmas.Bool.{cases_lt}
 use Rattle.std.proofs.lemmas.List.{append-nil, drop_all, drop_more, get_or_append_left, get_or_push, append_assoc}
@@ -16,7 +16,7 @@ use Rattle.hwp_law.specs.hwp_report_text.declared.Report.{Report}
 use Rattle.hwp_law.specs.hwp_script_read.declared.Command.{Command}
 use Rattle.hwp_law.specs.hwp_script_read.declared.Command.TheVariants as commands
 use Rattle.hwp_law.specs.Copies.{copy_checks, own_in, checks_by, is_load, is_store, lines_at}
-use Rattle.hwp_law.specs.Events.{store_lines}
+use Rattle.hwp_law.specs.Events.{access_lines, store_lines}
 use Rattle.hwp_law.specs.Lines.{is_same_command}
 use Rattle.hwp_check_acting.specs.ActedOn.{copies_in}
 use Rattle.hwp_check_events.specs.Accesses.{lines_met}
@@ -41,9 +41,10 @@ met-copied checks copied count_is =
 
 -- ---- a store's lines
 
-pub store-copied : (layout : Layout) (report : Report) (who : Who) (from : Option VSlot) (v slot : VSlot) (at : ℕ) (copied : List ℕ) → from ≡ Some v → copied ≡ copied_from layout report who from slot → copied ≡ store_lines layout report who from slot at
-store-copied layout report who from v slot at copied is are =
-    are ∙ ap (λ (o : Option VSlot). copied_from layout report who o slot) is ∙ sym (ap (λ (o : Option VSlot). store_lines layout report who o slot at) is)
+pub store-copied : (layout : Layout) (report : Report) (who : Who) (from : Option VSlot) (slot : VSlot) (at : ℕ) (copied : List ℕ) → copied ≡ copied_from layout report who from slot
+    → cond (is_some from) copied (access_lines report who at) ≡ store_lines layout report who from slot at
+store-copied layout report who None slot at copied are = refl
+store-copied layout report who (Some v) slot at copied are = are
 
 -- ---- the lists of a processor
 

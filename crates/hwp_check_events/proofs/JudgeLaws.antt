@@ -23,14 +23,16 @@ use Rattle.hwp_law.specs.hwp_severity.declared.Arrival.{Arrival}
 use Rattle.hwp_law.specs.Events.{is_raised, access_lines, store_lines}
 use Rattle.hwp_law.specs.Lines.{answer_of}
 use Rattle.hwp_check_events.specs.Accesses.{Access, IsAccessLine, IsRaisedLine, access_by, asked_by_access, access_of, lines_met}
-use Rattle.hwp_check_event_line.specs.Firsts.{IsScanned, shown_lines}
+use Rattle.hwp_check_scrub.specs.hwp_check_event_line.Firsts.{IsScanned, shown_lines}
+use Rattle.hwp_check_events.specs.Copied.{copied_by}
 use Rattle.hwp_check_events.specs.Judged.{IsAccessJudged, IsJudged, IsScrubJudged, IsTable}
 use Rattle.hwp_check_events.specs.Misfits.{commands_before, course_of, is_scrubbed, low_of}
 use Rattle.hwp_check_scrub.specs.Scrubs.{Course, after_all, bound_from, lacking, lowest, reach_from}
 use Rattle.hwp_check_scrub.specs.Scrubbing.{IsRightIn, course_by, low_of as low_by}
-use Rattle.hwp_check_event_line.specs.declared.Faults.{Faults}
+use Rattle.hwp_check_scrub.specs.hwp_check_event_line.declared.Faults.{Faults}
 use Rattle.hwp_check_events.specs.declared.known.Checks.{Checks}
-use Rattle.hwp_check_event_line.specs.declared.Shown.{Shown}
+use Rattle.hwp_check_scrub.specs.hwp_check_event_line.declared.Shown.{Shown}
+use Rattle.hwp_check_events.proofs.CopyLaws.{store-copied}
 
 less-decides : (a b : ℕ) (t : Bool) → t ≡ nat_lt a b → MatchBool t (a < b) (a < b → ⊥)
 less-decides a b true is = ltb-true a b (sym is)
@@ -106,9 +108,12 @@ module _ (script : Script) (copies : Who → Option VSlot) (report : Report) (wh
       let j = subst (λ (h : Arrival). IsAccessJudged script report who h origins.Access (access_lines report who at) raw left lines faults) (how_is ∙ ap arrival_of is) judged in
       subst Judged (sym is) (record { scanned = j.scanned; lacks = j.lacks; left_is = j.left_is })
 
-  pub store-judged : (thread : Thread) (slot : VSlot) (at word : ℕ) → command ≡ commands.Store thread slot at word → IsAccessJudged script report who how origins.Access (store_lines script.layout report who (copies who) slot at) raw left lines faults → Judged command
-  store-judged thread slot at word is judged =
-      let j = subst (λ (h : Arrival). IsAccessJudged script report who h origins.Access (store_lines script.layout report who (copies who) slot at) raw left lines faults) (how_is ∙ ap arrival_of is) judged in
+  pub store-judged : (thread : Thread) (slot : VSlot) (at word : ℕ) (copied : List ℕ) → command ≡ commands.Store thread slot at word → copied ≡ copied_by script.layout copies report who command
+      → IsAccessJudged script report who how origins.Access (cond (is_some (copies who)) copied (access_lines report who at)) raw left lines faults → Judged command
+  store-judged thread slot at word copied is are judged =
+      let same = store-copied script.layout report who (copies who) slot at copied (are ∙ ap (copied_by script.layout copies report who) is) in
+      let j = subst (λ (h : Arrival). IsAccessJudged script report who h origins.Access (store_lines script.layout report who (copies who) slot at) raw left lines faults) (how_is ∙ ap arrival_of is)
+      (subst (λ (l : List ℕ). IsAccessJudged script report who how origins.Access l raw left lines faults) same judged) in
       subst Judged (sym is) (record { scanned = j.scanned; lacks = j.lacks; left_is = j.left_is })
 
   -- a load, or one of the kernel

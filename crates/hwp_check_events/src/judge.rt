@@ -1,13 +1,13 @@
-ghost use Rattle.std.specs.Prelude.{◌≡◌, ◌≤◌, ◌+◌, ◌<◌, ◌^◌, true, false, length};
+ghost use Rattle.std.specs.Prelude.{◌≡◌, ◌≤◌, ◌+◌, ◌<◌, ◌^◌, true, false, cond, is_some, length};
 ghost use Rattle.hwp_law.specs.hwp_law_commands.Commands.{arrival_of, is_check};
 ghost use Rattle.hwp_banks.specs.declared.Origin.TheVariants.{Access};
-ghost use Rattle.hwp_law.specs.Events.{access_lines, store_lines};
+ghost use Rattle.hwp_law.specs.Events.{access_lines};
 ghost use Rattle.hwp_law.specs.Lines.{answer_of};
 ghost use Rattle.hwp_law.specs.Pairings.{entries_of};
-ghost use Rattle.hwp_check_event_line.specs.Firsts.{IsScanned, shown_lines};
-ghost use Rattle.hwp_check_event_line.specs.Found.{of_access};
+ghost use Rattle.hwp_check_scrub.specs.hwp_check_event_line.Firsts.{IsScanned, shown_lines};
+ghost use Rattle.hwp_check_scrub.specs.hwp_check_event_line.Found.{of_access};
 ghost use Rattle.hwp_check_acting.specs.ActedOn.{copies_in};
-ghost use Rattle.hwp_check_events.specs.Copied.{copied_by, copied_from};
+ghost use Rattle.hwp_check_events.specs.Copied.{copied_by};
 ghost use Rattle.hwp_check_events.specs.Judged.{IsAccessJudged, IsJudged, IsScrubJudged, IsTable};
 ghost use Rattle.hwp_check_events.specs.Misfits.{IsFit, is_scrubbed, logged_if};
 
@@ -15,8 +15,7 @@ use crate::faults::{access_faults, any, raise_faults};
 use crate::known::{Checks, Known};
 use hwp_banks::{Bank, Event, Origin, Status};
 use hwp_check_acting::copy_of;
-use hwp_check_event_line::{Faults, Shown, Traced};
-use hwp_check_scrub::scrub_faults;
+use hwp_check_scrub::{Faults, Shown, Traced, scrub_faults};
 use hwp_law::{Answer, Arrival, Command, Frame, Line, List, McgBits, Mode, Script, VSlot, Who};
 
 /// How the machine checks of a command arrive.
@@ -116,7 +115,6 @@ fn judge_store(
     report: &Traced<'_>,
     who: Who,
     how: Arrival,
-    slot: VSlot,
     at: Line,
     known: &Known,
     copied: &[Line],
@@ -126,10 +124,8 @@ fn judge_store(
     requires frames { length report.now.frames ≤ 65536 }
     requires few { known.now.checks + 1 < 2 ^ 64 }
     requires checks { known.now.checks ≡ entries_of report.now who is_check }
-    requires copied { copied.now ≡ copied_from script.now.layout report.now who (copies_in copies.now who) slot }
-    ensures { IsAccessJudged script.now report.now who how Access (store_lines script.now.layout report.now who (copies_in copies.now who) slot at) raw.old raw.new (shown_lines lines.now) result }
+    ensures { IsAccessJudged script.now report.now who how Access (cond (is_some (copies_in copies.now who)) copied.now (access_lines report.now who at)) raw.old raw.new (shown_lines lines.now) result }
 {
-    let _slot = slot;
     match copy_of(copies, who) {
         Some(_) => judge_copy(script, report, who, how, at, copied, raw, lines),
         None => {
@@ -209,9 +205,9 @@ pub(crate) fn command_faults(
                 lines,
             )
         }
-        Command::Store { slot, line, .. } => {
+        Command::Store { line, .. } => {
             judge_store(
-                script, copies, report, who, how, slot, line, known, copied, raw, lines,
+                script, copies, report, who, how, line, known, copied, raw, lines,
             )
         }
         Command::Fetch { line, .. } => {

@@ -10,7 +10,7 @@ use crate::copied::copied_of;
 use crate::index::{answers_by_command, events_by_command};
 use crate::misfits::Misfits;
 use crate::walk::walk;
-use hwp_check_event_line::{Traced, past_of, results_of};
+use hwp_check_scrub::{Traced, past_of, results_of};
 use hwp_law::{Command, Cpu, CpuLine, List, OutOfMemory, Report, Script, VSlot, Who};
 use std::alloc::Global;
 

@@ -11,7 +11,7 @@ use crate::known::Known;
 use crate::misfits::Misfits;
 use crate::tables::mark;
 use hwp_banks::Bank;
-use hwp_check_event_line::{Faults, Shown, Traced};
+use hwp_check_scrub::{Faults, Shown, Traced};
 use hwp_law::{Answer, Command, Cpu, CpuLine, Line, List, Script, VSlot, Who};
 
 /// The lower of a row that was found so far, if one was, and one more.

@@ -1,5 +1,5 @@
 -- The frames that are due of each command of a processor, from the first on.
-use Rattle.std.proofs.Common.{◌≡◌, ◌⊎◌, inl, inr, ℕ, zero, suc, ◌+◌, ◌<◌, ◌≤◌, ◌&&◌, ◌||◌, Bool, true, false, true≢false, not, nat_lt, All, List, [], ◌∷◌, ◌++◌, Option, Some, None, flat_map, get_or, if◌then◌else◌, length, map, slice_get, take, unwrap_or, refl, sym, ap, ◌∙◌, subst, arith}
+use Rattle.std.proofs.Common.{◌≡◌, ◌⊎◌, inl, inr, ℕ, zero, suc, ◌+◌, ◌<◌, ◌≤◌, ◌&&◌, ◌||◌, Bool, true, false, true≢false, not, nat_lt, All, List, [], ◌∷◌, ◌++◌, Option, Some, None, flat_map, if◌then◌else◌, length, slice_get, take, unwrap_or, refl, sym, ap, ◌∙◌, subst, arith}
 use Rattle.std.specs.List.{filter_map, list_any, zip}
 use Rattle.std.specs.Option.{option_to_list}
 use Rattle.std.proofs.lemmas.Bool.{and_parts, ltb-true}
@@ -17,7 +17,6 @@ use Rattle.hwp_check_rules.specs.hwp_script_read.Valid.{IsCommandOf}
 use Rattle.hwp_check_rules.specs.hwp_report_text.declared.Answer.{Answer}
 use Rattle.hwp_check_rules.specs.hwp_report_text.declared.Answer.TheVariants as answers
 use Rattle.hwp_check_rules.specs.hwp_report_text.declared.CpuLine.{CpuLine}
-use Rattle.hwp_check_rules.specs.hwp_report_text.declared.CpuLine.TheVariants as lines
 use Rattle.hwp_check_rules.specs.hwp_report_text.declared.EventLine.{EventLine}
 use Rattle.hwp_check_rules.specs.hwp_report_text.declared.Report.{Report}
 use Rattle.hwp_check_rules.specs.hwp_check_events.Indexed.{AreShown}
@@ -26,37 +25,16 @@ use Rattle.hwp_check_rules.specs.hwp_check_event_line.declared.Shown.{Shown}
 use Rattle.hwp_check_rules.specs.hwp_law_commands.Commands.{is_kernels, is_watch}
 use Rattle.hwp_check_rules.specs.hwp_law_commands.Notes.{checks, ends_machine, frame_of, is_corrected, is_for_pages, noted_frame, notes, notes_of_check}
 use Rattle.hwp_check_rules.specs.hwp_law_commands.Watched.{Watched, due, watched_after}
-use Rattle.hwp_check_rules.specs.hwp_law.Lines.{AnswerLine, answer_in, answered, events_among}
+use Rattle.hwp_check_rules.specs.hwp_law.Lines.{answered, answers_to, events_among}
 use Rattle.hwp_check_rules.specs.hwp_law.Offlined.{due_of, watched_from}
 use Rattle.hwp_check_rules.proofs.of_hwp_law.OfflinedLaws.{watched-more}
 use Rattle.hwp_check_rules.proofs.of_hwp_check_events.IndexLaws.{told-is}
 use Rattle.hwp_check_rules.proofs.of_hwp_check_events.ValidLaws.{command-of}
 use Rattle.hwp_cec.specs.Counters.{Counters}
 use Rattle.hwp_check_offlined.specs.Collecting.{AreDue, IsGoneOn, IsLimited, IsWatching}
-use Rattle.hwp_check_offlined.specs.Dues.{AreDues, due_at, given_in, watched_at}
+use Rattle.hwp_check_offlined.specs.Dues.{AreDues, due_at, watched_at}
 use Rattle.hwp_check_offlined.specs.Judged.{who_at}
 use Rattle.hwp_check_offlined.proofs.CollectLaws.{due-and-after}
-
--- an answer more
-one-given : (row : CpuLine) → filter_map given_in (row ∷ []) ≡ option_to_list (given_in row)
-one-given (lines.Answer seq answer) = refl
-one-given (lines.Event event) = refl
-one-given (lines.Offlined offlined) = refl
-one-given (lines.Guest guest) = refl
-
-pub given_more : (rows : List CpuLine) (i : ℕ) (d : CpuLine) → i < length rows → filter_map given_in (take (i + 1) rows) ≡ filter_map given_in (take i rows) ++ option_to_list (given_in (get_or rows i d))
-given_more rows i d within =
-    ap (filter_map given_in) (take_more rows i d within)
-    ∙ (filter_map-append given_in (take i rows) (get_or rows i d ∷ [])
-    ∙ ap (λ (l : List Answer). filter_map given_in (take i rows) ++ l) (one-given (get_or rows i d)))
-
--- the answers are those that the law goes by
-given-answers : (rows : List CpuLine) → map (λ (l : AnswerLine). l.answer) (filter_map answer_in rows) ≡ filter_map given_in rows
-given-answers [] = refl
-given-answers (lines.Answer seq answer ∷ rows) = ap (λ (l : List Answer). answer ∷ l) (given-answers rows)
-given-answers (lines.Event event ∷ rows) = given-answers rows
-given-answers (lines.Offlined offlined ∷ rows) = given-answers rows
-given-answers (lines.Guest guest ∷ rows) = given-answers rows
 
 abbrev pair : {X Y : Type 0} → X → Y → Option (X × Y)
 pair x y = Some (x, y)
@@ -77,11 +55,11 @@ take-many (x ∷ xs) zero low = refl
 take-many (x ∷ xs) (suc n) low = let l : suc n ≤ suc (length xs) = low in ap suc (take-many xs n (omega (arith, l)))
 
 -- the collector after one command more
-watched-next : (layout : Layout) (list : List Command) (rows : List CpuLine) (n : ℕ) (command : Command) (given : Answer) → slice_get list n ≡ Some command → slice_get (filter_map given_in rows) n ≡ Some given
+watched-next : (layout : Layout) (list : List Command) (rows : List CpuLine) (n : ℕ) (command : Command) (given : Answer) → slice_get list n ≡ Some command → slice_get (answers_to list rows) n ≡ Some given
     → watched_at layout list rows (n + 1) ≡ watched_after command given (notes layout (events_among rows n)) (watched_at layout list rows n)
 watched-next layout list rows n command given made told =
     let there : slice_get (answered list rows) n ≡ Some (command, given) =
-    zip-at list (map (λ (l : AnswerLine). l.answer) (filter_map answer_in rows)) n command given made (ap (λ (l : List Answer). slice_get l n) (given-answers rows) ∙ told) in
+    zip-at list (answers_to list rows) n command given made told in
     let within : n < length (answered list rows) = slice_get_within (answered list rows) n (command, given) there in
     let many : 0 + length (take n (answered list rows)) ≡ n = (let m : length (take n (answered list rows)) ≡ n = take-many (answered list rows) n (omega (arith, within)) in omega (arith, m)) in
     ap (λ (l : List (Command × Answer)). watched_from layout rows 0 l None) (take-next (answered list rows) n (command, given) there)
@@ -113,7 +91,7 @@ none-yet layout list rows c many = record {
     nothing [] = refl
     nothing (x ∷ xs) = refl
 
-module _ (layout : Layout) (list : List Command) (rows : List CpuLine) (n : ℕ) (command : Command) (given : Answer) (made : slice_get list n ≡ Some command) (told : slice_get (filter_map given_in rows) n ≡ Some given) where
+module _ (layout : Layout) (list : List Command) (rows : List CpuLine) (n : ℕ) (command : Command) (given : Answer) (made : slice_get list n ≡ Some command) (told : slice_get (answers_to list rows) n ≡ Some given) where
   pub one-more : (dues more : List (List Frame)) (on after : Bool) (old now new : Counters) (noted frames : List Frame) → noted ≡ notes layout (events_among rows n) → AreDueSoFar layout list rows n dues on old
       → AreDue on old now noted frames → more ≡ dues ++ frames ∷ [] → IsGoneOn command given on after now new → AreDueSoFar layout list rows (n + 1) more after new
   one-more dues more on after old now new noted frames noted_is so taken more_is gone =
@@ -217,7 +195,7 @@ none-watched layout rows (c ∷ list) (a ∷ given) n (suc seq) plain =
 
 pub none-due : (layout : Layout) (rows : List CpuLine) (list : List Command) (seq : ℕ) → list_any is_watch list ≡ false → [] ≡ due_at layout list rows seq
 none-due layout rows list seq plain =
-    sym (ap (λ (w : Option Watched). due w (notes layout (events_among rows seq))) (none-watched layout rows list (map (λ (l : AnswerLine). l.answer) (filter_map answer_in rows)) 0 seq plain))
+    sym (ap (λ (w : Option Watched). due w (notes layout (events_among rows seq))) (none-watched layout rows list (answers_to list rows) 0 seq plain))
 
 -- the frames that are due of a command of a processor with this list and these lines
 pub due-is : (script : Script) (report : Report) (cpu : Cpu) (list : List Command) (rows : List CpuLine) (seq : ℕ) → slice_get script.lists cpu.0 ≡ Some list → slice_get report.cpus cpu.0 ≡ Some rows

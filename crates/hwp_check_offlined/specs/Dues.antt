@@ -3,18 +3,11 @@ use Rattle.std.specs.Prelude.{◌≡◌, ℕ, List, Option, Some, None, length, 
 use Rattle.hwp_check_rules.specs.hwp_geom.declared.Frame.{Frame}
 use Rattle.hwp_check_rules.specs.hwp_geom.declared.Layout.{Layout}
 use Rattle.hwp_check_rules.specs.hwp_script_read.declared.Command.{Command}
-use Rattle.hwp_check_rules.specs.hwp_report_text.declared.Answer.{Answer}
 use Rattle.hwp_check_rules.specs.hwp_report_text.declared.CpuLine.{CpuLine}
-use Rattle.hwp_check_rules.specs.hwp_report_text.declared.CpuLine.TheVariants as lines
 use Rattle.hwp_check_rules.specs.hwp_law_commands.Notes.{notes}
 use Rattle.hwp_check_rules.specs.hwp_law_commands.Watched.{Watched, due}
 use Rattle.hwp_check_rules.specs.hwp_law.Lines.{answered, events_among}
 use Rattle.hwp_check_rules.specs.hwp_law.Offlined.{watched_from}
-
--- the answer that a line gives
-abbrev pub given_in : CpuLine → Option Answer
-given_in (lines.Answer seq answer) = Some answer
-given_in _ = None
 
 -- the collector of a processor before the command with this number
 abbrev pub watched_at : Layout → List Command → List CpuLine → ℕ → Option Watched

@@ -1,14 +1,15 @@
-ghost use Rattle.std.specs.Prelude.{◌≡◌, ◌≤◌, IfOk, Some, filter_map, length, slice_get};
+ghost use Rattle.std.specs.Prelude.{◌≡◌, ◌≤◌, IfOk, Some, length, slice_get};
 ghost use Rattle.hwp_check_rules.specs.hwp_check_acting.Scripts.{IsDeclared};
 ghost use Rattle.hwp_check_rules.specs.hwp_check_events.Indexed.{AreShown};
-ghost use Rattle.hwp_check_offlined.specs.Dues.{AreDues, given_in};
+ghost use Rattle.hwp_check_rules.specs.hwp_law.Lines.{answers_to};
+ghost use Rattle.hwp_check_offlined.specs.Dues.{AreDues};
 
 use crate::collecting::{due_by, go_on};
 use hwp_cec::Collector;
 use hwp_check_rules::{Answer, Command, Cpu, CpuLine, Frame, List, OutOfMemory, Script, Shown};
 use std::alloc::Global;
 
-/// For each command of a processor the frames that its notes take out of use, by the event lines of each and the answers in order.
+/// For each command of a processor the frames that its notes take out of use, by the event lines of each and its answer.
 pub(crate) fn dues_of(
     alloc: Global,
     script: &Script,
@@ -21,7 +22,7 @@ pub(crate) fn dues_of(
     requires valid { IsDeclared script.now }
     requires of_script { slice_get script.now.lists cpu.0 ≡ Some commands.now }
     requires events { AreShown rows.now (length commands.now) events.now }
-    requires answers { answers.now ≡ filter_map given_in rows.now }
+    requires answers { answers.now ≡ answers_to commands.now rows.now }
     requires enough { length commands.now ≤ length answers.now }
     ensures { IfOk result (λ dues. AreDues script.now.layout commands.now rows.now (length commands.now) dues.items) }
 {

@@ -1,16 +1,13 @@
-ghost use Rattle.std.specs.Prelude.{◌≡◌, ◌≤◌, true, [], IfOk, MatchOption, Some, filter_map, length, slice_get};
-ghost use Rattle.std.specs.List.{list_any};
+ghost use Rattle.std.specs.Prelude.{◌≡◌, [], IfOk, MatchOption, Some, length, slice_get};
 ghost use Rattle.hwp_check_rules.specs.hwp_check_acting.Scripts.{IsDeclared};
-ghost use Rattle.hwp_check_rules.specs.hwp_law_commands.Commands.{is_watch};
-ghost use Rattle.hwp_check_offlined.specs.Dues.{given_in};
 ghost use Rattle.hwp_check_offlined.specs.Judged.{AreSuch, IsFirstOther, IsJudged, IsTold};
 ghost use Rattle.hwp_check_offlined.specs.Tallied.{due_in, is_of};
 
 use crate::dues::dues_of;
-use crate::given::answers_in;
 use crate::tally::scan;
 use hwp_check_rules::{
-    Command, Cpu, CpuLine, Misfits, OutOfMemory, Report, Script, events_by_command, watches,
+    Command, Cpu, CpuLine, Misfits, OutOfMemory, Report, Script, answers_to, events_by_command,
+    watches,
 };
 use std::alloc::Global;
 
@@ -50,7 +47,6 @@ pub fn offlined_faults(
     requires valid { IsDeclared script.now }
     requires of_script { slice_get script.now.lists cpu.0 ≡ Some commands.now }
     requires of_report { slice_get report.now.cpus cpu.0 ≡ Some rows.now }
-    requires answered { list_any is_watch commands.now ≡ true → length commands.now ≤ length (filter_map given_in rows.now) }
     ensures { IfOk result (λ found. IsJudged script.now report.now cpu commands.now rows.now found) }
 {
     let _report = report;
@@ -61,7 +57,7 @@ pub fn offlined_faults(
         });
     }
     let events = events_by_command(alloc, commands.len(), rows)?;
-    let answers = answers_in(alloc, rows)?;
+    let answers = answers_to(alloc, commands, rows)?;
     let dues = dues_of(
         alloc,
         script,

@@ -5,7 +5,6 @@
 mod collecting;
 mod dues;
 mod faults;
-mod given;
 mod notes;
 mod tally;
 

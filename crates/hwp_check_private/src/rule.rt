@@ -1,6 +1,7 @@
-ghost use Rattle.std.specs.Prelude.{◌≡◌, ◌<◌, ◌≤◌, ◌^◌, Some, IfOk, MatchOption, length, slice_get};
+ghost use Rattle.std.specs.Prelude.{◌≡◌, ◌<◌, ◌≤◌, ◌^◌, false, None, Ok, Some, IfOk, MatchOption, length, slice_get};
 ghost use Rattle.hwp_check_rules.specs.hwp_check_acting.Scripts.{IsDeclared};
 ghost use Rattle.hwp_check_rules.specs.hwp_law.Private.{ArePrivate};
+ghost use Rattle.hwp_check_rules.specs.hwp_law_commands.Commands.{has_fork};
 ghost use Rattle.hwp_check_rules.specs.AnswerFaults.{IsPrivateFault};
 ghost use Rattle.hwp_check_rules.specs.Firsts.{IsLeast};
 ghost use Rattle.hwp_check_rules.specs.Standing.{last_line, row_line};
@@ -74,7 +75,8 @@ pub fn private_fault(
 ) -> Result<Option<u64>, OutOfMemory>
     requires valid { IsDeclared script.now }
     requires room { last_line report.now < 2 ^ 64 }
-    ensures { IfOk result (λ found. MatchOption found (ArePrivate script.now report.now) (IsLeast (IsPrivateFault script.now report.now))) }
+    ensures judged { IfOk result (λ found. MatchOption found (ArePrivate script.now report.now) (IsLeast (IsPrivateFault script.now report.now))) }
+    ensures unforked { has_fork script.now ≡ false → result ≡ Ok None }
 {
     if has_fork(script) {
         first_fault(alloc, script, report)

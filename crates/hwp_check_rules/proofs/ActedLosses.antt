@@ -13,9 +13,10 @@ use Rattle.hwp_law.specs.hwp_script_read.declared.Command.{Command}
 use Rattle.hwp_law.specs.hwp_script_read.declared.Command.TheVariants as commands
 use Rattle.hwp_law.specs.hwp_script_read.declared.Script.{Script}
 use Rattle.hwp_law.specs.Acting.{acting_from, acting_lists, acting_script}
-use Rattle.hwp_law.specs.Lines.{answered, answers_in}
+use Rattle.hwp_law.specs.Lines.{answered, answers_to}
 use Rattle.hwp_law.specs.Losses.{IsNumber, LossesAgree, is_lost, is_lost_before, losses_such, number_by, numbers_after, tells_number, found_in}
 use Rattle.hwp_law.specs.hwp_page.declared.Entry.{Entry}
+use Rattle.hwp_law.proofs.ActedLaws.{answered-acted}
 
 abbrev Pairs : Type 0
 Pairs = List (Command × Answer)
@@ -96,7 +97,7 @@ module _ (script : Script) (report : Report) where
   acted-many = lists-many 0 script.lists
 
   abbrev acted-list : ℕ → List Command → List Command
-  acted-list cpu list = acting_from script.layout [] list (answers_in (rows-of cpu))
+  acted-list cpu list = acting_from script.layout [] list (answers_to list (rows-of cpu))
 
   lists-at : (n : ℕ) (lists : List (List Command)) (k : ℕ) → slice_get (acting_lists script.layout report.cpus n lists) k ≡ option_map (acted-list (n + k)) (slice_get lists k)
   lists-at n [] k = refl
@@ -114,9 +115,18 @@ module _ (script : Script) (report : Report) where
       by None is = absurd (none-some made (sym (at cpu ∙ ap (option_map (acted-list cpu)) is) ∙ there))
       by (Some list) is = (list, is, same_Some _ _ (sym (at cpu ∙ ap (option_map (acted-list cpu)) is) ∙ there))
 
+  -- the list that was acted on in place of one of the script, which is as long
+  acting-many : (layout : Layout) (earlier : Pairs) (list : List Command) (given : List Answer) → length (acting_from layout earlier list given) ≡ length list
+  acting-many layout earlier [] given = refl
+  acting-many layout earlier (c ∷ cs) [] = ap suc (acting-many layout earlier cs [])
+  acting-many layout earlier (c ∷ cs) (a ∷ given) = ap suc (acting-many layout (earlier ++ (c, a) ∷ []) cs given)
+
+  pub acted-there : (cpu : ℕ) (list : List Command) → slice_get script.lists cpu ≡ Some list → (made : List Command) × (slice_get (acting_script script report).lists cpu ≡ Some made) × (length made ≡ length list)
+  acted-there cpu list there = (acted-list cpu list, at cpu ∙ ap (option_map (acted-list cpu)) there, acting-many script.layout [] list (answers_in (rows-of cpu)))
+
   -- the answers are those of the rows
-  given-is : (cpu : ℕ) (rows : List CpuLine) → slice_get report.cpus cpu ≡ Some rows → answers_in (rows-of cpu) ≡ answers_in rows
-  given-is cpu rows is = ap (λ (o : Option (List CpuLine)). answers_in (unwrap_or o [])) is
+  given-is : (cpu : ℕ) (list : List Command) (rows : List CpuLine) → slice_get report.cpus cpu ≡ Some rows → answers_to list (rows-of cpu) ≡ answers_to list rows
+  given-is cpu list rows is = ap (λ (o : Option (List CpuLine)). answers_to list (unwrap_or o [])) is
 
   pub losses-acted : LossesAgree script report → LossesAgree (acting_script script report) report
   losses-acted losses = record {
@@ -124,11 +134,13 @@ module _ (script : Script) (report : Report) where
     lost = losses.lost;
     numbers = λ file cpu made rows within of_script of_report i p there tells.
         let w = whose cpu.0 made of_script in
-        let are : made ≡ acting_from script.layout [] w.0 (answers_in rows) = sym w.2 ∙ ap (acting_from script.layout [] w.0) (given-is cpu.0 rows of_report) in
-        let q = to-script script.layout file [] w.0 (answers_in rows) i p (subst (λ (l : List Command). slice_get {X = Command × Answer} (answered l rows) i ≡ Some p) are there) in
+        let are : made ≡ acting_from script.layout [] w.0 (answers_to w.0 rows) = sym w.2 ∙ ap (acting_from script.layout [] w.0) (given-is cpu.0 w.0 rows of_report) in
+        let pairs = answered-acted script.layout w.0 rows in
+        let q = to-script script.layout file [] w.0 (answers_to w.0 rows) i p
+        (sym (ap (λ (l : Pairs). slice_get {X = Command × Answer} l i) pairs) ∙ subst (λ (l : List Command). slice_get {X = Command × Answer} (answered l rows) i ≡ Some p) are there) in
         subst (λ (l : List Command). IsNumber (acting_script script report) report file cpu (answered l rows) i) (sym are)
-        (same-number script (acting_script script report) report file cpu (answered w.0 rows) (answered (acting_from script.layout [] w.0 (answers_in rows)) rows) i refl
-        (λ k. sym (numbers-acted script.layout file k [] w.0 (answers_in rows) 0)) (losses.numbers file cpu w.0 rows within w.1 of_report i q.0 q.1 (q.2 ∙ tells)));
+        (same-number script (acting_script script report) report file cpu (answered w.0 rows) (answered (acting_from script.layout [] w.0 (answers_to w.0 rows)) rows) i refl
+        (λ k. sym (ap (λ (l : Pairs). numbers_after file 0 (take k l)) pairs ∙ numbers-acted script.layout file k [] w.0 (answers_to w.0 rows) 0)) (losses.numbers file cpu w.0 rows within w.1 of_report i q.0 q.1 (q.2 ∙ tells)));
   }
 
   pub acted-losses : LossesAgree (acting_script script report) report → LossesAgree script report
@@ -136,10 +148,11 @@ module _ (script : Script) (report : Report) where
     files_fit = losses.files_fit;
     lost = losses.lost;
     numbers = λ file cpu list rows within of_script of_report i p there tells.
-        let made : slice_get (acting_script script report).lists cpu.0 ≡ Some (acting_from script.layout [] list (answers_in rows)) =
-        at cpu.0 ∙ ap (option_map (acted-list cpu.0)) of_script ∙ ap (λ (g : List Answer). Some (acting_from script.layout [] list g)) (given-is cpu.0 rows of_report) in
-        let q = to-acted script.layout file [] list (answers_in rows) i p there in
-        same-number (acting_script script report) script report file cpu (answered (acting_from script.layout [] list (answers_in rows)) rows) (answered list rows) i refl
-        (λ k. numbers-acted script.layout file k [] list (answers_in rows) 0)
-        (losses.numbers file cpu (acting_from script.layout [] list (answers_in rows)) rows within made of_report i q.0 q.1 (q.2 ∙ tells));
+        let made : slice_get (acting_script script report).lists cpu.0 ≡ Some (acting_from script.layout [] list (answers_to list rows)) =
+        at cpu.0 ∙ ap (option_map (acted-list cpu.0)) of_script ∙ ap (λ (g : List Answer). Some (acting_from script.layout [] list g)) (given-is cpu.0 list rows of_report) in
+        let pairs = answered-acted script.layout list rows in
+        let q = to-acted script.layout file [] list (answers_to list rows) i p there in
+        same-number (acting_script script report) script report file cpu (answered (acting_from script.layout [] list (answers_to list rows)) rows) (answered list rows) i refl
+        (λ k. ap (λ (l : Pairs). numbers_after file 0 (take k l)) pairs ∙ numbers-acted script.layout file k [] list (answers_to list rows) 0)
+        (losses.numbers file cpu (acting_from script.layout [] list (answers_to list rows)) rows within made of_report i q.0 (ap (λ (l : Pairs). slice_get {X = Command × Answer} l i) pairs ∙ q.1) (q.2 ∙ tells));
   }

@@ -207,7 +207,7 @@ module _ (script : Script) (report : Report) where
       by : (rule : Rule) → Holds rule script report
       by Shape = all Shape
       by Histories = all Histories
-      by Answers = (all Answers, law.private)
+      by Answers = (all Answers, law.private, law.guests)
       by Seen = all Seen
       by Marks = all Marks
       by Count = all Count
@@ -216,7 +216,7 @@ module _ (script : Script) (report : Report) where
       by Frames = all Frames
 
   pub holds-lawful : ((rule : Rule) → Holds rule script report) → IsLawful script report
-  holds-lawful holds = record { shape = record { version = law.shape.version; frames = law.shape.frames; pages = law.shape.pages; cpus = law.shape.cpus }; histories = law.histories; answers = law.answers; frames = law.frames; losses = acted-losses script report law.losses; private = (holds Answers).1 }
+  holds-lawful holds = record { shape = record { version = law.shape.version; frames = law.shape.frames; pages = law.shape.pages; cpus = law.shape.cpus }; histories = law.histories; answers = law.answers; frames = law.frames; losses = acted-losses script report law.losses; private = (holds Answers).1; guests = (holds Answers).2 }
     where
       each : (rule : Rule) → Fits rule acted copied report
       each Shape = holds Shape

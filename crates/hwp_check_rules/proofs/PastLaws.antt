@@ -1,47 +1,19 @@
 -- What is known of a thread: the policies set, the commands done, and the counts of both.
-use Rattle.std.proofs.Common.{◌≡◌, ◌⊎◌, inl, inr, ℕ, zero, suc, ◌+◌, ◌-◌, ◌<◌, ◌≤◌, ◌==◌, Bool, false, List, [], ◌∷◌, ◌++◌, Option, Some, None, cond, length, take, drop, slice_get, slice_set, slice_index_or, refl, sym, ap, ◌∙◌, subst, arith}
-use Rattle.std.specs.List.{cons_option, filter_map, find}
-use Rattle.std.specs.Option.{option_map, option_to_list}
+use Rattle.std.proofs.Common.{◌≡◌, ◌⊎◌, inl, inr, ℕ, ◌+◌, ◌-◌, ◌<◌, ◌≤◌, ◌==◌, Bool, List, [], ◌∷◌, ◌++◌, Some, cond, length, drop, slice_get, slice_set, slice_index_or, refl, sym, ap, ◌∙◌, subst, arith}
+use Rattle.std.specs.List.{filter_map, find}
+use Rattle.std.specs.Option.{option_map}
 use Rattle.std.proofs.lemmas.Bool.{cases_eq, cases_lt, eq-eqb, ne_eqb}
-use Rattle.std.proofs.lemmas.List.{drop_more, get_or-set_other, get_or-set_same, get_or_append_left, get_or_push, length-set, length_push, take_more}
+use Rattle.std.proofs.lemmas.List.{drop_more, get_or-set_other, get_or-set_same, get_or_append_left, get_or_push, length-set, length_push}
 use Rattle.std.proofs.lemmas.Option.{get_or_from_slice_get, slice_get-get_or, slice_get_within}
-use Rattle.std.proofs.lemmas.List.Elements.{filter_map-append}
-use Rattle.hwp_law.specs.hwp_geom.declared.Cpu.{Cpu}
 use Rattle.hwp_law.specs.hwp_geom.declared.Thread.{Thread}
-use Rattle.hwp_law.specs.hwp_kill.declared.Policy.{Policy}
-use Rattle.hwp_law.specs.hwp_script_read.declared.Command.{Command}
-use Rattle.hwp_law.specs.hwp_script_read.declared.Command.TheVariants as commands
 use Rattle.hwp_law.specs.hwp_script_read.declared.Script.{Script}
 use Rattle.hwp_law.specs.hwp_report_text.declared.Answer.{Answer}
-use Rattle.hwp_law.specs.hwp_report_text.declared.Answer.TheVariants as answers
 use Rattle.hwp_law.specs.hwp_report_text.declared.CpuLine.{CpuLine}
 use Rattle.hwp_law.specs.hwp_report_text.declared.CpuLine.TheVariants as lines
 use Rattle.hwp_law.specs.hwp_report_text.declared.Report.{Report}
 use Rattle.hwp_law.specs.Lines.{AnswerLine, answer_among, answer_in}
 use Rattle.hwp_check_rules.specs.declared.pasts.ThreadPolicies.{ThreadPolicies}
-use Rattle.hwp_check_rules.specs.Pasts.{AreDone, IsPast, answers_in, done_in, is_done, noted}
-
--- one line more
-one-flag : (o : Option Bool) → cons_option o [] ≡ option_to_list o
-one-flag None = refl
-one-flag (Some flag) = refl
-
-pub dones_more : (rows : List CpuLine) (i : ℕ) (d : CpuLine) → i < length rows → filter_map done_in (take (i + 1) rows) ≡ filter_map done_in (take i rows) ++ option_to_list (done_in (slice_index_or rows i d))
-dones_more rows i d within =
-    ap (filter_map done_in) (take_more rows i d within)
-    ∙ filter_map-append done_in (take i rows) (slice_index_or rows i d ∷ [])
-    ∙ ap (λ (l : List Bool). filter_map done_in (take i rows) ++ l) (one-flag (done_in (slice_index_or rows i d)))
-
--- the flag of an answer by its place among them
-pub dones-at : (rows : List CpuLine) (k : ℕ) → slice_index_or (filter_map done_in rows) k false ≡ is_done (slice_get (answers_in rows) k)
-dones-at [] k = refl
-dones-at (lines.Answer seq answer ∷ rows) zero = refl
-dones-at (lines.Answer seq answer ∷ rows) (suc k) = dones-at rows k
-dones-at (row ∷ rows) k = dones-at rows k
-
--- flags that were copied one by one
-abbrev pub AreCopied : List Bool → ℕ → List Bool → Type 0
-AreCopied told number flags = (k : ℕ) (d : Bool) → k < number → slice_index_or flags k d ≡ slice_index_or told k false
+use Rattle.hwp_check_rules.specs.Pasts.{AreDone, IsPast, is_done, noted}
 
 -- the first answer of a command is the one in this line, or in those behind it
 same-answer : (seq : ℕ) (answer : Answer) (rest : List CpuLine) (k : ℕ) → k ≡ seq → answer_among (lines.Answer seq answer ∷ rest) k ≡ Some answer

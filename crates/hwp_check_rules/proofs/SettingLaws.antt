@@ -22,20 +22,32 @@ use Rattle.hwp_law.specs.hwp_report_text.declared.Answer.{Answer}
 use Rattle.hwp_law.specs.hwp_report_text.declared.Answer.TheVariants as answers
 use Rattle.hwp_law.specs.hwp_report_text.declared.CpuLine.{CpuLine}
 use Rattle.hwp_law.specs.hwp_report_text.declared.Report.{Report}
-use Rattle.hwp_law.specs.Lines.{answered}
+use Rattle.hwp_law.specs.Lines.{answer_among, answered, answers_to}
 use Rattle.hwp_law.specs.hwp_law_commands.Settings.{arguments, last_policy, set_after, set_behind, setting_of, settings, unset}
 use Rattle.hwp_law.specs.Policies.{answered_on}
 use Rattle.hwp_law.specs.SeenPolicies.{cpu_of_thread}
+use Rattle.hwp_law.proofs.AnswersInOrder.{answer-from}
 use Rattle.hwp_check_rules.specs.declared.pasts.ThreadPolicies.{ThreadPolicies}
 use Rattle.hwp_check_rules.specs.declared.policies.PolicyStep.{PolicyStep}
 use Rattle.hwp_check_rules.specs.declared.policies.PolicyStep.TheVariants as steps
-use Rattle.hwp_check_rules.specs.Pasts.{AreCounts, AreDoneInOrder, IsPast, answers_in, by_flags, flag_answer, is_done, next_of, policy_by, set_by_pair, set_if, set_in, set_step, settings_by, step_of}
+use Rattle.hwp_check_rules.specs.Pasts.{AreCounts, AreDone, IsPast, by_flags, flag_answer, is_done, next_of, policy_by, set_by_pair, set_if, set_in, set_step, settings_by, step_of}
 
 -- ---- by answers and by flags
 
 -- these flags are of commands with these answers
 abbrev AreOf : List Answer → List Bool → Type 0
 AreOf told flags = (k : ℕ) (d : Bool) → k < length flags → slice_index_or flags k d ≡ is_done (slice_get told k)
+
+-- one that was told no answer wasn't done
+told-done : (o : Option Answer) → is_done o ≡ is_done (Some (unwrap_or o answers.Stopped))
+told-done None = refl
+told-done (Some answer) = refl
+
+of-answers : (list : List Command) (rows : List CpuLine) (flags : List Bool) → length flags ≡ length list → AreDone rows flags → AreOf (answers_to list rows) flags
+of-answers list rows flags each are k d less =
+    let same : k ≡ 0 + k = omega arith in
+    are k d less ∙ ap (λ (i : ℕ). is_done (answer_among rows i)) same ∙ told-done (answer_among rows (0 + k))
+    ∙ ap is_done (sym (answer-from (answer_among rows) 0 (length list) k (omega (arith, each, less))))
 
 module _ (layout : Layout) where
   by-flag : (set : ℕ → List Policy) (thread : ℕ) (command : Command) (answer : Answer) → setting_of layout set thread command answer ≡ setting_of layout set thread command (flag_answer (is_done (Some answer)))
@@ -79,9 +91,9 @@ module _ (layout : Layout) where
       behind-flags cs rest fs n (set_after layout set (c, a)) (omega (arith, each)) (λ k d less. are (suc k) d (omega (arith, less)))
       ∙ ap (λ (s : ℕ → List Policy). set_behind layout s (take n (by_flags cs fs))) (after-flag set c a ∙ ap (λ (b : Bool). set_after layout set (c, flag_answer b)) (sym (are 0 f (omega arith))))
 
-  pub settings-flags : (thread : Thread) (list : List Command) (rows : List CpuLine) (flags : List Bool) (n : ℕ) → length flags ≡ length list → AreDoneInOrder rows flags
+  pub settings-flags : (thread : Thread) (list : List Command) (rows : List CpuLine) (flags : List Bool) (n : ℕ) → length flags ≡ length list → AreDone rows flags
       → settings layout thread (take n (answered list rows)) ≡ settings layout thread (take n (by_flags list flags))
-  settings-flags thread list rows flags n each are = ap (λ (s : ℕ → List Policy). s thread.0) (behind-flags list (answers_in rows) flags n unset each are)
+  settings-flags thread list rows flags n each are = ap (λ (s : ℕ → List Policy). s thread.0) (behind-flags list (answers_to list rows) flags n unset each (of-answers list rows flags each are))
 
   -- they are no more than the commands
   zip-most : (list : List Command) (told : List Answer) → length (zip list told) ≤ length list
@@ -89,11 +101,11 @@ module _ (layout : Layout) where
   zip-most (c ∷ cs) [] = omega arith
   zip-most (c ∷ cs) (a ∷ rest) = let few : length (zip cs rest) ≤ length cs = zip-most cs rest in omega (arith, few)
 
-  all-settings : (thread : Thread) (list : List Command) (rows : List CpuLine) (flags : List Bool) → length flags ≡ length list → AreDoneInOrder rows flags → settings_by layout thread list flags ≡ settings layout thread (answered list rows)
+  all-settings : (thread : Thread) (list : List Command) (rows : List CpuLine) (flags : List Bool) → length flags ≡ length list → AreDone rows flags → settings_by layout thread list flags ≡ settings layout thread (answered list rows)
   all-settings thread list rows flags each are =
       ap (settings layout thread) (sym (take_all {A = Command × Answer} (length list) (by_flags list flags) (zip-most list (map flag_answer flags))))
       ∙ sym (settings-flags thread list rows flags (length list) each are)
-      ∙ ap (settings layout thread) (take_all {A = Command × Answer} (length list) (answered list rows) (zip-most list (answers_in rows)))
+      ∙ ap (settings layout thread) (take_all {A = Command × Answer} (length list) (answered list rows) (zip-most list (answers_to list rows)))
 
   pub all-taken : (list : List Command) (flags : List Bool) (n : ℕ) → length list ≤ n → take n (by_flags list flags) ≡ by_flags list flags
   all-taken list flags n past = let most : length (by_flags list flags) ≤ length list = zip-most list (map flag_answer flags) in take_all {A = Command × Answer} n (by_flags list flags) (omega (arith, most, past))
@@ -255,7 +267,7 @@ module _ (layout : Layout) where
     policy-first whose thread number back past so_far = let none : number - back ≡ 0 = omega (arith, past) in sym (ap (policy_by layout thread list flags) none) ∙ so_far
 
   -- how many there are before a command
-  count-before : (thread : Thread) (list : List Command) (rows : List CpuLine) (flags : List Bool) (counts : List ℕ) (seq : ℕ) → length flags ≡ length list → AreDoneInOrder rows flags → AreCounts layout thread list flags (length list + 1) counts
+  count-before : (thread : Thread) (list : List Command) (rows : List CpuLine) (flags : List Bool) (counts : List ℕ) (seq : ℕ) → length flags ≡ length list → AreDone rows flags → AreCounts layout thread list flags (length list + 1) counts
       → slice_index counts (min seq (length list)) ≡ length (settings layout thread (take seq (answered list rows)))
   count-before thread list rows flags counts seq each are counted =
       counted.each (min seq (length list)) (omega arith)
@@ -273,7 +285,7 @@ module _ (layout : Layout) where
 -- what stands in a past
 pub past_is : (script : Script) (report : Report) (thread : Thread) (past : ThreadPolicies) (list : List Command) (rows : List CpuLine) (flags : List Bool) → cpu_of_thread script thread ≡ Some past.cpu
     → list ≡ unwrap_or (slice_get script.lists past.cpu.0) [] → rows ≡ unwrap_or (slice_get report.cpus past.cpu.0) []
-    → length flags ≡ length list → AreDoneInOrder rows flags → past.policies ≡ settings_by script.layout thread list flags → AreCounts script.layout thread list flags (length list + 1) past.done → IsPast script report thread past
+    → length flags ≡ length list → AreDone rows flags → past.policies ≡ settings_by script.layout thread list flags → AreCounts script.layout thread list flags (length list + 1) past.done → IsPast script report thread past
 past_is script report thread past list rows flags of_cpu list-is rows-is each are policies counted = record {
   of_cpu = of_cpu;
   policies = policies ∙ all-settings script.layout thread list rows flags each are ∙ ap (settings script.layout thread) (on ∙ ap (λ (o : Option Cpu). unwrap_or (option_map (answered_on script report) o) []) (sym of_cpu));

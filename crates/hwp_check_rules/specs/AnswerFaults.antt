@@ -116,7 +116,7 @@ abbrev pub IsOfflinedWrong : Script → Report → List CpuLine → ℕ → Who 
 IsOfflinedWrong script report rows row who line = (IsDue script report rows row who line → ⊥) ⊎ (IsOffline script report who line.frame line.result → ⊥)
 
 -- what is wrong about a line of a command: an answer is judged by the lines before it, since of lines that stand wrong the first is
--- named; a guest's line is out of place, whatever it says
+-- named; what a guest's line says is the matter of GuestFaults
 abbrev pub IsLineWrong : Script → (Who → Option VSlot) → Report → Cpu → List CpuLine → ℕ → CpuLine → Command → Type 0
 IsLineWrong script copies report cpu rows row (lines.Answer seq answer) command = IsAnswerWrong script copies report (take row rows) (record { cpu = cpu; seq = seq }) command answer
 IsLineWrong script copies report cpu rows row (lines.Event event) command = IsEventWrong script copies report rows row (record { cpu = cpu; seq = event.seq }) command

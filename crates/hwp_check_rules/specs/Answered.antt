@@ -1,5 +1,6 @@
 -- The answers of processors, line by line: each line at its place, and each answer with its cause.
-use Rattle.std.specs.Prelude.{◌≡◌, ℕ, ◌<◌, ◌==◌, ◌&&◌, Bool, true, false, List, Some, count_by, length, slice_get, take}
+use Rattle.std.specs.Option.{option_map_or}
+use Rattle.std.specs.Prelude.{◌≡◌, ℕ, ◌+◌, ◌<◌, ◌==◌, ◌&&◌, Bool, true, false, List, Some, count_by, length, slice_get, take}
 use Rattle.hwp_law.specs.hwp_geom.declared.Cpu.{Cpu}
 use Rattle.hwp_law.specs.hwp_geom.declared.Who.{Who}
 use Rattle.hwp_law.specs.hwp_script_read.declared.Command.{Command}
@@ -24,10 +25,14 @@ abbrev pub is_offlined : CpuLine → Bool
 is_offlined (lines.Offlined line) = true
 is_offlined _ = false
 
--- the line is of a kind that commands have: no command has a guest's line
-abbrev pub is_of_command : CpuLine → Bool
-is_of_command (lines.Guest guest) = false
-is_of_command _ = true
+-- the row behind a line is an answer
+abbrev pub answers_next : List CpuLine → ℕ → Bool
+answers_next rows row = option_map_or is_answer (slice_get rows (row + 1)) false
+
+-- a guest's line has an answer behind it; any other line may have what it will
+abbrev pub is_well_before : List CpuLine → ℕ → CpuLine → Bool
+is_well_before rows row (lines.Guest guest) = answers_next rows row
+is_well_before rows row _ = true
 
 -- how many event lines of the command stand before a row
 abbrev pub events_before : List CpuLine → ℕ → ℕ → ℕ
@@ -41,12 +46,12 @@ offlined_before rows row seq = count_by (λ (l : CpuLine). is_offlined l && (seq
 abbrev pub IsBehindEvents : List CpuLine → ℕ → ℕ → Type 0
 IsBehindEvents rows row seq = events_before rows row seq ≡ length (events_among rows seq)
 
--- the line is of the command whose answer comes next: as many answers stand before it as commands before that one; and it is of a
--- kind that commands have
+-- the line is of the command whose answer comes next: as many answers stand before it as commands before that one; and if it is a
+-- guest's, the answer stands right behind it
 pub record IsInPlace (commands : List Command) (rows : List CpuLine) (row : ℕ) (line : CpuLine) : Type 0 where
   pub of_next : seq_of line ≡ count_by is_answer (take row rows)
   pub of_some : seq_of line < length commands
-  pub of_kind : is_of_command line ≡ true
+  pub well_before : is_well_before rows row line ≡ true
 
 -- the command has an answer
 pub record HasAnswer (rows : List CpuLine) (seq : ℕ) : Type 0 where
@@ -59,8 +64,8 @@ pub record IsRight (script : Script) (report : Report) (who : Who) (command : Co
   pub shown : IsCaused script report who command answer
   pub heeded : IsHeeded report who answer
 
--- the lines of a processor: each in its place, that of a frame taken out of use behind its command's event lines, an answer for each
--- command, and each answer right
+-- the lines of a processor: each in its place, that of a frame taken out of use behind its command's event lines, a guest's right before
+-- its command's answer, an answer for each command, and each answer right
 pub record AreAnswered (script : Script) (report : Report) (cpu : Cpu) (commands : List Command) (rows : List CpuLine) : Type 0 where
   pub in_place : (row : ℕ) (line : CpuLine) → slice_get rows row ≡ Some line → IsInPlace commands rows row line
   pub past : (row : ℕ) (line : OfflinedLine) → slice_get rows row ≡ Some (lines.Offlined line) → IsBehindEvents rows row line.seq

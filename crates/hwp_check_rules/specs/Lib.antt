@@ -5,6 +5,7 @@ pub mod Rules
 pub mod Faults
 pub mod MarkFaults
 pub mod AnswerFaults
+pub mod GuestFaults
 pub mod Verdicts
 pub mod Pasts
 pub use Rattle.hwp_law.specs.hwp_banks as hwp_banks
@@ -18,3 +19,4 @@ pub use Rattle.hwp_law.specs.hwp_law_commands as hwp_law_commands
 pub use Rattle.hwp_law.specs.hwp_page as hwp_page
 pub use Rattle.hwp_law.specs.hwp_report_text as hwp_report_text
 pub use Rattle.hwp_law.specs.hwp_script_read as hwp_script_read
+pub use Rattle.hwp_law.specs.hwp_law_commands.hwp_guest as hwp_guest

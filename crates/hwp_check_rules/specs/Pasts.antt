@@ -1,5 +1,5 @@
 -- What is known of a thread from the lines of its processor, to judge what a report says of its policies.
-use Rattle.std.specs.Prelude.{◌≡◌, ℕ, ◌+◌, ◌-◌, ◌<◌, min, Bool, true, false, cond, List, ◌∷◌, ◌++◌, Option, None, Some, filter_map, length, map, option_map, slice_get, slice_index, slice_index_or, slice_set, take, option_and_then, ◌==◌}
+use Rattle.std.specs.Prelude.{◌≡◌, ℕ, ◌+◌, ◌-◌, ◌<◌, min, Bool, true, false, cond, List, ◌∷◌, ◌++◌, Option, None, Some, length, map, slice_get, slice_index, slice_index_or, slice_set, take, option_and_then, ◌==◌}
 use Rattle.std.specs.List.{zip}
 use Rattle.hwp_law.specs.hwp_geom.declared.Layout.{Layout}
 use Rattle.hwp_law.specs.hwp_geom.declared.Thread.{Thread}
@@ -14,7 +14,7 @@ use Rattle.hwp_law.specs.hwp_report_text.declared.Answer.TheVariants as answers
 use Rattle.hwp_law.specs.hwp_report_text.declared.CpuLine.{CpuLine}
 use Rattle.hwp_law.specs.hwp_report_text.declared.CpuLine.TheVariants as lines
 use Rattle.hwp_law.specs.hwp_report_text.declared.Report.{Report}
-use Rattle.hwp_law.specs.Lines.{AnswerLine, answer_among, answer_in}
+use Rattle.hwp_law.specs.Lines.{answer_among}
 use Rattle.hwp_law.specs.hwp_law_commands.Settings.{arguments, last_policy, set_behind, setting_of, settings, unset}
 use Rattle.hwp_law.specs.Policies.{answered_on}
 use Rattle.hwp_law.specs.SeenPolicies.{answered_around, cpu_of_thread}
@@ -36,17 +36,6 @@ noted (lines.Event event) flags = flags
 noted (lines.Offlined offlined) flags = flags
 noted (lines.Guest guest) flags = flags
 noted (lines.Answer seq answer) flags = slice_set flags seq (is_done (Some answer))
-
--- the answers of lines, and which of them are `done`
-abbrev pub answers_in : List CpuLine → List Answer
-answers_in rows = map (λ (l : AnswerLine). l.answer) (filter_map answer_in rows)
-
-abbrev pub done_in : CpuLine → Option Bool
-done_in row = option_map (λ (l : AnswerLine). is_done (Some l.answer)) (answer_in row)
-
--- of which commands the answer is `done`, where the answers are theirs in order
-abbrev pub AreDoneInOrder : List CpuLine → List Bool → Type 0
-AreDoneInOrder rows flags = (k : ℕ) (d : Bool) → k < length flags → slice_index_or flags k d ≡ is_done (slice_get (answers_in rows) k)
 
 -- an answer by whether it is `done`; and commands with such answers
 abbrev pub flag_answer : Bool → Answer

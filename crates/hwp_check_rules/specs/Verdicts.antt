@@ -13,6 +13,8 @@ use Rattle.hwp_check_rules.specs.MarkFaults.{IsMarkFault}
 use Rattle.hwp_check_rules.specs.Rules.{AnswersFit, CountFits, FramesFit, HistoriesFit, LossesFit, MarksFit, SeenFit, ShapeFits, StopFits}
 use Rattle.hwp_law.specs.Acting.{acting_script, copied_at}
 use Rattle.hwp_law.specs.Private.{ArePrivate}
+use Rattle.hwp_law.specs.Guests.{AreGuestsKept}
+use Rattle.hwp_check_rules.specs.GuestFaults.{IsGuestFault}
 use Rattle.hwp_check_rules.specs.Firsts.{IsFirstFault}
 use Rattle.hwp_law.specs.hwp_geom.declared.VSlot.{VSlot}
 use Rattle.hwp_law.specs.hwp_geom.declared.Who.{Who}
@@ -52,13 +54,13 @@ IsFaultBy Losses script copies report line = IsLossFault script report line
 IsFaultBy Stop script copies report line = IsStopFault script report line
 IsFaultBy Frames script copies report line = IsFrameFault script report line
 
--- a report is judged by the script that its processors acted on; and the rule of answers is also that of private words
+-- a report is judged by the script that its processors acted on; and the rule of answers is also that of private words and of guests
 abbrev pub Holds : Rule → Script → Report → Type 0
-Holds Answers script report = AnswersFit (acting_script script report) (copied_at script report) report × ArePrivate script report
+Holds Answers script report = AnswersFit (acting_script script report) (copied_at script report) report × ArePrivate script report × AreGuestsKept script report
 Holds rule script report = Fits rule (acting_script script report) (copied_at script report) report
 
 abbrev pub IsFault : Rule → Script → Report → ℕ → Type 0
-IsFault Answers script report line = IsAnswerFault (acting_script script report) (copied_at script report) report line ⊎ IsPrivateFault script report line
+IsFault Answers script report line = IsAnswerFault (acting_script script report) (copied_at script report) report line ⊎ IsPrivateFault script report line ⊎ IsGuestFault script report line
 IsFault rule script report line = IsFaultBy rule (acting_script script report) (copied_at script report) report line
 
 -- the rules of lower numbers hold

@@ -12,18 +12,18 @@ mod verdicts;
 
 pub use first::{sooner, sooner_if, soonest};
 pub use hwp_check_events::{
-    ActedScript, Misfits, Shown, acted_on, checkers_of, copy_of, events_by_command, freezes_slot,
-    has_fork, pairs_of, processor_faults, small_masks,
+    ActedScript, Misfits, Shown, acted_on, answers_to, checkers_of, copy_of, events_by_command,
+    freezes_slot, has_fork, pairs_of, processor_faults, small_masks,
 };
 pub use hwp_law::{
-    Acted, Answer, At, Code, Command, Cpu, CpuLine, Entry, EventLine, FileNo, Frame, FrameLine,
-    How, Layout, Line, List, MarkLine, Mask, McgBits, Met, Mode, OfflineResult, OfflinedLine,
-    OutOfMemory, Outcome, Page, PageKind, PageState, Policy, PrctlArgs, Proc, ReadScript, Reply,
-    Report, Script, Seen, Signal, Situation, Stop, StopCause, Text, Thread, VSlot, Version, What,
-    Whereabouts, Who, is_text, prctl, read, words_in,
+    Access, Acted, Admit, Answer, At, Code, Command, Cpu, CpuLine, Entry, EventLine, FileNo, Frame,
+    FrameLine, GuestLine, How, Layout, Line, List, MarkLine, Mask, McgBits, Met, Mode,
+    OfflineResult, OfflinedLine, OutOfMemory, Outcome, Page, PageKind, PageState, Policy,
+    PrctlArgs, Proc, ReadScript, Reply, Report, Script, Seen, Signal, Situation, Stop, StopCause,
+    Text, Thread, VSlot, Version, What, Whereabouts, Who, is_text, prctl, read, words_in,
 };
 pub use making::{command_of, has_watch, is_made_by, leads_to, watches};
-pub use pasts::{ThreadPolicies, done_of, dones_of, pasts_of};
+pub use pasts::{ThreadPolicies, done_of, pasts_of};
 pub use policies::policy_before;
 pub use rows::{answer_among, answer_of, commands_of, is_answer, rows_of, rows_on};
 pub use standing::{

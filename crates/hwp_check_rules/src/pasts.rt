@@ -1,8 +1,8 @@
-ghost use Rattle.std.specs.Prelude.{◌≡◌, ◌<◌, ◌≤◌, ◌+◌, ◌++◌, Some, false, filter_map, is_some, length, slice_index_or, IfOk, OnOk};
+ghost use Rattle.std.specs.Prelude.{◌≡◌, ◌<◌, ◌≤◌, ◌+◌, ◌++◌, Some, is_some, length, IfOk, OnOk};
 ghost use Rattle.std.specs.Int.{from_bool};
 ghost use Rattle.std.specs.Option.{option_to_list};
 ghost use Rattle.hwp_law.specs.SeenPolicies.{cpu_of_thread};
-ghost use Rattle.hwp_check_rules.specs.Pasts.{AreCounts, AreDone, AreDoneInOrder, ArePasts, IsPast, done_in, noted, set_if, settings_by};
+ghost use Rattle.hwp_check_rules.specs.Pasts.{AreCounts, AreDone, ArePasts, IsPast, noted, set_if, settings_by};
 
 use crate::policies::set_if;
 use crate::rows::{commands_of, rows_on};
@@ -41,51 +41,6 @@ pub fn done_of(alloc: Global, count: usize, rows: &[CpuLine]) -> Result<Vec<bool
     flags.resize(count, false)?;
     for back in 0..rows.len() {
         note(&mut flags, &rows[rows.len() - 1 - back]);
-    }
-    Ok(flags)
-}
-
-/// Adds whether the line's answer is `done`, where the line is one.
-fn add_done(flags: &mut Vec<bool>, row: &CpuLine) -> Result<(), OutOfMemory>
-    ensures { OnOk result (flags.new.items ≡ flags.old.items ++ option_to_list (done_in row.now)) }
-{
-    if let CpuLine::Answer { answer, .. } = row {
-        flags.push(matches!(answer, Answer::Done))?;
-    }
-    Ok(())
-}
-
-/// Which of the lines' answers are `done`, in order.
-#[tactic(auto, using(crate::proofs::PastLaws::dones_more))]
-fn dones(alloc: Global, rows: &[CpuLine]) -> Result<Vec<bool>, OutOfMemory>
-    ensures { IfOk result (λ flags. flags.items ≡ filter_map done_in rows.now) }
-{
-    let mut flags = Vec::new(alloc);
-    for row in rows {
-        add_done(&mut flags, row)?;
-    }
-    Ok(flags)
-}
-
-/// The flag with this number, where there is one.
-fn flag_at(flags: &[bool], number: usize) -> bool
-    ensures { result ≡ slice_index_or flags.now number false }
-{
-    match flags.get(number) {
-        Some(flag) => *flag,
-        None => false,
-    }
-}
-
-/// Of which of so many commands the answer is `done`, where the answers are theirs in order.
-pub fn dones_of(alloc: Global, count: usize, rows: &[CpuLine]) -> Result<Vec<bool>, OutOfMemory>
-    ensures count { IfOk result (λ flags. length flags.items ≡ count) }
-    ensures done { IfOk result (λ flags. AreDoneInOrder rows.now flags.items) }
-{
-    let told = dones(alloc, rows)?;
-    let mut flags = Vec::new(alloc);
-    for number in 0..count {
-        flags.push(flag_at(told.as_slice(), number))?;
     }
     Ok(flags)
 }
@@ -165,7 +120,7 @@ fn past_of(
     ensures { IfOk result (λ past. IsPast script.now report.now thread past) }
 {
     let commands = commands_of(script, cpu);
-    let flags = dones_of(alloc, commands.len(), rows_on(report, cpu))?;
+    let flags = done_of(alloc, commands.len(), rows_on(report, cpu))?;
     let layout = &script.layout;
     let policies = policies_of(alloc, layout, thread, commands, flags.as_slice())?;
     let done = counts_of(alloc, layout, thread, commands, flags.as_slice())?;

@@ -1,5 +1,6 @@
 -- A processor's lines, gone through, show the first line of a file of which an answer told a wrong number.
 use Rattle.std.proofs.Common.{◌≡◌, ◌⊎◌, inl, inr, ℕ, zero, suc, ◌+◌, ◌-◌, ◌^◌, ◌<◌, ◌≤◌, ◌==◌, ◌&&◌, not, Bool, true, false, cond, nat_le, nat_lt, List, [], ◌∷◌, Option, Some, None, get_or, length, replicate, set, slice_get, take, refl, sym, ap, ◌∙◌, subst, true≢false, add-one, arith}
+use Rattle.std.specs.List.{zip}
 use Rattle.std.proofs.lemmas.Bool.{cases_eq, cases_lt, eq-eqb, eqb-true, ne_eqb, le-leb, lt-leb, lt-ltb, ltb-true}
 use Rattle.std.proofs.lemmas.List.{get_or-replicate, get_or-set_other, get_or-set_same, length-replicate, length-set}
 use Rattle.std.proofs.lemmas.Option.{none-some, same_Some}
@@ -18,6 +19,7 @@ use Rattle.hwp_check_rules.specs.hwp_law.Causes.{AreCaused}
 use Rattle.hwp_check_rules.specs.hwp_law.Lines.{answered}
 use Rattle.hwp_check_rules.specs.hwp_law.Losses.{is_lost, is_lost_before, losses_such, number_by, numbers_after, tells_number}
 use Rattle.hwp_check_rules.specs.Firsts.{soonest}
+use Rattle.hwp_check_rules.proofs.of_hwp_law.AnswersInOrder.{answers_in, in-order}
 use Rattle.hwp_check_state.specs.declared.told.Told.{Told}
 use Rattle.hwp_check_state.specs.Handles.{IsFirst, IsToldWrong}
 use Rattle.hwp_check_state.specs.Told.{capped, fault_by, is_good, number_with, raised_by, telling, telling_all, told_by, told_to, walk}
@@ -277,21 +279,25 @@ module _ (script : Script) (report : Report) (room : (file : FileNo) → losses_
           | inr most ↦ inr (at-last line (last n line p there w most))
         ]
 
+    -- commands with the answers of lines in order
+    abbrev in_turn : List Command → List CpuLine → List (Command × Answer)
+    in_turn cs rows = zip cs (answers_in rows)
+
     -- the lines from one on, where n answers stand before them
     walk-first : (n : ℕ) (cs : List Command) (rows : List CpuLine) (numbers : List ℕ) (found : Option ℕ) → AreCaused script report cpu n cs rows
-        → ((k : ℕ) → slice_get list (n + k) ≡ slice_get cs k) → ((k : ℕ) → slice_get {X = Command × Answer} full (n + k) ≡ slice_get {X = Command × Answer} (answered cs rows) k)
-        → n + length (answered cs rows) ≡ length full → AreNumbers numbers n → IsFirst (IsWrongIn n) found → IsFirst (IsWrongIn (length full)) (walk script report cpu list numbers found rows)
+        → ((k : ℕ) → slice_get list (n + k) ≡ slice_get cs k) → ((k : ℕ) → slice_get {X = Command × Answer} full (n + k) ≡ slice_get {X = Command × Answer} (in_turn cs rows) k)
+        → n + length (in_turn cs rows) ≡ length full → AreNumbers numbers n → IsFirst (IsWrongIn n) found → IsFirst (IsWrongIn (length full)) (walk script report cpu list numbers found rows)
     walk-first n [] [] numbers found caused left pairs end are first = let same : n ≡ length full = omega (arith, end) in subst (λ (m : ℕ). IsFirst (IsWrongIn m) found) same first
     walk-first n [] (r ∷ rows) numbers found caused left pairs end are first = absurd caused
     walk-first n (c ∷ cs) [] numbers found caused left pairs end are first = absurd caused
     walk-first n (c ∷ cs) (lines.Event event ∷ rows) numbers found caused left pairs end are first = walk-first n (c ∷ cs) rows numbers found caused.1 left pairs end are first
     walk-first n (c ∷ cs) (lines.Offlined offlined ∷ rows) numbers found caused left pairs end are first = walk-first n (c ∷ cs) rows numbers found caused.2 left pairs end are first
-    walk-first n (c ∷ cs) (lines.Guest guest ∷ rows) numbers found caused left pairs end are first = absurd caused
+    walk-first n (c ∷ cs) (lines.Guest guest ∷ rows) numbers found caused left pairs end are first = walk-first n (c ∷ cs) rows numbers found caused.2 left pairs end are first
     walk-first n (c ∷ cs) (lines.Answer s a ∷ rows) numbers found caused left pairs end are first =
         subst (IsFirst (IsWrongIn (length full))) (sym here)
         (walk-first (n + 1) cs rows (raised_by numbers (told_by c a)) (soonest found (fault_by script report (who n) numbers (told_by c a))) caused.3
         (λ k. ap (slice_get list) (later k) ∙ left (suc k)) (λ k. ap (λ (i : ℕ). slice_get {X = Command × Answer} full i) (later k) ∙ pairs (suc k))
-        (let all : n + suc (length (answered cs rows)) ≡ length full = end in omega (arith, all)) (numbers-next numbers n (c, a) there are (told_by c a) refl) (wrong-next numbers n (c, a) found there are first (told_by c a) refl))
+        (let all : n + suc (length (in_turn cs rows)) ≡ length full = end in omega (arith, all)) (numbers-next numbers n (c, a) there are (told_by c a) refl) (wrong-next numbers n (c, a) found there are first (told_by c a) refl))
       where
         later : (k : ℕ) → n + 1 + k ≡ n + suc k
         later k = omega arith
@@ -315,5 +321,9 @@ module _ (script : Script) (report : Report) (room : (file : FileNo) → losses_
   pub told-first : (list : List Command) (rows : List CpuLine) → AreCaused script report cpu 0 list rows
       → IsFirst (IsToldWrong script report cpu (answered list rows) (length (answered list rows))) (walk script report cpu list (replicate script.layout.files 0) None rows)
   told-first list rows caused =
-      walk-first list rows 0 list rows (replicate script.layout.files 0) None caused (λ k. ap (slice_get list) (from-none k)) (λ k. ap (λ (i : ℕ). slice_get {X = Command × Answer} (answered list rows) i) (from-none k)) (from-none (length (answered list rows)))
+      walk-first list rows 0 list rows (replicate script.layout.files 0) None caused (λ k. ap (slice_get list) (from-none k)) (λ k. ap (λ (i : ℕ). slice_get {X = Command × Answer} (answered list rows) i) (from-none k) ∙ ap (λ (l : List (Command × Answer)). slice_get {X = Command × Answer} l k) pairs)
+      (from-none (length (zip list (answers_in rows))) ∙ ap (λ (l : List (Command × Answer)). length l) (sym pairs))
       (record { many = length-replicate script.layout.files 0; each = λ file within. get_or-replicate script.layout.files file.0 0 0 within }) (λ line w. let less : w.place < 0 = w.before in absurd (omega (arith, less)))
+    where
+      pairs : answered list rows ≡ zip list (answers_in rows)
+      pairs = ap (zip list) (in-order script report cpu list rows caused)

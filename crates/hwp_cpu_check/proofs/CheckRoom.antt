@@ -2,7 +2,7 @@
 use Rattle.std.proofs.Common.{◌≡◌, ℕ, ◌+◌, ◌≤◌, Option, length, map, ap, arith}
 use Rattle.std.proofs.lemmas.List.{length-append, length-map}
 use Rattle.hwp_banks.specs.Events.{bank_count}
-use Rattle.hwp_claim_frame.specs.hwp_page.History.{BodyValue}
+use Rattle.hwp_claim.specs.hwp_claim_frame.hwp_page.History.{BodyValue}
 use Rattle.hwp_cpu_check.specs.Fits.{AreFound, events_of}
 use Rattle.hwp_cpu_check.specs.Handlers.{Shows, ShowsWithin, bare}
 use Rattle.hwp_cpu_check.specs.Queue.{Queue}

@@ -8,10 +8,10 @@ use Rattle.std.proofs.lemmas.Option.{none-some, same_Some}
 use Rattle.hwp_banks.specs.hwp_geom.declared.Layout.{Layout}
 use Rattle.hwp_banks.specs.hwp_geom.declared.Thread.{Thread}
 use Rattle.hwp_banks.specs.hwp_geom.declared.Who.{Who}
-use Rattle.hwp_claim_frame.specs.hwp_page.History.{BodyValue}
-use Rattle.hwp_claim_frame.specs.hwp_core_rule.declared.View.{View}
-use Rattle.hwp_claim_frame.specs.hwp_core_rule.Words.{Words}
-use Rattle.hwp_claim_frame.specs.hwp_core_task.declared.Turn.{Turn}
+use Rattle.hwp_claim.specs.hwp_claim_frame.hwp_page.History.{BodyValue}
+use Rattle.hwp_claim.specs.hwp_claim_frame.hwp_core_rule.declared.View.{View}
+use Rattle.hwp_claim.specs.hwp_claim_frame.hwp_core_rule.Words.{Words}
+use Rattle.hwp_claim.specs.hwp_claim_frame.hwp_core_task.declared.Turn.{Turn}
 use Rattle.hwp_law_commands.specs.hwp_report_text.declared.Acted.{Acted}
 use Rattle.hwp_law_commands.specs.hwp_report_text.Acts.{is_panic}
 use Rattle.hwp_banks.specs.Banks.{Banks}

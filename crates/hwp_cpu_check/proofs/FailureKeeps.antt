@@ -6,23 +6,23 @@ use Rattle.hwp_banks.specs.hwp_geom.declared.Frame.{Frame}
 use Rattle.hwp_banks.specs.hwp_geom.declared.Layout.{Layout}
 use Rattle.hwp_banks.specs.hwp_geom.declared.Thread.{Thread}
 use Rattle.hwp_banks.specs.hwp_geom.declared.Who.{Who}
-use Rattle.hwp_claim_frame.specs.hwp_page.declared.At.{At}
-use Rattle.hwp_claim_frame.specs.hwp_page.declared.What.TheVariants as entries
-use Rattle.hwp_claim_frame.specs.hwp_page.History.{BodyValue}
-use Rattle.hwp_claim_frame.specs.hwp_core_rule.declared.Log.{Log}
-use Rattle.hwp_claim_frame.specs.hwp_core_rule.declared.Made.{Made}
-use Rattle.hwp_claim_frame.specs.hwp_core_rule.declared.Mark.{Mark}
-use Rattle.hwp_claim_frame.specs.hwp_core_rule.declared.Step.{Step}
-use Rattle.hwp_claim_frame.specs.hwp_core_rule.declared.View.{View}
-use Rattle.hwp_claim_frame.specs.hwp_core_rule.Lists.{SomeMember}
-use Rattle.hwp_claim_frame.proofs.of_hwp_core_rule.Lists.{at_longer, some-last, some-push}
-use Rattle.hwp_claim_frame.specs.hwp_core_task.Calls.{Steps}
-use Rattle.hwp_claim_frame.specs.hwp_core_task.Known.{IsAt, deeds}
-use Rattle.hwp_claim_frame.proofs.of_hwp_core_task.SightKeeps.{saw-stays}
+use Rattle.hwp_claim.specs.hwp_claim_frame.hwp_page.declared.At.{At}
+use Rattle.hwp_claim.specs.hwp_claim_frame.hwp_page.declared.What.TheVariants as entries
+use Rattle.hwp_claim.specs.hwp_claim_frame.hwp_page.History.{BodyValue}
+use Rattle.hwp_claim.specs.hwp_claim_frame.hwp_core_rule.declared.Log.{Log}
+use Rattle.hwp_claim.specs.hwp_claim_frame.hwp_core_rule.declared.Made.{Made}
+use Rattle.hwp_claim.specs.hwp_claim_frame.hwp_core_rule.declared.Mark.{Mark}
+use Rattle.hwp_claim.specs.hwp_claim_frame.hwp_core_rule.declared.Step.{Step}
+use Rattle.hwp_claim.specs.hwp_claim_frame.hwp_core_rule.declared.View.{View}
+use Rattle.hwp_claim.specs.hwp_claim_frame.hwp_core_rule.Lists.{SomeMember}
+use Rattle.hwp_claim.proofs.of_hwp_claim_frame.of_hwp_core_rule.Lists.{at_longer, some-last, some-push}
+use Rattle.hwp_claim.specs.hwp_claim_frame.hwp_core_task.Calls.{Steps}
+use Rattle.hwp_claim.specs.hwp_claim_frame.hwp_core_task.Known.{IsAt, deeds}
+use Rattle.hwp_claim.proofs.of_hwp_claim_frame.of_hwp_core_task.SightKeeps.{saw-stays}
 use Rattle.hwp_claim.specs.hwp_claim_act.declared.Failed.{Failed}
 use Rattle.hwp_claim.specs.hwp_claim_act.Abandoned.{AddsFailure}
-use Rattle.hwp_claim_frame.specs.Claims.{SawPoison, is_own, marks_by}
-use Rattle.hwp_claim_frame.specs.Done.{Grows, Marking, marking_of}
+use Rattle.hwp_claim.specs.hwp_claim_frame.Claims.{SawPoison, is_own, marks_by}
+use Rattle.hwp_claim.specs.hwp_claim_frame.Done.{Grows, Marking, marking_of}
 use Rattle.hwp_law_commands.specs.hwp_report_text.declared.Acted.{Acted}
 use Rattle.hwp_law_commands.specs.hwp_report_text.Acts.{is_panic}
 use Rattle.hwp_claim.specs.declared.FailAnswer.{FailAnswer}

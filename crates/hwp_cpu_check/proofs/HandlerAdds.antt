@@ -7,19 +7,19 @@ use Rattle.hwp_banks.specs.hwp_geom.declared.Frame.{Frame}
 use Rattle.hwp_banks.specs.hwp_geom.declared.Layout.{Layout}
 use Rattle.hwp_banks.specs.hwp_geom.declared.Thread.{Thread}
 use Rattle.hwp_banks.specs.hwp_geom.declared.Who.{Who}
-use Rattle.hwp_claim_frame.specs.hwp_page.History.{BodyValue}
-use Rattle.hwp_claim_frame.specs.hwp_words.Stops.{is_stopped}
-use Rattle.hwp_claim_frame.specs.hwp_core_rule.declared.Mark.{Mark}
-use Rattle.hwp_claim_frame.specs.hwp_core_rule.declared.Step.{Step}
-use Rattle.hwp_claim_frame.specs.hwp_core_rule.declared.Step.TheVariants as steps
-use Rattle.hwp_claim_frame.specs.hwp_core_rule.declared.View.{View}
-use Rattle.hwp_claim_frame.specs.hwp_core_task.declared.Turn.{Turn}
-use Rattle.hwp_claim_frame.specs.hwp_core_task.Calls.{Steps, logs}
-use Rattle.hwp_claim_frame.proofs.of_hwp_core_task.StepLeaves.{steps-planned}
-use Rattle.hwp_claim_frame.proofs.of_hwp_core_task.MadeEntries.{deeds-same}
+use Rattle.hwp_claim.specs.hwp_claim_frame.hwp_page.History.{BodyValue}
+use Rattle.hwp_claim.specs.hwp_claim_frame.hwp_words.Stops.{is_stopped}
+use Rattle.hwp_claim.specs.hwp_claim_frame.hwp_core_rule.declared.Mark.{Mark}
+use Rattle.hwp_claim.specs.hwp_claim_frame.hwp_core_rule.declared.Step.{Step}
+use Rattle.hwp_claim.specs.hwp_claim_frame.hwp_core_rule.declared.Step.TheVariants as steps
+use Rattle.hwp_claim.specs.hwp_claim_frame.hwp_core_rule.declared.View.{View}
+use Rattle.hwp_claim.specs.hwp_claim_frame.hwp_core_task.declared.Turn.{Turn}
+use Rattle.hwp_claim.specs.hwp_claim_frame.hwp_core_task.Calls.{Steps, logs}
+use Rattle.hwp_claim.proofs.of_hwp_claim_frame.of_hwp_core_task.StepLeaves.{steps-planned}
+use Rattle.hwp_claim.proofs.of_hwp_claim_frame.of_hwp_core_task.MadeEntries.{deeds-same}
 use Rattle.hwp_claim.specs.hwp_claim_act.declared.Failed.{Failed}
 use Rattle.hwp_claim.specs.hwp_claim_act.Abandoned.{AddsFailure}
-use Rattle.hwp_claim_frame.specs.Done.{Grows, Marking, counts_owed, marking_of}
+use Rattle.hwp_claim.specs.hwp_claim_frame.Done.{Grows, Marking, counts_owed, marking_of}
 use Rattle.hwp_claim.specs.declared.fail.Fail.{Fail}
 use Rattle.hwp_claim.specs.declared.fail.FailAt.{FailAt}
 use Rattle.hwp_claim.specs.declared.fail.FailAt.TheVariants as fail_at

@@ -5,23 +5,23 @@ use Rattle.std.proofs.lemmas.List.{length-append}
 use Rattle.std.proofs.lemmas.Option.{none-some, same_Some}
 use Rattle.hwp_banks.specs.hwp_geom.declared.Frame.{Frame}
 use Rattle.hwp_banks.specs.hwp_geom.declared.Layout.{Layout}
-use Rattle.hwp_claim_frame.specs.hwp_words.Stops.{is_stopped}
-use Rattle.hwp_claim_frame.specs.hwp_core_rule.declared.State.{State}
-use Rattle.hwp_claim_frame.specs.hwp_core_rule.declared.Step.{Step}
-use Rattle.hwp_claim_frame.specs.hwp_core_rule.declared.Step.TheVariants as steps
-use Rattle.hwp_claim_frame.specs.hwp_core_rule.declared.View.{View}
-use Rattle.hwp_claim_frame.specs.hwp_core_rule.Moves.{Move}
-use Rattle.hwp_claim_frame.specs.hwp_core_rule.Rule.{Holds}
-use Rattle.hwp_claim_frame.specs.hwp_core_rule.Lasting.{IsMild, LeavesPoison}
-use Rattle.hwp_claim_frame.specs.hwp_core_rule.Words.{Words}
-use Rattle.hwp_claim_frame.specs.hwp_core_task.declared.Turn.{Turn}
-use Rattle.hwp_claim_frame.specs.hwp_core_task.declared.Turn.TheVariants.{Moved, Changed, NoMemory}
-use Rattle.hwp_claim_frame.specs.hwp_core_task.Boards.{view_of}
-use Rattle.hwp_claim_frame.specs.hwp_core_task.Calls.{logs, rec_of}
-use Rattle.hwp_claim_frame.specs.hwp_core_task.Classes.{TellsClass}
-use Rattle.hwp_claim_frame.specs.hwp_core_task.Ranks.{CostFalls, HasFailed, HasFrame, HasPage, IsRanked, Made, OtherHand, Pending, Quiet, failure_weight, failures_left, is_refused, is_waits, top, words_at}
-use Rattle.hwp_claim_frame.proofs.of_hwp_core_task.StepRanks.{part-made, pending-kept}
-use Rattle.hwp_claim_frame.proofs.of_hwp_core.TaskTells.{no-frame, no-page}
+use Rattle.hwp_claim.specs.hwp_claim_frame.hwp_words.Stops.{is_stopped}
+use Rattle.hwp_claim.specs.hwp_claim_frame.hwp_core_rule.declared.State.{State}
+use Rattle.hwp_claim.specs.hwp_claim_frame.hwp_core_rule.declared.Step.{Step}
+use Rattle.hwp_claim.specs.hwp_claim_frame.hwp_core_rule.declared.Step.TheVariants as steps
+use Rattle.hwp_claim.specs.hwp_claim_frame.hwp_core_rule.declared.View.{View}
+use Rattle.hwp_claim.specs.hwp_claim_frame.hwp_core_rule.Moves.{Move}
+use Rattle.hwp_claim.specs.hwp_claim_frame.hwp_core_rule.Rule.{Holds}
+use Rattle.hwp_claim.specs.hwp_claim_frame.hwp_core_rule.Lasting.{IsMild, LeavesPoison}
+use Rattle.hwp_claim.specs.hwp_claim_frame.hwp_core_rule.Words.{Words}
+use Rattle.hwp_claim.specs.hwp_claim_frame.hwp_core_task.declared.Turn.{Turn}
+use Rattle.hwp_claim.specs.hwp_claim_frame.hwp_core_task.declared.Turn.TheVariants.{Moved, Changed, NoMemory}
+use Rattle.hwp_claim.specs.hwp_claim_frame.hwp_core_task.Boards.{view_of}
+use Rattle.hwp_claim.specs.hwp_claim_frame.hwp_core_task.Calls.{logs, rec_of}
+use Rattle.hwp_claim.specs.hwp_claim_frame.hwp_core_task.Classes.{TellsClass}
+use Rattle.hwp_claim.specs.hwp_claim_frame.hwp_core_task.Ranks.{CostFalls, HasFailed, HasFrame, HasPage, IsRanked, Made, OtherHand, Pending, Quiet, failure_weight, failures_left, is_refused, is_waits, top, words_at}
+use Rattle.hwp_claim.proofs.of_hwp_claim_frame.of_hwp_core_task.StepRanks.{part-made, pending-kept}
+use Rattle.hwp_claim.proofs.of_hwp_claim_frame.of_hwp_core.TaskTells.{no-frame, no-page}
 use Rattle.hwp_claim.specs.declared.fail.Fail.{Fail}
 use Rattle.hwp_claim.specs.declared.fail.FailAt.{FailAt}
 use Rattle.hwp_claim.specs.declared.fail.FailAt.TheVariants as fail_at
@@ -29,7 +29,7 @@ use Rattle.hwp_claim.specs.declared.FailAnswer.{FailAnswer}
 use Rattle.hwp_claim.specs.Fails as fails
 use Rattle.hwp_claim.proofs.FailRank.{fail-lasting, fail-ranked, fail-small}
 use Rattle.hwp_claim.proofs.FailTells.{fail-tells-class}
-use Rattle.hwp_claim_frame.specs.Claims.{stop_turn}
+use Rattle.hwp_claim.specs.hwp_claim_frame.Claims.{stop_turn}
 use Rattle.hwp_cpu_check.specs.Fits.{Fits, FitsAt, events_of, task as handler-task}
 use Rattle.hwp_cpu_check.specs.Handlers.{Follows, FollowsAt, aborts, aborts_at, after_fail, after_fail_by, after_stop, bare, bare_at, claims, claims_at, class, class_at, cost, cost_with, ended_by, plan, plan_at, put_at}
 use Rattle.hwp_cpu_check.specs.Told.{told_by}

@@ -2,11 +2,11 @@
 -- counts that it owes.
 use Rattle.std.specs.Prelude.{◌≡◌, ℕ, ◌+◌, true, List, [], ◌++◌, Option, Some, None, filter_map, option_map}
 use Rattle.hwp_banks.specs.hwp_geom.declared.Thread.{Thread}
-use Rattle.hwp_claim_frame.specs.hwp_core_rule.declared.Mark.{Mark}
-use Rattle.hwp_claim_frame.specs.hwp_core_rule.declared.View.{View}
+use Rattle.hwp_claim.specs.hwp_claim_frame.hwp_core_rule.declared.Mark.{Mark}
+use Rattle.hwp_claim.specs.hwp_claim_frame.hwp_core_rule.declared.View.{View}
 use Rattle.hwp_claim.specs.hwp_claim_act.declared.Failed.{Failed}
 use Rattle.hwp_claim.specs.hwp_claim_act.Abandoned.{AddsFailure}
-use Rattle.hwp_claim_frame.specs.Done.{Grows, Marking, counts_owed, marking_of, poisoning}
+use Rattle.hwp_claim.specs.hwp_claim_frame.Done.{Grows, Marking, counts_owed, marking_of, poisoning}
 use Rattle.hwp_claim.specs.declared.Found.{Found}
 use Rattle.hwp_claim.specs.Done as fail_done
 use Rattle.hwp_claim.specs.Done.{entered_by}

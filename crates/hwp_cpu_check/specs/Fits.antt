@@ -7,22 +7,22 @@ use Rattle.hwp_banks.specs.hwp_geom.declared.Thread.{Thread}
 use Rattle.hwp_banks.specs.hwp_geom.declared.Who.{Who}
 use Rattle.hwp_banks.specs.hwp_geom.Layout.{IsSound}
 use Rattle.hwp_banks.specs.Events.{bank_count}
-use Rattle.hwp_claim_frame.specs.hwp_kill.declared.Seen.{Seen}
-use Rattle.hwp_claim_frame.specs.hwp_kill.declared.Signal.{Signal}
-use Rattle.hwp_claim_frame.specs.hwp_page.declared.At.{At}
-use Rattle.hwp_claim_frame.specs.hwp_page.declared.What.TheVariants as entries
-use Rattle.hwp_claim_frame.specs.hwp_page.Situations.{outcome_of}
-use Rattle.hwp_claim_frame.specs.hwp_core_rule.declared.Mark.{Mark}
-use Rattle.hwp_claim_frame.specs.hwp_core_rule.declared.MarkKind.TheVariants as mark_kinds
-use Rattle.hwp_claim_frame.specs.hwp_core_rule.declared.View.{View}
-use Rattle.hwp_claim_frame.specs.hwp_core_rule.Lists.{SomeMember}
-use Rattle.hwp_claim_frame.specs.hwp_core_task.Calls.{IsOnTurn}
-use Rattle.hwp_claim_frame.specs.hwp_core_task.Hands.{hand_of, empty}
-use Rattle.hwp_claim_frame.specs.hwp_core_task.Known.{IsAt, deeds}
-use Rattle.hwp_claim_frame.specs.hwp_core_task.Turns.{Member}
+use Rattle.hwp_claim.specs.hwp_claim_frame.hwp_kill.declared.Seen.{Seen}
+use Rattle.hwp_claim.specs.hwp_claim_frame.hwp_kill.declared.Signal.{Signal}
+use Rattle.hwp_claim.specs.hwp_claim_frame.hwp_page.declared.At.{At}
+use Rattle.hwp_claim.specs.hwp_claim_frame.hwp_page.declared.What.TheVariants as entries
+use Rattle.hwp_claim.specs.hwp_claim_frame.hwp_page.Situations.{outcome_of}
+use Rattle.hwp_claim.specs.hwp_claim_frame.hwp_core_rule.declared.Mark.{Mark}
+use Rattle.hwp_claim.specs.hwp_claim_frame.hwp_core_rule.declared.MarkKind.TheVariants as mark_kinds
+use Rattle.hwp_claim.specs.hwp_claim_frame.hwp_core_rule.declared.View.{View}
+use Rattle.hwp_claim.specs.hwp_claim_frame.hwp_core_rule.Lists.{SomeMember}
+use Rattle.hwp_claim.specs.hwp_claim_frame.hwp_core_task.Calls.{IsOnTurn}
+use Rattle.hwp_claim.specs.hwp_claim_frame.hwp_core_task.Hands.{hand_of, empty}
+use Rattle.hwp_claim.specs.hwp_claim_frame.hwp_core_task.Known.{IsAt, deeds}
+use Rattle.hwp_claim.specs.hwp_claim_frame.hwp_core_task.Turns.{Member}
 use Rattle.hwp_claim.specs.hwp_claim_act.Abandoned.{IsOfPage}
 use Rattle.hwp_claim.specs.hwp_claim_act.Abandons.{signals_now}
-use Rattle.hwp_claim_frame.specs.Claims.{IsStopped, SawPoison, marks_by}
+use Rattle.hwp_claim.specs.hwp_claim_frame.Claims.{IsStopped, SawPoison, marks_by}
 use Rattle.hwp_law_commands.specs.hwp_report_text.declared.Acted.{Acted}
 use Rattle.hwp_law_commands.specs.hwp_report_text.declared.Acted.TheVariants as acts
 use Rattle.hwp_law_commands.specs.hwp_report_text.Acts.{is_panic}

@@ -5,14 +5,14 @@ use Rattle.hwp_banks.specs.hwp_geom.declared.Frame.{Frame}
 use Rattle.hwp_banks.specs.hwp_geom.declared.Layout.{Layout}
 use Rattle.hwp_banks.specs.hwp_geom.declared.Thread.{Thread}
 use Rattle.hwp_banks.specs.hwp_geom.declared.Who.{Who}
-use Rattle.hwp_claim_frame.specs.hwp_page.History.{BodyValue}
-use Rattle.hwp_claim_frame.specs.hwp_words.Stops.{is_stopped}
-use Rattle.hwp_claim_frame.specs.hwp_core_rule.declared.Step.{Step}
-use Rattle.hwp_claim_frame.specs.hwp_core_rule.declared.Step.TheVariants as steps
-use Rattle.hwp_claim_frame.specs.hwp_core_rule.Words.{Words}
-use Rattle.hwp_claim_frame.specs.hwp_core_task.declared.Turn.{Turn}
-use Rattle.hwp_claim_frame.specs.hwp_core_task.declared.Turn.TheVariants.{Moved}
-use Rattle.hwp_claim_frame.specs.Claims.{stop_turn}
+use Rattle.hwp_claim.specs.hwp_claim_frame.hwp_page.History.{BodyValue}
+use Rattle.hwp_claim.specs.hwp_claim_frame.hwp_words.Stops.{is_stopped}
+use Rattle.hwp_claim.specs.hwp_claim_frame.hwp_core_rule.declared.Step.{Step}
+use Rattle.hwp_claim.specs.hwp_claim_frame.hwp_core_rule.declared.Step.TheVariants as steps
+use Rattle.hwp_claim.specs.hwp_claim_frame.hwp_core_rule.Words.{Words}
+use Rattle.hwp_claim.specs.hwp_claim_frame.hwp_core_task.declared.Turn.{Turn}
+use Rattle.hwp_claim.specs.hwp_claim_frame.hwp_core_task.declared.Turn.TheVariants.{Moved}
+use Rattle.hwp_claim.specs.hwp_claim_frame.Claims.{stop_turn}
 use Rattle.hwp_law_commands.specs.hwp_report_text.declared.Acted.{Acted}
 use Rattle.hwp_banks.specs.Banks.{Banks}
 use Rattle.hwp_banks.specs.Events.{bank_count}

@@ -6,8 +6,8 @@ use Rattle.hwp_banks.specs.hwp_geom.declared.Frame.{Frame}
 use Rattle.hwp_banks.specs.hwp_geom.declared.Layout.{Layout}
 use Rattle.hwp_banks.specs.hwp_geom.declared.Thread.{Thread}
 use Rattle.hwp_banks.specs.Addresses.{frame_at}
-use Rattle.hwp_claim_frame.specs.hwp_page.declared.At.{At}
-use Rattle.hwp_claim_frame.specs.hwp_page.Situations.{outcome_of}
+use Rattle.hwp_claim.specs.hwp_claim_frame.hwp_page.declared.At.{At}
+use Rattle.hwp_claim.specs.hwp_claim_frame.hwp_page.Situations.{outcome_of}
 use Rattle.hwp_law_commands.specs.hwp_severity.declared.Severity.{Severity}
 use Rattle.hwp_law_commands.specs.hwp_severity.declared.Severity.TheVariants as severities
 use Rattle.hwp_law_commands.specs.hwp_report_text.declared.Acted.{Acted}

@@ -1,6 +1,6 @@
 ghost use Rattle.std.specs.Prelude.{◌≡◌, ◌<◌, ◌==◌, ◌&&◌};
 ghost use Rattle.hwp_banks.specs.Addresses.{frame_at};
-ghost use Rattle.hwp_claim_frame.specs.Claims.{stop_turn};
+ghost use Rattle.hwp_claim.specs.hwp_claim_frame.Claims.{stop_turn};
 ghost use Rattle.hwp_law_commands.specs.hwp_report_text.Acts.{is_panic};
 ghost use Rattle.hwp_law_commands.specs.hwp_severity.Handling.{has_stop};
 ghost use Rattle.hwp_law_commands.specs.Outcomes.{outcome_act};
@@ -10,10 +10,9 @@ ghost use Rattle.hwp_cpu_check.specs.Handlers.{after_stop, answer, at_end, begin
 use crate::events::EventQueue;
 use crate::told::{EventOutcome, Held};
 use hwp_banks::{BANKS, Bank};
-use hwp_claim::{Fail, FailAnswer, Found};
-use hwp_claim_frame::{
-    At, Body, Frame, Layout, Mode, Outcome, Ranked, Scheduled, Step, Task, Thread, Turn, Who,
-    is_stopped,
+use hwp_claim::{
+    At, Body, Fail, FailAnswer, Found, Frame, Layout, Mode, Outcome, Ranked, Scheduled, Step, Task,
+    Thread, Turn, Who, is_stopped,
 };
 use hwp_law_commands::{Acted, McgBits, Severity, handle};
 use std::alloc::Global;

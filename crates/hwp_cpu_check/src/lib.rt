@@ -11,18 +11,17 @@ mod told;
 pub use empty::no_events;
 pub use handler::Handler;
 pub use hwp_banks::{BANKS, Bank, Event, Origin, Status};
-pub use hwp_claim::{FailAnswer, Found, Inject};
-pub use hwp_claim_frame::{
-    At, Board, Body, CacheWord, CounterWord, Cpu, Entry, FileNo, Frame, FrameWord, Kind, Layout,
-    Line, List, Mask, Mode, Ops, OutOfMemory, Page, PageWord, PolicyWord, Proc, ProcessWord, Pte,
-    Ranked, Scheduled, SharedWord, Step, StopWord, Task, Text, Thread, Turn, VSlot, Who, index,
-    is_stopped, lowest_bit,
+pub use hwp_claim::{
+    At, Board, Body, CacheWord, CounterWord, Cpu, Entry, FailAnswer, FileNo, Found, Frame,
+    FrameWord, Inject, Kind, Layout, Line, List, Mask, Mode, Ops, OutOfMemory, Page, PageWord,
+    PolicyWord, Proc, ProcessWord, Pte, Ranked, Scheduled, SharedWord, Step, StopWord, Task, Text,
+    Thread, Turn, VSlot, Who, index, is_stopped, lowest_bit,
 };
 pub use hwp_law_commands::{
-    Acted, Answer, Collector, Command, CpuLine, Decision, EventLine, FrameLine, GuestLine, How,
-    MAX_SCRIPT, MarkLine, McgBits, Noted, OfflineResult, OfflinedLine, PrctlArgs, Report, Script, Stop,
-    StopCause, Version, Whereabouts, grade, handle, is_text, kind_name, policy_word, print,
-    read_number,
+    Access, Acted, Admit, Answer, Collector, Command, CpuLine, Decision, EventLine, FrameLine,
+    Guest, GuestLine, How, MAX_SCRIPT, MarkLine, McgBits, Noted, OfflineResult, OfflinedLine,
+    PrctlArgs, Report, Script, Stop, StopCause, Taken, Version, Whereabouts, grade, handle,
+    is_text, kind_name, policy_word, print, read_number,
 };
 pub use lines::ToldLines;
 pub use told::{EventOutcome, Held};

@@ -4,7 +4,7 @@ ghost use Rattle.hwp_cpu_check.specs.Lines.{no_lines, with_lines};
 
 use crate::told::EventOutcome;
 use hwp_banks::BANKS;
-use hwp_claim_frame::{List, OutOfMemory};
+use hwp_claim::{List, OutOfMemory};
 use std::alloc::Global;
 use std::marker::Model;
 

@@ -269,12 +269,10 @@ fn begin_other(
         Command::Scrub { first, last } => scrub(alloc, who, first, last, banks, job),
         Command::Log { status, addr, misc } => log(who, status, addr, misc, banks, job),
         Command::Watch { threshold, window } => watch(who, threshold, window, banks, job),
-        Command::RaiseUser { .. } | Command::RaiseKernel { .. } | Command::RaiseNested => {
-            begin_raise(alloc, layout, who, command, banks, job)
-        }
         Command::Inject { frame } => inject(alloc, who, frame, job),
         Command::Soft { frame } => soft(who, frame, job),
         Command::Unpoison { frame } => unpoison(who, frame, job),
+        _ => begin_raise(alloc, layout, who, command, banks, job),
     }
 }
 

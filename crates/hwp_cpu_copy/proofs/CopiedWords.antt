@@ -6,6 +6,7 @@ use Rattle.std.proofs.lemmas.List.{get_or_past}
 use Rattle.hwp_cpu_access.specs.hwp_fault.hwp_geom.declared.Layout.{Layout}
 use Rattle.hwp_cpu_access.specs.hwp_fault.hwp_geom.declared.Page.{Page}
 use Rattle.hwp_cpu_access.specs.hwp_fault.hwp_geom.declared.VSlot.{VSlot}
+use Rattle.hwp_cpu_access.specs.hwp_fault.hwp_geom.declared.Who.{Who}
 use Rattle.hwp_cpu_access.specs.hwp_fault.hwp_geom.Limits.{line_limit}
 use Rattle.hwp_cpu_access.specs.hwp_fault.hwp_page.declared.Met.TheVariants.{Word}
 use Rattle.hwp_cpu_access.specs.hwp_fault.hwp_page.declared.What.{What}
@@ -85,8 +86,8 @@ none-stored k a (m ∷ ms) each = ap (λ (o : Option ℕ). later o (word_on k m.
 access-stored : (k : ℕ) {layout : Layout} {view : View} (a : Request) {banks : Banks} (r : Run) (run : IsAccessRun layout view a banks r) → last_stored k r.made ≡ word_on k (what_of a run.mask r.word)
 access-stored k a r run = ap (last_stored k) run.made_is ∙ last-append k run.before (run.last ∷ []) ∙ ap (later (word_on k run.last.entry.what)) (none-stored k a run.before run.such) ∙ later-none (word_on k run.last.entry.what) ∙ ap (word_on k) run.answers.2
 
-free-stored : (k : ℕ) {page : Page} {slot : VSlot} (r : Run) → IsFreeRun page slot r → last_stored k r.made ≡ None
-free-stored k {page} {slot} r run = which run.made_is
+free-stored : (k : ℕ) {layout : Layout} {view : View} {who : Who} {page : Page} {slot : VSlot} (r : Run) → IsFreeRun layout view who page slot r → last_stored k r.made ≡ None
+free-stored k {layout} {view} {who} {page} {slot} r run = which run.made_is
   where
     which : (r.made ≡ []) ⊎ ((m : Made) × (r.made ≡ m ∷ []) × (m.page ≡ page) × (m.entry.what ≡ entries.Free slot)) → last_stored k r.made ≡ None
     which (inl none) = ap (last_stored k) none

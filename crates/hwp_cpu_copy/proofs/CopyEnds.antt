@@ -67,6 +67,7 @@ begins base layout view alloc store x slot page banks collects on sound names ow
     three = three;
     cow_is = refl;
     are = tt;
+    lets = record { halts_none = refl; signals_none = refl };
   };
   at = record {
     since = [];

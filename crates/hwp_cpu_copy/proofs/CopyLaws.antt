@@ -1,13 +1,15 @@
 -- The law of a copy: its steps can be made, and what follows them fits.
-use Rattle.std.proofs.Common.{◌≡◌, inl, inr, ℕ, Bool, true, false, List, [], ◌∷◌, ◌++◌, Option, Some, None, length, append-nil, refl, sym, ap, ◌∙◌, subst}
+use Rattle.std.proofs.Common.{◌≡◌, inl, inr, ℕ, Bool, true, false, List, [], ◌∷◌, ◌++◌, Option, Some, None, length, append-nil, refl, sym, ap, ◌∙◌, subst, arith}
 use Rattle.std.proofs.lemmas.Bool.{both_ways}
 use Rattle.std.proofs.lemmas.List.{append_assoc}
 use Rattle.std.proofs.lemmas.Option.{none-some, same_Some}
 use Rattle.hwp_cpu_access.specs.hwp_fault.hwp_geom.declared.Layout.{Layout}
+use Rattle.hwp_cpu_access.specs.hwp_fault.hwp_geom.declared.Page.{Page}
 use Rattle.hwp_cpu_access.specs.hwp_fault.hwp_geom.declared.VSlot.{VSlot}
 use Rattle.hwp_cpu_access.specs.hwp_fault.hwp_geom.declared.Who.{Who}
 use Rattle.hwp_cpu_access.specs.hwp_fault.hwp_page.declared.At.{At}
 use Rattle.hwp_cpu_access.specs.hwp_fault.hwp_page.History.{BodyValue}
+use Rattle.hwp_cpu_access.specs.hwp_fault.hwp_page.Refusals.{IsUnused}
 use Rattle.hwp_cpu_access.specs.hwp_fault.hwp_core_rule.declared.Log.{Log}
 use Rattle.hwp_cpu_access.specs.hwp_fault.hwp_core_rule.declared.Made.{Made}
 use Rattle.hwp_cpu_access.specs.hwp_fault.hwp_core_rule.declared.Step.{Step}
@@ -17,6 +19,7 @@ use Rattle.hwp_cpu_access.specs.hwp_fault.hwp_core_task.declared.Turn.{Turn}
 use Rattle.hwp_cpu_access.specs.hwp_fault.hwp_core_task.Calls.{CanMake, IsOnTurn, Steps, logs}
 use Rattle.hwp_cpu_access.specs.hwp_fault.hwp_core_task.Hands.{hand_of, empty}
 use Rattle.hwp_cpu_access.specs.hwp_fault.hwp_core_task.Known.{deeds}
+use Rattle.hwp_cpu_access.specs.hwp_fault.hwp_core_task.Pages.{SawState}
 use Rattle.hwp_cpu_access.specs.hwp_fault.hwp_core_task.Turns.{IsTask}
 use Rattle.hwp_cpu_access.proofs.of_hwp_fault.of_hwp_core_task.SightKeeps.{saw-stays}
 use Rattle.hwp_cpu_access.proofs.of_hwp_fault.of_hwp_core_task.StepLeaves.{on-turn-after}
@@ -28,7 +31,9 @@ use Rattle.hwp_evict.specs.declared.evict.EvictAnswer.TheVariants as evict_answe
 use Rattle.hwp_evict.specs.declared.evict.EvictAt.{EvictAt}
 use Rattle.hwp_evict.specs.declared.evict.EvictAt.TheVariants as evict_at
 use Rattle.hwp_evict.specs.declared.evict.Eviction.TheVariants as evictions
-use Rattle.hwp_evict.specs.Evictions.{IsCaused}
+use Rattle.hwp_evict.specs.declared.evict.Refusal.{Refusal}
+use Rattle.hwp_evict.specs.declared.evict.Refusal.TheVariants as refusals
+use Rattle.hwp_evict.specs.Evictions.{IsCaused, IsWhy}
 use Rattle.hwp_evict.specs.Evicts as evicts
 use Rattle.hwp_evict.proofs.EvictLaws as evicting
 use Rattle.hwp_fork.specs.declared.cow.Cow.{Cow}
@@ -84,6 +89,7 @@ runs-kept c runs has made = record {
   three = has.three;
   cow_is = has.cow_is;
   are = runs-stay c.store c.page made (begun c.cow) c.instruction.before.value runs has.are;
+  lets = has.lets;
 }
 
 -- of an access that asks for the same
@@ -100,6 +106,7 @@ runs-with {layout} {view} c k x runs has same = record {
   three = ap (λ (s : Asked). length s.3) same ∙ has.three;
   cow_is = has.cow_is;
   are = subst (λ (s : Asked). AreRuns layout view c.store c.page (begun c.cow) s.3 runs) (sym same) has.are;
+  lets = has.lets;
 }
 
 -- ---- the end of a part
@@ -148,6 +155,9 @@ free-switched c value {slot} = which c.at
     which (cow_at.Store line word) is = absurd (other (subs.Store c.w line word) refl is)
     which cow_at.Last is = absurd (other (subs.Store c.w c.line c.x) refl is)
 
+no-cons : {m : Made} {l : List Made} → m ∷ l ≡ [] → ⊥
+no-cons {m} {l} is = let long : length (m ∷ l) ≡ 0 = ap length is in omega (arith, long)
+
 -- an entry before which the command made none
 none-before : (l : List Made) → EachMember (λ (m : Made). ⊥) l → l ≡ []
 none-before [] none = refl
@@ -185,6 +195,15 @@ module _ (base : List Made) (layout : Layout) (view : View) (c : Copying) (runs 
 
 -- ---- the freeing went on, or has its answer
 
+-- it is refused for a translation that isn't in use, and for nothing else
+unused : {layout : Layout} {view : View} {who : Who} {page : Page} (slot : VSlot) {place : ℕ} (refusal : Refusal) → SawState layout view who page place (IsWhy (evictions.Free slot) refusal) → SawState layout view who page place (IsUnused slot)
+unused slot refusals.NotMapped saw = saw
+unused slot refusals.NotResident saw = absurd saw.such
+unused slot refusals.Locked saw = absurd saw.such
+unused slot refusals.Dirty saw = absurd saw.such
+unused slot refusals.Mapped saw = absurd saw.such
+unused slot (refusals.BadLines mask) saw = absurd saw.such
+
 module _ (base : List Made) (layout : Layout) (view : View) (c : Copying) (runs : List Run) (on : IsOnTurn view c.store.who) (unchecked : checks_in base ≡ 0) (has : HasRun layout view c runs) (stored : At) (e : Evict) (fits : evicts.FitsFrom (base ++ made_by runs) layout view e)
     (evict_is : e ≡ record (evicts.begin c.store.who c.page (evictions.Free c.cow.v)) { at = e.at }) (sub_is : sub_of c.cow ≡ subs.Free c.cow.v) (paid : view.owed.losses ≡ []) (told : HasTold c runs) (going : IsGoing view c.store) (last : IsLastPlace runs stored) where
   caused : {x : EvictAnswer} → evicts.answer e ≡ Some x → (hand_of view ≡ empty) × IsCaused (base ++ made_by runs) layout view c.store.who c.page (evictions.Free c.cow.v) x
@@ -192,7 +211,7 @@ module _ (base : List Made) (layout : Layout) (view : View) (c : Copying) (runs 
 
   -- the same of the copy in another state
   told-in : (x : CopyingAt) → HasTold (record c { at = x }) runs
-  told-in x = record { told_is = told.told_is; banks_are = told.banks_are; lets = told.lets }
+  told-in x = record { told_is = told.told_is; banks_are = told.banks_are }
 
   -- the translation is freed, or wasn't in use: that is the last run
   module _ (entries : List Made) (place : At) (hand_is : hand_of view ≡ empty) (owes : view.owed.losses ≡ []) (made : deeds c.store.who view ≡ (base ++ made_by runs) ++ entries) where
@@ -205,7 +224,7 @@ module _ (base : List Made) (layout : Layout) (view : View) (c : Copying) (runs 
     checks-same : checks_by more ≡ checks_by runs
     checks-same = checks-more runs run ∙ append-nil (checks_by runs)
 
-    freed-fits : IsFreeRun c.page c.cow.v run → FitsFrom base layout view (record c { cow = told_by c.cow 0; at = at.Over (answers.Stored stored) })
+    freed-fits : IsFreeRun layout view c.store.who c.page c.cow.v run → FitsFrom base layout view (record c { cow = told_by c.cow 0; at = at.Over (answers.Stored stored) })
     freed-fits is = record {
       on_turn = on;
       unchecked = unchecked;
@@ -223,6 +242,7 @@ module _ (base : List Made) (layout : Layout) (view : View) (c : Copying) (runs 
         cow_is = ap (λ (x : Cow). told_by x 0) has.cow_is ∙ sym (ap (told_all (begun c.cow)) (words-more runs run) ∙ told-more (begun c.cow) (words_of runs) 0);
         are = runs-more layout view c.store c.page (begun c.cow) c.instruction.before.value runs run has.are
             (subst (IsRun layout view c.store c.page (left_by c.instruction.before.value (checks_by runs)) run) (sym sub_is ∙ ap sub_of has.cow_is) is);
+        lets = subst LetsGoOn (ap lines_of (sym checks-same)) has.lets;
       };
       at = record {
         hand_is = hand_is;
@@ -230,7 +250,6 @@ module _ (base : List Made) (layout : Layout) (view : View) (c : Copying) (runs 
         told = record {
           told_is = told.told_is ∙ ap lines_of (sym checks-same);
           banks_are = told.banks_are ∙ ap (left_by c.instruction.before.value) (sym checks-same);
-          lets = told.lets;
         };
         going = going;
         ended = record {
@@ -267,9 +286,9 @@ module _ (base : List Made) (layout : Layout) (view : View) (c : Copying) (runs 
   }
   frees-fits (Some (evict_answers.Done place)) is = let end = caused is in
       freed-fits (end.1.1.last ∷ []) place end.0 paid (end.1.1.all ∙ ap (λ (l : List Made). (base ++ made_by runs) ++ (l ++ end.1.1.last ∷ [])) (none-before end.1.1.before end.1.1.such))
-      (record { made_is = inr (end.1.1.last, refl, end.1.1.at.0, end.1.1.at.2); unchecked = refl })
+      (record { made_is = inr (end.1.1.last, refl, end.1.1.at.0, end.1.1.at.2); unused = λ none. absurd (no-cons none); unchecked = refl })
   frees-fits (Some (evict_answers.Refused refusal place)) is = let end = caused is in
-      freed-fits [] place end.0 paid (end.1.0 ∙ sym (append-nil (base ++ made_by runs))) (record { made_is = inl refl; unchecked = refl })
+      freed-fits [] place end.0 paid (end.1.0 ∙ sym (append-nil (base ++ made_by runs))) (record { made_is = inl refl; unused = λ none. unused c.cow.v refusal end.1.1.state; unchecked = refl })
 
 -- ---- each step
 
@@ -331,7 +350,7 @@ module _ {base : List Made} (layout : Layout) (old new : View) (c : Copying) (st
         (frees-fits base layout new (record c { at = at.Free (evicts.bare e) stored }) fits.runs (on-turn-after fits.on_turn made) fits.unchecked (runs-with c c.instruction (at.Free (evicts.bare e) stored) fits.runs (runs-kept c fits.runs fits.has made) refl) stored next.evict
         (moved.1 next.evict turn next.follows).0 (next.follows.0 ∙ ap (λ (x : Evict). record x { at = next.evict.at }) has.evict_is) has.sub_is
         (evict-owes e has.evict is own ∙ has.paid)
-        (record { told_is = has.told.told_is; banks_are = has.told.banks_are; lets = has.told.lets }) (saw-stays made has.going) has.last (evicts.answer next.evict) refl),
+        (record { told_is = has.told.told_is; banks_are = has.told.banks_are }) (saw-stays made has.going) has.last (evicts.answer next.evict) refl),
   )
     where
       own : Steps layout e.who step (logs (evicts.put e)) old new found got

@@ -7,6 +7,7 @@ use Rattle.hwp_cpu_access.specs.hwp_fault.hwp_geom.declared.Layout.{Layout}
 use Rattle.hwp_cpu_access.specs.hwp_fault.hwp_geom.declared.Mode.TheVariants as modes
 use Rattle.hwp_cpu_access.specs.hwp_fault.hwp_geom.declared.Page.{Page}
 use Rattle.hwp_cpu_access.specs.hwp_fault.hwp_geom.declared.VSlot.{VSlot}
+use Rattle.hwp_cpu_access.specs.hwp_fault.hwp_geom.declared.Who.{Who}
 use Rattle.hwp_cpu_access.specs.hwp_fault.hwp_page.declared.What.TheVariants as entries
 use Rattle.hwp_cpu_access.specs.hwp_fault.hwp_page.History.{BodyValue}
 use Rattle.hwp_cpu_access.specs.hwp_fault.hwp_core_rule.declared.Log.{Log}
@@ -15,7 +16,7 @@ use Rattle.hwp_cpu_access.specs.hwp_fault.hwp_core_rule.declared.Step.{Step}
 use Rattle.hwp_cpu_access.specs.hwp_fault.hwp_core_rule.declared.View.{View}
 use Rattle.hwp_cpu_access.specs.hwp_fault.hwp_core_task.Calls.{Steps}
 use Rattle.hwp_cpu_access.specs.hwp_fault.declared.Request.{Request}
-use Rattle.hwp_cpu_access.proofs.of_hwp_fault.of_hwp_core_task.SightKeeps.{saw-stays}
+use Rattle.hwp_cpu_access.proofs.of_hwp_fault.of_hwp_core_task.SightKeeps.{saw-state-stays, saw-stays}
 use Rattle.hwp_cpu_access.specs.hwp_cpu_check.hwp_banks.Banks.{Banks}
 use Rattle.hwp_cpu_access.specs.hwp_cpu_check.hwp_banks.declared.Origin.TheVariants as origins
 use Rattle.hwp_cpu_access.specs.hwp_cpu_check.hwp_law_commands.Commands.{is_check}
@@ -83,7 +84,7 @@ module _ {layout : Layout} (store : Request) (page : Page) {step : Step} {put : 
     checked = checks-stay layout (store_of store slot line word) origins.Access modes.User (any-stay made) (λ place w saw. saw-stays made saw) banks r.checks is.checked;
     counted = is.counted;
   }
-  run-stays banks r (subs.Free slot) is = is
+  run-stays banks r (subs.Free slot) is = record { made_is = is.made_is; unused = λ none. saw-state-stays made (is.unused none); unchecked = is.unchecked }
   run-stays banks r subs.Switched is = is
 
   pub runs-stay : (cow : Cow) (banks : Banks) (runs : List Run) → AreRuns layout old store page cow banks runs → AreRuns layout new store page cow banks runs
@@ -95,8 +96,8 @@ module _ {layout : Layout} (store : Request) (page : Page) {step : Step} {put : 
 pub checks-append : (a b : List Made) → checks_in (a ++ b) ≡ checks_in a + checks_in b
 checks-append a b = ap length (filter-append (λ (m : Made). is_check m.entry.what) a b) ∙ length-append (filter (λ (m : Made). is_check m.entry.what) a) (filter (λ (m : Made). is_check m.entry.what) b)
 
-free-counted : {page : Page} {slot : VSlot} (r : Run) → IsFreeRun page slot r → checks_in r.made ≡ length r.checks
-free-counted {page} {slot} r is = which is.made_is ∙ sym (ap length is.unchecked)
+free-counted : {layout : Layout} {view : View} {who : Who} {page : Page} {slot : VSlot} (r : Run) → IsFreeRun layout view who page slot r → checks_in r.made ≡ length r.checks
+free-counted {layout} {view} {who} {page} {slot} r is = which is.made_is ∙ sym (ap length is.unchecked)
   where
     which : ((r.made ≡ []) ⊎ ((m : Made) × (r.made ≡ m ∷ []) × (m.page ≡ page) × (m.entry.what ≡ entries.Free slot))) → checks_in r.made ≡ 0
     which (inl none) = ap checks_in none

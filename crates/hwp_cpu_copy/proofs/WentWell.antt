@@ -182,6 +182,9 @@ module _ (base : List Made) (layout : Layout) (view : View) (c : Copying) (runs 
   cow-is : cow ≡ told_all (begun c.cow) (words_of more)
   cow-is = ap (λ (x : Cow). told_by x word) has.cow_is ∙ sym (ap (told_all (begun c.cow)) (words-more runs run) ∙ told-more (begun c.cow) (words_of runs) word)
 
+  told-is : c.instruction.lines.told ≡ lines_of (checks_by more)
+  told-is = fits.told_is ∙ ap lines_of (sym (checks-more runs run))
+
   has-more : HasRun layout view next more
   has-more = record {
     sound = has.sound;
@@ -197,10 +200,8 @@ module _ (base : List Made) (layout : Layout) (view : View) (c : Copying) (runs 
     are = runs-more layout view c.store c.page (begun c.cow) c.instruction.before.value runs run has.are
         (subst (λ (x : Cow). IsRun layout view c.store c.page (left_by c.instruction.before.value (checks_by runs)) run (sub_of x)) has.cow_is
         (run-of layout view c.store c.page (left_by c.instruction.before.value (checks_by runs)) run (sub_of c.cow) request_is is-run));
+    lets = subst LetsGoOn told-is lets;
   }
-
-  told-is : c.instruction.lines.told ≡ lines_of (checks_by more)
-  told-is = fits.told_is ∙ ap lines_of (sym (checks-more runs run))
 
   banks-are : c.instruction.banks ≡ left_by c.instruction.before.value (checks_by more)
   banks-are = fits.banks_are ∙ ap (banks_at c.instruction.before.value (checks_by runs ++ fits.checks)) over ∙ ap (left_by c.instruction.before.value) (sym (checks-more runs run))
@@ -236,6 +237,7 @@ module _ (base : List Made) (layout : Layout) (view : View) (c : Copying) (runs 
       three = has-more.three;
       cow_is = has-more.cow_is;
       are = has-more.are;
+      lets = has-more.lets;
     };
     at = subst (FitsAt base layout view (record next { instruction = instructions.again_with c.instruction request }) more) (sym at_is) (record {
       since = [];
@@ -268,6 +270,7 @@ module _ (base : List Made) (layout : Layout) (view : View) (c : Copying) (runs 
       three = has-more.three;
       cow_is = has-more.cow_is;
       are = has-more.are;
+      lets = has-more.lets;
     };
     at = record {
       evict = record { on_turn = on; page = has.own.page; kind = of-page c.store c.page c.cow.v has.own; at = (hand_is, all) };
@@ -275,7 +278,7 @@ module _ (base : List Made) (layout : Layout) (view : View) (c : Copying) (runs 
       sub_is = is;
       unanswered = refl;
       paid = paid;
-      told = record { told_is = told-is; banks_are = banks-are; lets = lets };
+      told = record { told_is = told-is; banks_are = banks-are };
       going = going;
       last = (runs, run, refl, refl);
     };

@@ -41,7 +41,8 @@ use Rattle.hwp_cpu_copy.specs.Runs.{AreRuns, IsBetween, Run, checks_by, made_by,
 abbrev pub begun : Cow → Cow
 begun cow = cows.begin cow.v cow.w cow.line cow.x
 
--- what is asked for, by names of the layout; and the accesses that went well so far, in the order of the copy
+-- what is asked for, by names of the layout; and the accesses that went well so far, in the order of the copy, none of which stopped the
+-- machine or signalled the thread
 pub record HasRun (layout : Layout) (view : View) (c : Copying) (runs : List Run) : Type 0 where
   pub sound : IsSound layout
   pub names : accesses.IsDeclared layout c.store
@@ -54,12 +55,12 @@ pub record HasRun (layout : Layout) (view : View) (c : Copying) (runs : List Run
   pub three : length c.instruction.before.value ≡ bank_count
   pub cow_is : c.cow ≡ cows.told_all (begun c.cow) (words_of runs)
   pub are : AreRuns layout view c.store c.page (begun c.cow) c.instruction.before.value runs
+  pub lets : LetsGoOn (lines_of (checks_by runs))
 
--- all lines of the command are those of the accesses that went well, none of which stopped the machine or signalled the thread
+-- all lines of the command are those of the accesses that went well
 pub record HasTold (c : Copying) (runs : List Run) : Type 0 where
   pub told_is : c.instruction.lines.told ≡ lines_of (checks_by runs)
   pub banks_are : c.instruction.banks ≡ left_by c.instruction.before.value (checks_by runs)
-  pub lets : LetsGoOn c.instruction.lines.told
 
 -- the thread's process hasn't ended
 abbrev pub IsGoing : View → Request → Type 0

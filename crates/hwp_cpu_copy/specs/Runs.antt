@@ -5,12 +5,15 @@ use Rattle.hwp_cpu_access.specs.hwp_fault.hwp_geom.declared.Layout.{Layout}
 use Rattle.hwp_cpu_access.specs.hwp_fault.hwp_geom.declared.Mode.TheVariants as modes
 use Rattle.hwp_cpu_access.specs.hwp_fault.hwp_geom.declared.Page.{Page}
 use Rattle.hwp_cpu_access.specs.hwp_fault.hwp_geom.declared.VSlot.{VSlot}
+use Rattle.hwp_cpu_access.specs.hwp_fault.hwp_geom.declared.Who.{Who}
 use Rattle.hwp_cpu_access.specs.hwp_fault.hwp_page.declared.At.{At}
 use Rattle.hwp_cpu_access.specs.hwp_fault.hwp_page.declared.What.TheVariants as entries
+use Rattle.hwp_cpu_access.specs.hwp_fault.hwp_page.Refusals.{IsUnused}
 use Rattle.hwp_cpu_access.specs.hwp_fault.hwp_core_rule.declared.Made.{Made}
 use Rattle.hwp_cpu_access.specs.hwp_fault.hwp_core_rule.declared.View.{View}
 use Rattle.hwp_cpu_access.specs.hwp_fault.hwp_core_rule.Lists.{EachMember}
 use Rattle.hwp_cpu_access.specs.hwp_fault.hwp_core_task.Known.{IsAt, Precedes}
+use Rattle.hwp_cpu_access.specs.hwp_fault.hwp_core_task.Pages.{SawState}
 use Rattle.hwp_cpu_access.specs.hwp_fault.declared.Request.{Request}
 use Rattle.hwp_cpu_access.specs.hwp_fault.Accesses.{what_of}
 use Rattle.hwp_cpu_access.specs.hwp_cpu_check.Checks.{Check, left_by}
@@ -25,7 +28,7 @@ use Rattle.hwp_cpu_access.specs.Fits.{checks_in}
 use Rattle.hwp_cpu_copy.specs.Copyings.{load_of, store_of}
 
 -- an access that went well, or the freeing: the word that was told of it, the entries that the command made by it, in their order, its
--- machine checks, and the place of the entry that answers it
+-- machine checks, and the place of the entry that answers it, or at which the page was seen
 pub record Run : Type 0 where
   pub word : ℕ
   pub made : List Made
@@ -59,15 +62,16 @@ pub record IsAccessRun (layout : Layout) (view : View) (a : Request) (banks : Ba
   pub checked : AreChecks layout view a origins.Access modes.User banks r.checks
   pub counted : checks_in r.made ≡ length r.checks
 
--- the freeing: one entry, or none where the translation wasn't in use
-pub record IsFreeRun (page : Page) (slot : VSlot) (r : Run) : Type 0 where
+-- the freeing: one entry; or none, where a step of the command saw, after so many entries of the page, that the translation wasn't in use
+pub record IsFreeRun (layout : Layout) (view : View) (who : Who) (page : Page) (slot : VSlot) (r : Run) : Type 0 where
   pub made_is : (r.made ≡ []) ⊎ ((m : Made) × (r.made ≡ m ∷ []) × (m.page ≡ page) × (m.entry.what ≡ entries.Free slot))
+  pub unused : r.made ≡ [] → SawState layout view who page r.place.entry (IsUnused slot)
   pub unchecked : r.checks ≡ []
 
 abbrev pub IsRun : Layout → View → Request → Page → Banks → Run → Sub → Type 0
 IsRun layout view store page banks r (subs.Load slot line) = IsAccessRun layout view (load_of store page slot line) banks r
 IsRun layout view store page banks r (subs.Store slot line word) = IsAccessRun layout view (store_of store slot line word) banks r
-IsRun layout view store page banks r (subs.Free slot) = IsFreeRun page slot r
+IsRun layout view store page banks r (subs.Free slot) = IsFreeRun layout view store.who page slot r
 IsRun layout view store page banks r subs.Switched = ⊥
 
 -- one after the other, in the order of the copy; each machine check leaves the banks empty

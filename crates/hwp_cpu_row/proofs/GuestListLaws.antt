@@ -22,9 +22,9 @@ use Rattle.hwp_cpu_check.specs.hwp_script_lines.declared.Command.TheVariants as 
 use Rattle.hwp_cpu_check.specs.hwp_script_read.Valid.{IsAccess, IsCommandOf}
 use Rattle.hwp_cpu_check.specs.hwp_report_text.declared.Answer.{Answer}
 use Rattle.hwp_cpu_check.specs.hwp_report_text.declared.Answer.TheVariants as answers
-use Rattle.hwp_guest.specs.declared.Admit.{Admit}
-use Rattle.hwp_guest.specs.declared.Admit.TheVariants as admissions
-use Rattle.hwp_guest.specs.GuestState.{GuestState, admitted, after}
+use Rattle.hwp_cpu_check.specs.hwp_guest.declared.Admit.{Admit}
+use Rattle.hwp_cpu_check.specs.hwp_guest.declared.Admit.TheVariants as admissions
+use Rattle.hwp_cpu_check.specs.hwp_guest.GuestState.{GuestState, admitted, after}
 use Rattle.hwp_cpu_check.specs.hwp_law_commands.Commands as access
 use Rattle.hwp_cpu_check.specs.hwp_law_commands.Commands.{access_of, arrival_of, process_of_thread}
 use Rattle.hwp_cpu_check.specs.hwp_law_commands.Guests.{GuestAccess, denial, denied, guest_access, guest_after, guest_met, guest_of, kind_of, new_guest}

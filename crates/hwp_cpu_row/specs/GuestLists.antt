@@ -14,9 +14,9 @@ use Rattle.hwp_cpu_check.specs.hwp_script_lines.declared.Command.{Command}
 use Rattle.hwp_cpu_check.specs.hwp_report_text.declared.Answer.{Answer}
 use Rattle.hwp_cpu_check.specs.hwp_report_text.declared.Answer.TheVariants as answers
 use Rattle.hwp_cpu_check.specs.hwp_report_text.declared.GuestLine.{GuestLine}
-use Rattle.hwp_guest.specs.declared.Access.{Access}
-use Rattle.hwp_guest.specs.declared.Admit.TheVariants as admissions
-use Rattle.hwp_guest.specs.GuestState.{GuestState, admitted, after}
+use Rattle.hwp_cpu_check.specs.hwp_guest.declared.Access.{Access}
+use Rattle.hwp_cpu_check.specs.hwp_guest.declared.Admit.TheVariants as admissions
+use Rattle.hwp_cpu_check.specs.hwp_guest.GuestState.{GuestState, admitted, after}
 use Rattle.hwp_cpu_check.specs.hwp_law_commands.Commands.{process_of_thread}
 use Rattle.hwp_cpu_check.specs.hwp_law_commands.Guests.{GuestAccess, denial, guest_access, guest_line, guest_of, new_guest}
 

@@ -1,4 +1,4 @@
-ghost use Rattle.std.specs.Prelude.{◌≡◌, ◌&&◌, ◌==◌, false, get_or, is_some, vec_len, IfOk, slice_get, slice_set};
+ghost use Rattle.std.specs.Prelude.{◌≡◌, ◌&&◌, ◌==◌, false, get_or, is_some, vec_len, IfOk, IsOk, slice_get, slice_set};
 ghost use Rattle.std.specs.List.{list_any};
 ghost use Rattle.std.specs.Option.{option_map_or};
 ghost use Rattle.hwp_cpu_check.specs.hwp_law_commands.Cows.{own_page, twin_or};
@@ -49,12 +49,13 @@ impl Model for Cows {
 }
 
 impl Cows {
-    /// At first nothing is frozen.
+    /// At first nothing is frozen. It takes no memory where no translation has a twin.
     ///
     /// # Errors
     /// `OutOfMemory` where a translation has a twin, and there is no room.
     pub fn new(alloc: Global, layout: &Layout) -> Result<Cows, OutOfMemory>
-        ensures { IfOk result (λ c. c ≡ first_cows layout.now) }
+        ensures first { IfOk result (λ c. c ≡ first_cows layout.now) }
+        ensures untwinned { list_any is_some layout.now.twins ≡ false → IsOk result }
     {
         if !has_twins(layout) {
             return Ok(Cows {

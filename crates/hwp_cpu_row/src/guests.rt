@@ -1,14 +1,14 @@
 ghost use Rattle.std.specs.Prelude.{◌≡◌, None, Some, replicate, IfOk};
 ghost use Rattle.std.specs.Option.{option_map};
-ghost use Rattle.hwp_guest.specs.GuestState.{admitted};
-ghost use Rattle.hwp_guest.specs.Guests.{outcome};
+ghost use Rattle.hwp_cpu_check.specs.hwp_guest.GuestState.{admitted};
+ghost use Rattle.hwp_cpu_check.specs.hwp_guest.Guests.{outcome};
 ghost use Rattle.hwp_cpu_check.specs.hwp_law_commands.Guests.{denial, guest_access, guest_line, new_guest, stops};
 ghost use Rattle.hwp_cpu_row.specs.GuestLists.{CanMeet, MayTell, access_by, denied_in, first_guests, guest_in, has_guests, line_in, met_in, told_in};
 
 use hwp_cpu_check::{
-    Answer, Command, GuestLine, Layout, Line, Mode, OutOfMemory, Proc, Thread, VSlot,
+    Access, Admit, Answer, Command, Guest, GuestLine, Layout, Line, Mode, OutOfMemory, Proc, Taken,
+    Thread, VSlot,
 };
-use hwp_guest::{Access, Admit, Guest, Taken};
 use std::alloc::Global;
 use std::marker::Model;
 
@@ -41,7 +41,7 @@ pub struct Guests {
 impl Model for Guests {
     ghost use Rattle.std.specs.Prelude.{List};
     ghost use Rattle.std.specs.Coded.{coded_list};
-    ghost use Rattle.hwp_guest.specs.GuestState.{GuestState, state_code};
+    ghost use Rattle.hwp_cpu_check.specs.hwp_guest.GuestState.{GuestState, state_code};
 
     ghost Value = { List GuestState };
 

@@ -4,8 +4,8 @@ use Rattle.hwp_kill.specs.hwp_geom.declared.Frame.{Frame}
 use Rattle.hwp_kill.specs.hwp_geom.declared.VSlot.{VSlot}
 use Rattle.hwp_kill.specs.hwp_geom.declared.Mode.{Mode}
 use Rattle.hwp_kill.specs.hwp_geom.declared.Mode.TheVariants.{User, Kernel}
-use Rattle.hwp_banks.specs.declared.Origin.{Origin}
-use Rattle.hwp_banks.specs.declared.Origin.TheVariants as origins
+use Rattle.hwp_severity.specs.hwp_banks.declared.Origin.{Origin}
+use Rattle.hwp_severity.specs.hwp_banks.declared.Origin.TheVariants as origins
 use Rattle.hwp_severity.specs.declared.McgBits.{McgBits}
 use Rattle.hwp_guest.specs.declared.access.Access.{Access}
 use Rattle.hwp_guest.specs.declared.access.Access.TheVariants as accesses

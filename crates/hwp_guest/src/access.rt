@@ -1,7 +1,7 @@
 ghost use Rattle.std.specs.Prelude.{◌≡◌};
 ghost use Rattle.hwp_guest.specs.Guests.{origin_of};
 
-use hwp_banks::Origin;
+use hwp_severity::Origin;
 
 /// How a guest's access reads or writes memory.
 #[derive(Clone, Copy, PartialEq, Eq)]

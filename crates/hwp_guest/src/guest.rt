@@ -1,15 +1,14 @@
 ghost use Rattle.std.specs.Prelude.{◌≡◌, ◌<◌, false};
 ghost use Rattle.std.specs.FinSet as set;
 ghost use Rattle.hwp_kill.specs.Limits.{slot_limit};
-ghost use Rattle.hwp_banks.specs.Events.{own_event};
+ghost use Rattle.hwp_severity.specs.hwp_banks.Events.{own_event};
 ghost use Rattle.hwp_severity.specs.Graded.{graded};
 ghost use Rattle.hwp_guest.specs.Guests.{origin_of, guest_frame, running, outcome_row, outcome};
 ghost use Rattle.hwp_guest.specs.GuestState.{GuestState, admitted, after};
 
 use crate::access::{Access, Admit, Taken};
-use hwp_banks::{Bank, Event, Mcg};
 use hwp_kill::{Frame, Line, Mode, Slots, VSlot};
-use hwp_severity::{Grade, McgBits, Severity, grade};
+use hwp_severity::{Bank, Event, Grade, Mcg, McgBits, Severity, grade};
 use std::marker::Model;
 
 /// The program can go on at the saved instruction, which goes with the error.

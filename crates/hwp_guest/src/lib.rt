@@ -7,6 +7,5 @@ mod guest;
 
 pub use access::{Access, Admit, Taken};
 pub use guest::Guest;
-pub use hwp_banks::Event;
 pub use hwp_kill::{Line, Mode, VSlot};
-pub use hwp_severity::Grade;
+pub use hwp_severity::{Arrival, Decision, Event, Grade, McgBits, Severity, grade, handle};

@@ -1,6 +1,6 @@
 -- What a processor acts on, command by command: each of the script's, behind those before it with their answers. So the policies that its
 -- commands set are those of the script's.
-use Rattle.std.proofs.Common.{◌≡◌, ℕ, zero, suc, ◌+◌, List, [], ◌∷◌, ◌++◌, Option, Some, None, option_and_then, option_map, slice_get, take, unwrap_or, refl, sym, ap, ◌∙◌, arith}
+use Rattle.std.proofs.Common.{◌≡◌, ℕ, zero, suc, ◌+◌, List, [], ◌∷◌, ◌++◌, Option, Some, None, length, option_and_then, option_map, slice_get, take, unwrap_or, refl, sym, ap, ◌∙◌, arith}
 use Rattle.std.specs.List.{cons_option, zip}
 use Rattle.std.proofs.Math.Path.{fun_ext}
 use Rattle.std.proofs.lemmas.List.{append-nil, append_assoc}
@@ -18,7 +18,7 @@ use Rattle.hwp_law_commands.specs.Cows.{acting}
 use Rattle.hwp_law_commands.specs.Settings.{last_policy, set_after, set_behind, settings, unset}
 use Rattle.hwp_law_commands.proofs.CowLaws.{acting-sets}
 use Rattle.hwp_law.specs.Acting.{acting_from, acting_lists, acting_script}
-use Rattle.hwp_law.specs.Lines.{answered, answers_in}
+use Rattle.hwp_law.specs.Lines.{answer_among, answered, answers_from, answers_to}
 use Rattle.hwp_law.specs.Policies.{answered_before, answered_on, policy_before}
 
 -- ---- one command
@@ -47,7 +47,7 @@ acted-at layout earlier (c ∷ cs) (a ∷ given) (suc i) =
     ∙ ap (λ (l : List (Command × Answer)). option_map (acting layout l) (slice_get cs i)) (append_assoc earlier ((c, a) ∷ []) (take i (zip cs given)))
 
 abbrev acted : Layout → List (List CpuLine) → ℕ → List Command → List Command
-acted layout cpus cpu list = acting_from layout [] list (answers_in (unwrap_or (slice_get cpus cpu) []))
+acted layout cpus cpu list = acting_from layout [] list (answers_to list (unwrap_or (slice_get cpus cpu) []))
 
 lists-at : (layout : Layout) (cpus : List (List CpuLine)) (n : ℕ) (lists : List (List Command)) (k : ℕ) → slice_get (acting_lists layout cpus n lists) k ≡ option_map (acted layout cpus (n + k)) (slice_get lists k)
 lists-at layout cpus n [] k = refl
@@ -69,7 +69,18 @@ command-acted script report who =
     of_list : (o : Option (List Command)) → option_and_then (λ (l : List Command). slice_get l who.seq) (option_map (acted script.layout report.cpus who.cpu.0) o)
         ≡ option_map (acting script.layout (take who.seq (answered (unwrap_or o []) (unwrap_or (slice_get report.cpus who.cpu.0) [])))) (option_and_then (λ (l : List Command). slice_get l who.seq) o)
     of_list None = refl
-    of_list (Some list) = acted-at script.layout [] list (answers_in (unwrap_or (slice_get report.cpus who.cpu.0) [])) who.seq
+    of_list (Some list) = acted-at script.layout [] list (answers_to list (unwrap_or (slice_get report.cpus who.cpu.0) [])) who.seq
+
+-- as many commands as there were, so each has the answer that the script's command has
+pub acting-length : (layout : Layout) (earlier : List (Command × Answer)) (list : List Command) (given : List Answer) → length (acting_from layout earlier list given) ≡ length list
+acting-length layout earlier [] given = refl
+acting-length layout earlier (c ∷ cs) [] = ap suc (acting-length layout earlier cs [])
+acting-length layout earlier (c ∷ cs) (a ∷ given) = ap suc (acting-length layout (earlier ++ (c, a) ∷ []) cs given)
+
+pub answered-acted : (layout : Layout) (list : List Command) (rows : List CpuLine)
+    → answered (acting_from layout [] list (answers_to list rows)) rows ≡ zip (acting_from layout [] list (answers_to list rows)) (answers_to list rows)
+answered-acted layout list rows =
+    ap (λ (n : ℕ). zip (acting_from layout [] list (answers_to list rows)) (answers_from (answer_among rows) 0 n)) (acting-length layout [] list (answers_to list rows))
 
 -- ---- policies
 
@@ -107,11 +118,14 @@ settings-acted script report who thread = (
 
     all : (o : Option (List Command)) → settings script.layout thread (answered (unwrap_or (option_map (acted script.layout report.cpus who.cpu.0) o) []) lines) ≡ settings script.layout thread (answered (unwrap_or o []) lines)
     all None = refl
-    all (Some list) = ap (λ (s : ℕ → List Policy). s thread.0) (set-acted script.layout [] unset list (answers_in (unwrap_or (slice_get report.cpus who.cpu.0) [])))
+    all (Some list) =
+        ap (settings script.layout thread) (answered-acted script.layout list lines) ∙ ap (λ (s : ℕ → List Policy). s thread.0) (set-acted script.layout [] unset list (answers_to list lines))
 
     first : (o : Option (List Command)) → settings script.layout thread (take who.seq (answered (unwrap_or (option_map (acted script.layout report.cpus who.cpu.0) o) []) lines)) ≡ settings script.layout thread (take who.seq (answered (unwrap_or o []) lines))
     first None = refl
-    first (Some list) = ap (λ (s : ℕ → List Policy). s thread.0) (set-acted-first script.layout [] unset list (answers_in (unwrap_or (slice_get report.cpus who.cpu.0) [])) who.seq)
+    first (Some list) =
+        ap (λ (l : List (Command × Answer)). settings script.layout thread (take who.seq l)) (answered-acted script.layout list lines)
+        ∙ ap (λ (s : ℕ → List Policy). s thread.0) (set-acted-first script.layout [] unset list (answers_to list lines) who.seq)
 
 pub policy-acted : (script : Script) (report : Report) (who : Who) (thread : Thread) → policy_before (acting_script script report) report who thread ≡ policy_before script report who thread
 policy-acted script report who thread = ap last_policy (settings-acted script report who thread).1

@@ -18,7 +18,7 @@ use Rattle.hwp_law_commands.specs.Cows.{Cow, copied_from}
 use Rattle.hwp_law_commands.proofs.CowLaws.{acting-unforked, both-false, copied-unforked, has_forked, stays-own, take-unforked, zip-unforked}
 use Rattle.hwp_law.specs.Acting.{acting_from, acting_lists, acting_script, copied_at}
 use Rattle.hwp_law.specs.Copies.{AreLastStores, ended_through}
-use Rattle.hwp_law.specs.Lines.{answers_in}
+use Rattle.hwp_law.specs.Lines.{answers_to}
 use Rattle.hwp_law.specs.Policies.{answered_before, answered_on}
 use Rattle.hwp_law.specs.Private.{ArePrivate, freeze_from}
 use Rattle.hwp_law.specs.Runs.{slot_ended, slot_of}
@@ -42,7 +42,7 @@ acting-lists-unforked : (layout : Layout) (cpus : List (List CpuLine)) (cpu : �
 acting-lists-unforked layout cpus cpu [] none = refl
 acting-lists-unforked layout cpus cpu (list ∷ lists) none =
     let apart : (list_any is_fork list ≡ false) × (list_any (list_any is_fork) lists ≡ false) = both-false (list_any is_fork list) (list_any (list_any is_fork) lists) none in
-    ap (λ (l : List Command). l ∷ acting_lists layout cpus (cpu + 1) lists) (acting-from-unforked layout [] list (answers_in (unwrap_or (slice_get cpus cpu) [])) refl apart.0)
+    ap (λ (l : List Command). l ∷ acting_lists layout cpus (cpu + 1) lists) (acting-from-unforked layout [] list (answers_to list (unwrap_or (slice_get cpus cpu) [])) refl apart.0)
     ∙ ap (λ (l : List (List Command)). list ∷ l) (acting-lists-unforked layout cpus (cpu + 1) lists apart.1)
 
 -- the script is its own acting script
@@ -58,7 +58,7 @@ list-unforked (list ∷ lists) (suc cpu) none = list-unforked lists cpu (both-fa
 before-unforked : (script : Script) (report : Report) (who : Who) → has_fork script ≡ false → has_forked (answered_before script report who) ≡ false
 before-unforked script report who none =
     take-unforked who.seq (answered_on script report who.cpu)
-    (zip-unforked (unwrap_or (slice_get script.lists who.cpu.0) []) (answers_in (unwrap_or (slice_get report.cpus who.cpu.0) [])) (list-unforked script.lists who.cpu.0 none))
+    (zip-unforked (unwrap_or (slice_get script.lists who.cpu.0) []) (answers_to (unwrap_or (slice_get script.lists who.cpu.0) []) (unwrap_or (slice_get report.cpus who.cpu.0) [])) (list-unforked script.lists who.cpu.0 none))
 
 -- and none of its stores copies
 pub copied-at-unforked : (script : Script) (report : Report) (who : Who) → has_fork script ≡ false → copied_at script report who ≡ None

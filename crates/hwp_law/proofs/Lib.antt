@@ -1,6 +1,7 @@
 pub mod Rows
 pub mod ActingLaws
 pub mod ActedLaws
+pub mod AnswersInOrder
 pub mod Extents
 pub mod Examples
 pub mod Forgeries

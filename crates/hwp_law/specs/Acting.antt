@@ -11,10 +11,10 @@ use Rattle.hwp_law_commands.specs.hwp_report_text.declared.CpuLine.{CpuLine}
 use Rattle.hwp_law_commands.specs.hwp_report_text.declared.Report.{Report}
 use Rattle.hwp_law_commands.specs.Commands.{command_at}
 use Rattle.hwp_law_commands.specs.Cows.{acting, copied_from}
-use Rattle.hwp_law.specs.Lines.{answers_in}
+use Rattle.hwp_law.specs.Lines.{answers_to}
 use Rattle.hwp_law.specs.Policies.{answered_before}
 
--- the commands of a list with these answers, behind earlier ones; one that has no answer is acted on as the first that has none
+-- the commands of a list with these answers, behind earlier ones; one behind the last answer is acted on as the first there
 abbrev pub acting_from : Layout → List (Command × Answer) → List Command → List Answer → List Command
 acting_from layout earlier [] answers = []
 acting_from layout earlier (command ∷ commands) [] = acting layout earlier command ∷ acting_from layout earlier commands []
@@ -24,7 +24,7 @@ acting_from layout earlier (command ∷ commands) (answer ∷ answers) =
 -- the lists from processor number `cpu` on
 abbrev pub acting_lists : Layout → List (List CpuLine) → ℕ → List (List Command) → List (List Command)
 acting_lists layout cpus cpu [] = []
-acting_lists layout cpus cpu (list ∷ lists) = acting_from layout [] list (answers_in (unwrap_or (slice_get cpus cpu) [])) ∷ acting_lists layout cpus (cpu + 1) lists
+acting_lists layout cpus cpu (list ∷ lists) = acting_from layout [] list (answers_to list (unwrap_or (slice_get cpus cpu) [])) ∷ acting_lists layout cpus (cpu + 1) lists
 
 abbrev pub acting_script : Script → Report → Script
 acting_script script report = record script { lists = acting_lists script.layout report.cpus 0 script.lists }

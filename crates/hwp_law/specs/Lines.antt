@@ -1,9 +1,10 @@
 -- The lines of a report: what a processor's lines say of one command, and what a frame's line says.
-use Rattle.std.specs.Prelude.{ℕ, ◌==◌, ◌&&◌, Bool, List, [], Option, Some, None, filter, filter_map, map, slice_get, option_map, unwrap_or}
+use Rattle.std.specs.Prelude.{ℕ, zero, suc, ◌+◌, ◌==◌, ◌&&◌, Bool, List, [], ◌∷◌, Option, Some, None, filter, filter_map, length, slice_get, option_map, unwrap_or}
 use Rattle.std.specs.List.{find, zip}
 use Rattle.hwp_law_commands.specs.hwp_geom.declared.Who.{Who}
 use Rattle.hwp_law_commands.specs.hwp_script_read.declared.Command.{Command}
 use Rattle.hwp_law_commands.specs.hwp_report_text.declared.Answer.{Answer}
+use Rattle.hwp_law_commands.specs.hwp_report_text.declared.Answer.TheVariants as answers
 use Rattle.hwp_law_commands.specs.hwp_report_text.declared.CpuLine.{CpuLine}
 use Rattle.hwp_law_commands.specs.hwp_report_text.declared.CpuLine.TheVariants as lines
 use Rattle.hwp_law_commands.specs.hwp_report_text.declared.EventLine.{EventLine}
@@ -85,12 +86,18 @@ answer_among rows seq = option_map (λ (l : AnswerLine). l.answer) (find (λ (l 
 abbrev pub answer_of : Report → Who → Option Answer
 answer_of report who = answer_among (rows_of report who) who.seq
 
--- the answers of a processor's lines, and its commands with them
-abbrev pub answers_in : List CpuLine → List Answer
-answers_in rows = map (λ (l : AnswerLine). l.answer) (filter_map answer_in rows)
+-- the answers of so many commands, the first of which has number n; one that was told no answer counts as one that was told `stopped`,
+-- which changes nothing
+abbrev pub answers_from : (ℕ → Option Answer) → ℕ → ℕ → List Answer
+answers_from told n zero = []
+answers_from told n (suc more) = unwrap_or (told n) answers.Stopped ∷ answers_from told (n + 1) more
+
+-- the answers of a processor's commands, of each the first of its lines with the command's number, and the commands with them
+abbrev pub answers_to : List Command → List CpuLine → List Answer
+answers_to list rows = answers_from (answer_among rows) 0 (length list)
 
 abbrev pub answered : List Command → List CpuLine → List (Command × Answer)
-answered list rows = zip list (answers_in rows)
+answered list rows = zip list (answers_to list rows)
 
 -- the record of a frame
 abbrev pub marks_of : Report → ℕ → List MarkLine

@@ -18,14 +18,14 @@ use Rattle.hwp_report_text.specs.hwp_banks.declared.Origin.TheVariants as origin
 use Rattle.hwp_report_text.specs.declared.Answer.{Answer}
 use Rattle.hwp_report_text.specs.declared.Answer.TheVariants as answers
 use Rattle.hwp_report_text.specs.declared.GuestLine.{GuestLine}
-use Rattle.hwp_guest.specs.declared.Access.{Access}
-use Rattle.hwp_guest.specs.declared.Access.TheVariants as kinds
-use Rattle.hwp_guest.specs.declared.Admit.{Admit}
-use Rattle.hwp_guest.specs.declared.Admit.TheVariants as admissions
-use Rattle.hwp_guest.specs.declared.Taken.{Taken}
-use Rattle.hwp_guest.specs.declared.Taken.TheVariants as takings
-use Rattle.hwp_guest.specs.GuestState.{GuestState, admitted, after}
-use Rattle.hwp_guest.specs.Guests.{guest_frame, origin_of, outcome, outcome_row}
+use Rattle.hwp_report_text.specs.hwp_guest.declared.Access.{Access}
+use Rattle.hwp_report_text.specs.hwp_guest.declared.Access.TheVariants as kinds
+use Rattle.hwp_report_text.specs.hwp_guest.declared.Admit.{Admit}
+use Rattle.hwp_report_text.specs.hwp_guest.declared.Admit.TheVariants as admissions
+use Rattle.hwp_report_text.specs.hwp_guest.declared.Taken.{Taken}
+use Rattle.hwp_report_text.specs.hwp_guest.declared.Taken.TheVariants as takings
+use Rattle.hwp_report_text.specs.hwp_guest.GuestState.{GuestState, admitted, after}
+use Rattle.hwp_report_text.specs.hwp_guest.Guests.{guest_frame, origin_of, outcome, outcome_row}
 use Rattle.hwp_law_commands.specs.Commands as access
 use Rattle.hwp_law_commands.specs.Commands.{access_of, arrival_of, process_of_thread}
 

@@ -4,10 +4,10 @@
 #![tactic(auto)]
 
 pub use hwp_report_text::{
-    Acted, Answer, Arrival, At, Code, CpuLine, Decision, Entry, EventLine, FrameLine, Grade,
-    GuestLine, How, MarkLine, McgBits, Met, OfflineResult, OfflinedLine, Outcome, PageState,
-    Policy, Reply, Report, Seen, Severity, Signal, Situation, Slots, Stop, StopCause, Version,
-    What, Whereabouts, grade, handle, policy_word, prctl, print,
+    Access, Acted, Admit, Answer, Arrival, At, Code, CpuLine, Decision, Entry, EventLine,
+    FrameLine, Grade, Guest, GuestLine, How, MarkLine, McgBits, Met, OfflineResult, OfflinedLine,
+    Outcome, PageState, Policy, Reply, Report, Seen, Severity, Signal, Situation, Slots, Stop,
+    StopCause, Taken, Version, What, Whereabouts, grade, handle, policy_word, prctl, print,
 };
 pub use hwp_script_read::{
     Collector, Command, Cpu, FileNo, Frame, Layout, Line, List, MAX_SCRIPT, Mask, Mode, Noted,

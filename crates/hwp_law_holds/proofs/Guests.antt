@@ -48,13 +48,13 @@ use Rattle.hwp_law_records.specs.hwp_cpu_row.declared.Row.{Row}
 use Rattle.hwp_law_records.specs.hwp_cpu_row.Acts.{event_at}
 use Rattle.hwp_law_records.specs.hwp_law_served.Guests.{IsDeniedRow, IsGuestRow, SaysGone}
 use Rattle.hwp_law_records.specs.hwp_law_served.Handles.{answers_by}
-use Rattle.hwp_law_records.specs.hwp_law_served.Runs.{IsRunOf, KnowsAllGuests}
+use Rattle.hwp_law_records.specs.hwp_law_served.Runs.{HaveServed, IsRunOf}
 use Rattle.hwp_law_records.proofs.of_hwp_law_run.Reported.{entry-listed}
 use Rattle.hwp_law_records.proofs.of_hwp_law_run.of_hwp_law.ActedLaws.{command-acted}
 use Rattle.hwp_law_records.proofs.of_hwp_law_run.of_hwp_law.of_hwp_law_commands.CowLaws.{acting-thread}
 use Rattle.hwp_law_records.proofs.of_hwp_law_served.LastBoard.{ended, ended-rows}
 use Rattle.hwp_law_records.proofs.of_hwp_law_served.RowLines.{answer-told, events-told, guest-told}
-use Rattle.hwp_law_records.proofs.of_hwp_law_served.RunEnds.{IsEnd, IsOf, of-deeds, own-view, served-of}
+use Rattle.hwp_law_records.proofs.of_hwp_law_served.RunEnds.{IsEnd, IsOf, of-deeds, own-view}
 use Rattle.hwp_law_records.proofs.of_hwp_law_served.copied.KeptWords.{of-command}
 use Rattle.hwp_law_records.proofs.of_hwp_law_served.copied.RunActed.{answered-are}
 use Rattle.hwp_law_records.proofs.of_hwp_law_served.deeds.Made.{command-is}
@@ -154,7 +154,7 @@ says-gone answer says = absurd says
 
 -- ---- the report
 
-module _ (script : Script) (valid : IsValid script) (seat : Cpu → ℕ) (turns : List Played) (last : State) (report : Report) (run : IsRunOf (acting_script script report) (copied_at script report) seat turns last report) (knows : KnowsAllGuests script seat last run.rows) where
+module _ (script : Script) (valid : IsValid script) (seat : Cpu → ℕ) (turns : List Played) (last : State) (report : Report) (run : IsRunOf (acting_script script report) (copied_at script report) seat turns last report) (served : HaveServed script seat last run.rows report.cpus) where
   abbrev end : IsEnd (acting_script script report) (copied_at script report) seat last report
   end = ended (acting_script script report) (copied_at script report) seat turns last report run
 
@@ -171,12 +171,12 @@ module _ (script : Script) (valid : IsValid script) (seat : Cpu → ℕ) (turns 
       let of = of-command (acting_script script report) (copied_at script report) seat last report end who acts acts_is in
       let list = then-there (λ (l : List Command). slice_get l who.seq) (slice_get script.lists who.cpu.0) command at in
       let own_is : slice_get run.rows who.cpu.0 ≡ Some of.own = ap (λ (l : List (List Row)). slice_get l who.cpu.0) (sym (ended-rows (acting_script script report) (copied_at script report) seat turns last report run)) ∙ of.own_is in
-      let lines_are = (served-of (acting_script script report) (copied_at script report) seat last report end who.cpu of.list of.own of.list_is of.own_is).1 in
-      let before : take who.seq (answers_by list.0 of.own) ≡ answered_before script report who = ap (take who.seq) (sym (answered-are script report who.cpu list.0 of.own list.1 lines_are)) in
+      let own = served who.cpu list.0 of.own list.1 own_is in
+      let before : take who.seq (answers_by list.0 of.own) ≡ answered_before script report who = ap (take who.seq) (sym (answered-are script report who.cpu list.0 of.own list.1 own.1 own.0.acted.count)) in
       record {
         of = of;
         acted = same_Some of.command acts (sym (command-is (acting_script script report) who of.list of.command of.list_is of.command_is) ∙ acts_is);
-        row = subst (λ (earlier : List (Command × Answer)). IsGuestRow script.layout earlier (view_of last (seat who.cpu)) who command of.row) before (knows who.cpu list.0 of.own list.1 own_is who.seq command of.row list.2 of.row_is);
+        row = subst (λ (earlier : List (Command × Answer)). IsGuestRow script.layout earlier (view_of last (seat who.cpu)) who command of.row) before (own.0.guests who.seq command of.row list.2 of.row_is);
       }
 
   -- a command that made nothing has no entry in the report

@@ -9,7 +9,7 @@ use Rattle.hwp_law_records.specs.hwp_script_read.declared.Script.{Script}
 use Rattle.hwp_law_records.specs.hwp_report_text.declared.Report.{Report}
 use Rattle.hwp_law_records.specs.hwp_law.Law.{AnswersFit, HasShape, HistoriesFit, IsLawful}
 use Rattle.hwp_law_records.proofs.of_hwp_law_run.Reported.{histories-lead, histories-ordered}
-use Rattle.hwp_law_records.specs.hwp_law_served.Runs.{IsRunOf, KnowsAllGuests}
+use Rattle.hwp_law_records.specs.hwp_law_served.Runs.{HaveServed, IsRunOf}
 use Rattle.hwp_law_holds.proofs.Caused.{all-caused, stop-agrees}
 use Rattle.hwp_law_holds.proofs.Guests.{guests-kept}
 use Rattle.hwp_law_holds.proofs.OfflinedLines.{are-offlined}
@@ -57,10 +57,10 @@ module _ (script : Script) (copies : Who → Option VSlot) (seat : Cpu → ℕ) 
     offlined = are-offlined script copies seat last report end;
   }
 
--- the whole, of what the processors of a script acted on, and of what their rows say of guests
-pub law-holds : (script : Script) → IsValid script → (seat : Cpu → ℕ) (turns : List Played) (last : State) (report : Report) → (run : IsRunOf (acting_script script report) (copied_at script report) seat turns last report) → KnowsAllGuests script seat last run.rows
+-- the whole, of what the processors of a script acted on, and of what the rows of its own commands say of guests
+pub law-holds : (script : Script) → IsValid script → (seat : Cpu → ℕ) (turns : List Played) (last : State) (report : Report) → (run : IsRunOf (acting_script script report) (copied_at script report) seat turns last report) → HaveServed script seat last run.rows report.cpus
     → IsLawful script report
-law-holds script valid seat turns last report run knows =
+law-holds script valid seat turns last report run served =
     let acted : Script = acting_script script report in
     let histories : HistoriesFit (acting_script script report) (copied_at script report) report = histories-fit acted (copied_at script report) seat turns last report run in
     let answers : AnswersFit (acting_script script report) (copied_at script report) report = answers-fit acted (copied_at script report) seat turns last report run in
@@ -71,5 +71,5 @@ law-holds script valid seat turns last report run knows =
       frames = frames-lawful acted (copied_at script report) seat turns last report run;
       losses = losses-acted script report (losses-lawful acted (copied_at script report) seat turns last report run);
       private = private-holds script report valid histories answers (copies-keep-words acted (copied_at script report) seat last report (ended acted (copied_at script report) seat turns last report run));
-      guests = guests-kept script valid seat turns last report run knows;
+      guests = guests-kept script valid seat turns last report run served;
     }

@@ -11,7 +11,8 @@ use Rattle.hwp_law.specs.hwp_report_text.declared.Report.{Report}
 use Rattle.hwp_law.specs.hwp_script_read.declared.Command.{Command}
 use Rattle.hwp_law.specs.hwp_script_read.declared.Script.{Script}
 use Rattle.hwp_law.specs.Causes.{AreCaused, IsCaused}
-use Rattle.hwp_law.specs.Lines.{AnswerLine, answer_among, answer_in, answers_in}
+use Rattle.hwp_law.specs.Lines.{AnswerLine, answer_among, answer_in}
+use Rattle.hwp_law.proofs.AnswersInOrder.{answers_in}
 use Rattle.hwp_law.proofs.Rows.{same_answer}
 
 -- ---- lists

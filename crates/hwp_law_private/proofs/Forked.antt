@@ -23,7 +23,7 @@ use Rattle.hwp_law.specs.hwp_script_read.declared.Command.TheVariants as command
 use Rattle.hwp_law.specs.hwp_script_read.declared.Script.{Script}
 use Rattle.hwp_law.specs.hwp_law_commands.Commands.{command_at}
 use Rattle.hwp_law.specs.hwp_law_commands.Cows.{Cow, cow_of, froze_slot, own_page}
-use Rattle.hwp_law.specs.Lines.{answers_in}
+use Rattle.hwp_law.specs.Lines.{answers_to}
 use Rattle.hwp_law.specs.Policies.{answered_on}
 use Rattle.hwp_law.specs.Private.{freeze_from}
 use Rattle.hwp_law_private.proofs.AnswerLines.{get-take, zip-parts}
@@ -133,7 +133,7 @@ module _ (script : Script) (report : Report) (valid : IsValid script) (cpu : Cpu
   at-place : (fork : ℕ) (thread : Thread) (process : Proc) → slice_get (answered_on script report cpu) fork ≡ Some (commands.Fork thread process, answers.Done) → froze_slot script.layout slot (commands.Fork thread process) ≡ true
       → cow_of script.layout (take fork (answered_on script report cpu)) slot ≡ own_page → IsForked script report cpu slot fork
   at-place fork thread process there frozen own =
-      let parts = zip-parts (unwrap_or (slice_get script.lists cpu.0) []) (answers_in (unwrap_or (slice_get report.cpus cpu.0) [])) fork (commands.Fork thread process, answers.Done) there in
+      let parts = zip-parts (unwrap_or (slice_get script.lists cpu.0) []) (answers_to (unwrap_or (slice_get script.lists cpu.0) []) (unwrap_or (slice_get report.cpus cpu.0) [])) fork (commands.Fork thread process, answers.Done) there in
       let l = list-there (slice_get script.lists cpu.0) fork (commands.Fork thread process) parts.0 in
       let v = map-or-there (λ (t : TransDecl). froze script.layout t.page.0 (commands.Fork thread process)) (slice_get script.layout.trans slot.0) frozen in
       from-shared fork thread process v.0 v.1

@@ -1,6 +1,6 @@
 -- What a report says of a command that has an answer: the command that was acted on, why it was answered so, and that no other answer names
 -- an entry that stored a word.
-use Rattle.std.proofs.Common.{◌≡◌, ℕ, zero, suc, ◌+◌, ◌==◌, Bool, true, false, cond, List, [], ◌∷◌, Option, None, Some, option_and_then, option_map, slice_get, unwrap_or, refl, sym, ap, ◌∙◌, subst, true≢false, arith}
+use Rattle.std.proofs.Common.{◌≡◌, ℕ, zero, suc, ◌+◌, ◌==◌, Bool, true, false, cond, List, [], ◌∷◌, Option, None, Some, length, option_and_then, option_map, slice_get, unwrap_or, refl, sym, ap, ◌∙◌, subst, true≢false, arith}
 use Rattle.std.specs.Prelude.{All}
 use Rattle.std.proofs.lemmas.Bool.{eq-eqb}
 use Rattle.std.proofs.lemmas.Option.{get_or_from_slice_get, none-some, same_Some, slice_get_within}
@@ -32,12 +32,13 @@ use Rattle.hwp_law.specs.Answers.{IsNamed, named_in}
 use Rattle.hwp_law.specs.Causes.{AreCaused, IsCaused, SendsSigbus}
 use Rattle.hwp_law.specs.Copies.{must_be_named}
 use Rattle.hwp_law.specs.Law.{AnswersFit}
-use Rattle.hwp_law.specs.Lines.{answer_among, answer_of, answers_in, offlined_among, offlined_of, seq_of}
+use Rattle.hwp_law.specs.Lines.{answer_among, answer_of, answers_to, offlined_among, offlined_of, rows_of, seq_of}
 use Rattle.hwp_law.specs.Offlined.{AreOfflined, IsOffline}
 use Rattle.hwp_law.specs.Places.{entry_at}
 use Rattle.hwp_law.specs.Policies.{answered_before, answered_on}
 use Rattle.hwp_law.specs.States.{entry_named}
 use Rattle.hwp_law.proofs.ActedLaws.{command-acted}
+use Rattle.hwp_law.proofs.AnswersInOrder.{answer-from, answers_in}
 use Rattle.hwp_law_private.proofs.AnswerLines.{caused-given, found-line, line-given, zip-get, zip-parts}
 use Rattle.hwp_law_private.proofs.Shares.{some-and}
 
@@ -86,6 +87,10 @@ result-soft script report who l results.NoFrame at offline named = absurd (none-
 
 -- ---- an answer
 
+abbrev pub is_stopped : Answer → Bool
+is_stopped answers.Stopped = true
+is_stopped answer = false
+
 -- what is known of a command with its answer
 pub record IsAnswered (script : Script) (report : Report) (who : Who) (command : Command) (answer : Answer) : Type 0 where
   pub command_is : command_at script who ≡ Some command
@@ -110,47 +115,59 @@ module _ (script : Script) (report : Report) (fit : AnswersFit (acting_script sc
       let l = then-there (λ (list : List Command). slice_get list who.seq) (slice_get (acting_script script report).lists who.cpu.0) (acted who command) (acted-there who command is) in
       record { list = l.0; list_is = l.2; caused = fit.caused who.cpu l.0 rows l.1 there }
 
-  -- a command with its answer, as the report pairs them
-  pub answered-at : (who : Who) (p : Command × Answer) → slice_get (answered_on script report who.cpu) who.seq ≡ Some p → IsAnswered script report who p.0 p.1
-  answered-at who p there =
-      let parts = zip-parts (unwrap_or (slice_get script.lists who.cpu.0) []) (answers_in (unwrap_or (slice_get report.cpus who.cpu.0) [])) who.seq p there in
-      let mine = list-there (slice_get script.lists who.cpu.0) who.seq p.0 parts.0 in
-      let command_is : command_at script who ≡ Some p.0 = ap (option_and_then (λ (list : List Command). slice_get list who.seq)) mine.1 ∙ mine.2 in
-      some-rows (slice_get report.cpus who.cpu.0) refl command_is parts.1
-    where
-      some-rows : (o : Option (List CpuLine)) → slice_get report.cpus who.cpu.0 ≡ o → command_at script who ≡ Some p.0 → slice_get (answers_in (unwrap_or o [])) who.seq ≡ Some p.1 → IsAnswered script report who p.0 p.1
-      some-rows None none is there = absurd (none-some p.1 there)
-      some-rows (Some rows) some is there =
-          let l = lists who p.0 rows is some in
-          let g = caused-given (acting_script script report) report who.cpu 0 l.list rows l.caused who.seq p.1 there in
-          let same : 0 + who.seq ≡ who.seq = omega arith in
-          let command : g.command ≡ acted who p.0 = same_Some g.command (acted who p.0) (sym (g.command_is) ∙ l.list_is) in
-          record {
-            command_is = is;
-            found = ap (λ (o : Option (List CpuLine)). answer_among (unwrap_or o []) who.seq) some ∙ subst (λ (k : ℕ). answer_among rows k ≡ Some p.1) same g.found;
-            caused = subst (λ (k : ℕ). IsCaused (acting_script script report) report (record { cpu = who.cpu; seq = k }) (acted who p.0) p.1) same
-                (subst (λ (c : Command). IsCaused (acting_script script report) report (record { cpu = who.cpu; seq = 0 + who.seq }) c p.1) command g.caused);
-          }
+  -- a command that is there, with an answer line of it
+  line-known : (who : Who) (command : Command) (rows : List CpuLine) (j : ℕ) (answer : Answer) → command_at script who ≡ Some command → slice_get report.cpus who.cpu.0 ≡ Some rows → slice_get rows j ≡ Some (lines.Answer who.seq answer)
+      → IsAnswered script report who command answer
+  line-known who command rows j answer is some line =
+      let l = lists who command rows is some in
+      let given : (i : ℕ) × (who.seq ≡ 0 + i) × (slice_get (answers_in rows) i ≡ Some answer) = line-given (acting_script script report) report who.cpu 0 l.list rows l.caused j who.seq answer line in
+      let at : given.0 ≡ who.seq = omega (arith, given.1) in
+      let g = caused-given (acting_script script report) report who.cpu 0 l.list rows l.caused who.seq answer (subst (λ (k : ℕ). slice_get (answers_in rows) k ≡ Some answer) at given.2) in
+      let same : 0 + who.seq ≡ who.seq = omega arith in
+      let own : g.command ≡ acted who command = same_Some g.command (acted who command) (sym (g.command_is) ∙ l.list_is) in
+      record {
+        command_is = is;
+        found = ap (λ (o : Option (List CpuLine)). answer_among (unwrap_or o []) who.seq) some ∙ subst (λ (k : ℕ). answer_among rows k ≡ Some answer) same g.found;
+        caused = subst (λ (k : ℕ). IsCaused (acting_script script report) report (record { cpu = who.cpu; seq = k }) (acted who command) answer) same
+            (subst (λ (c : Command). IsCaused (acting_script script report) report (record { cpu = who.cpu; seq = 0 + who.seq }) c answer) own g.caused);
+      }
 
-  -- an answer line of a command that is there pairs them
-  line-pairs : (who : Who) (command : Command) (rows : List CpuLine) (j : ℕ) (answer : Answer) → command_at script who ≡ Some command → slice_get report.cpus who.cpu.0 ≡ Some rows → slice_get rows j ≡ Some (lines.Answer who.seq answer)
-      → slice_get (answered_on script report who.cpu) who.seq ≡ Some (command, answer)
-  line-pairs who command rows j answer is there line =
-      let l = lists who command rows is there in
-      let g : (i : ℕ) × (who.seq ≡ 0 + i) × (slice_get (answers_in rows) i ≡ Some answer) = line-given (acting_script script report) report who.cpu 0 l.list rows l.caused j who.seq answer line in
-      let same : g.0 ≡ who.seq = omega (arith, g.1) in
-      let mine = then-there (λ (list : List Command). slice_get list who.seq) (slice_get script.lists who.cpu.0) command is in
-      zip-get (unwrap_or (slice_get script.lists who.cpu.0) []) (answers_in (unwrap_or (slice_get report.cpus who.cpu.0) [])) who.seq command answer
-      (ap (λ (o : Option (List Command)). slice_get (unwrap_or o []) who.seq) mine.1 ∙ mine.2)
-      (ap (λ (o : Option (List CpuLine)). slice_get (answers_in (unwrap_or o [])) who.seq) there ∙ subst (λ (k : ℕ). slice_get (answers_in rows) k ≡ Some answer) same g.2)
+  -- and with the answer that the report has of it
+  found-known : (who : Who) (command : Command) (answer : Answer) → command_at script who ≡ Some command → answer_of report who ≡ Some answer → IsAnswered script report who command answer
+  found-known who command answer is found = some-rows (slice_get report.cpus who.cpu.0) refl found
+    where
+      some-rows : (o : Option (List CpuLine)) → slice_get report.cpus who.cpu.0 ≡ o → answer_among (unwrap_or o []) who.seq ≡ Some answer → IsAnswered script report who command answer
+      some-rows None none here = absurd (none-some answer here)
+      some-rows (Some rows) some here = let l = found-line who.seq answer rows here in line-known who command rows l.0 answer is some l.1
+
+  abbrev list-of : Who → List Command
+  list-of who = unwrap_or (slice_get script.lists who.cpu.0) []
+
+  -- the answer that the report pairs with a command
+  given-at : (who : Who) (command : Command) → slice_get (list-of who) who.seq ≡ Some command → slice_get (answers_to (list-of who) (rows_of report who)) who.seq ≡ Some (unwrap_or (answer_of report who) answers.Stopped)
+  given-at who command there =
+      let same : 0 + who.seq ≡ who.seq = omega arith in
+      answer-from (answer_among (rows_of report who)) 0 (length (list-of who)) who.seq (slice_get_within (list-of who) who.seq command there)
+      ∙ ap (λ (k : ℕ). Some (unwrap_or (answer_among (rows_of report who) k) answers.Stopped)) same
+
+  -- a command with its answer, as the report pairs them: but for `stopped`, the report has that answer of it
+  pub answered-at : (who : Who) (p : Command × Answer) → slice_get (answered_on script report who.cpu) who.seq ≡ Some p → is_stopped p.1 ≡ false → IsAnswered script report who p.0 p.1
+  answered-at who p there other =
+      let parts = zip-parts (list-of who) (answers_to (list-of who) (rows_of report who)) who.seq p there in
+      let mine = list-there (slice_get script.lists who.cpu.0) who.seq p.0 parts.0 in
+      found-known who p.0 p.1 (ap (option_and_then (λ (list : List Command). slice_get list who.seq)) mine.1 ∙ mine.2)
+      (told (answer_of report who) p.1 (same_Some (unwrap_or (answer_of report who) answers.Stopped) p.1 (sym (given-at who p.0 parts.0) ∙ parts.1)) other)
+    where
+      told : (o : Option Answer) (answer : Answer) → unwrap_or o answers.Stopped ≡ answer → is_stopped answer ≡ false → o ≡ Some answer
+      told None answer same other = absurd (true≢false (ap is_stopped same ∙ other))
+      told (Some x) answer same other = ap Some same
 
   -- the answer of a command that is there is the one that the report pairs it with
   pub found-pairs : (who : Who) (command : Command) (answer : Answer) → command_at script who ≡ Some command → answer_of report who ≡ Some answer → slice_get (answered_on script report who.cpu) who.seq ≡ Some (command, answer)
-  found-pairs who command answer is found = some-rows (slice_get report.cpus who.cpu.0) refl found
-    where
-      some-rows : (o : Option (List CpuLine)) → slice_get report.cpus who.cpu.0 ≡ o → answer_among (unwrap_or o []) who.seq ≡ Some answer → slice_get (answered_on script report who.cpu) who.seq ≡ Some (command, answer)
-      some-rows None none found = absurd (none-some answer found)
-      some-rows (Some rows) some found = let l = found-line who.seq answer rows found in line-pairs who command rows l.0 answer is some l.1
+  found-pairs who command answer is found =
+      let mine = then-there (λ (list : List Command). slice_get list who.seq) (slice_get script.lists who.cpu.0) command is in
+      let here : slice_get (list-of who) who.seq ≡ Some command = ap (λ (o : Option (List Command)). slice_get (unwrap_or o []) who.seq) mine.1 ∙ mine.2 in
+      zip-get (list-of who) (answers_to (list-of who) (rows_of report who)) who.seq command answer here (given-at who command here ∙ ap (λ (o : Option Answer). Some (unwrap_or o answers.Stopped)) found)
 
   -- ---- the answer that names an entry which stored a word
 
@@ -180,9 +197,8 @@ module _ (script : Script) (report : Report) (fit : AnswersFit (acting_script sc
       let same : entries.Soft ≡ entries.Store through line (Word mask word) = sym soft.2 ∙ ap (λ (y : Entry). y.what) (same_Some soft.0 e (sym soft.1 ∙ there)) ∙ is in
       absurd (true≢false (sym (ap is_storing same)))
   by-line at e through line word mask thread slot own x there is command rows some i (lines.Answer number answer) row seq named =
-      let pair = line-pairs e.who (commands.Store thread slot own x) rows i answer command some (row ∙ ap (λ (n : ℕ). Some (lines.Answer n answer)) seq) in
-      let known = answered-at e.who (commands.Store thread slot own x, answer) pair in
-      pair ∙ ap (λ (a : Answer). Some (commands.Store thread slot own x, a)) (by-answer at e through line word mask thread slot own x there is answer known.caused named)
+      let known = line-known e.who (commands.Store thread slot own x) rows i answer command some (row ∙ ap (λ (n : ℕ). Some (lines.Answer n answer)) seq) in
+      found-pairs e.who (commands.Store thread slot own x) answer command known.found ∙ ap (λ (a : Answer). Some (commands.Store thread slot own x, a)) (by-answer at e through line word mask thread slot own x there is answer known.caused named)
 
   pub named-stored : (at : At) (e : Entry) (through : VSlot) (line word : ℕ) (mask : Mask) (thread : Thread) (slot : VSlot) (own x : ℕ) → entry_at report.pages at ≡ Some e → e.what ≡ entries.Store through line (Word mask word)
       → command_at script e.who ≡ Some (commands.Store thread slot own x) → copied_at script report e.who ≡ None

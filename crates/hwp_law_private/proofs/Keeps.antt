@@ -208,7 +208,7 @@ module _ (script : Script) (report : Report) (valid : IsValid script) (histories
 
       which : (b : Bool) → (l == line) ≡ b → last_word (stored_to m) (filter_map (word_of cpu m line) list) ≡ unwrap_or (if l == line then Some x else None) word
       which true e =
-          made (eqb-true l line e) (answered-at script report fit (who_at cpu m) (commands.Store thread slot l x, answers.Stored at) there).caused
+          made (eqb-true l line e) (answered-at script report fit (who_at cpu m) (commands.Store thread slot l x, answers.Stored at) there refl).caused
           ∙ ap (λ (b : Bool). unwrap_or (if b then Some x else None) word) (sym e)
       which false e =
           ap (last_word (stored_to m)) (none-mapped (word_of cpu m line) list (none (λ same. true≢false (sym (eq-eqb l line same) ∙ e)))) ∙ k.switched on
@@ -234,7 +234,7 @@ module _ (script : Script) (report : Report) (valid : IsValid script) (histories
   stored-copy m c word thread l x at k off there = now ∙ which (l == line) refl
     where
       known : IsAnswered script report (who_at cpu m) (commands.Store thread slot l x) (answers.Stored at)
-      known = answered-at script report fit (who_at cpu m) (commands.Store thread slot l x, answers.Stored at) there
+      known = answered-at script report fit (who_at cpu m) (commands.Store thread slot l x, answers.Stored at) there refl
 
       keeps : KeepsWord script.layout report (who_at cpu m) slot f.twin l x line
       keeps =

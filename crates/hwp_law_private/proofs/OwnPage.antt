@@ -74,7 +74,7 @@ module _ (script : Script) (report : Report) (valid : IsValid script) (histories
   before-fork who other c is no-fork o there page mine unfrozen = which (cases_order who.seq fork)
     where
       fork_there : command_at script (record { cpu = cpu; seq = fork }) ≡ Some (commands.Fork f.thread f.process)
-      fork_there = (answered-at script report fit (record { cpu = cpu; seq = fork }) (commands.Fork f.thread f.process, answers.Done) f.fork_is).command_is
+      fork_there = (answered-at script report fit (record { cpu = cpu; seq = fork }) (commands.Fork f.thread f.process, answers.Done) f.fork_is refl).command_is
 
       which : (who.seq ≡ fork) ⊎ ((who.seq < fork) ⊎ (fork < who.seq)) → who.seq < fork
       which (inl same) =

@@ -130,7 +130,7 @@ module _ (script : Script) (report : Report) (valid : IsValid script) (histories
   load-there : (who : Who) (command : Command) (slot : VSlot) (line word : ℕ) (at : At) → command_at script who ≡ Some command → loaded command ≡ Some (slot, line) → slice_get (answered_on script report who.cpu) who.seq ≡ Some (command, answers.Value word at)
       → IsLoadOf script report who command slot line word at
   load-there who command slot line word at is loads pair =
-      load-of script report who slot line word at command is loads (valid-command script valid who command is).0 (answered-at script report fit who (command, answers.Value word at) pair).caused
+      load-of script report who slot line word at command is loads (valid-command script valid who command is).0 (answered-at script report fit who (command, answers.Value word at) pair refl).caused
       (λ (v : VSlot) (l : ℕ) (mask : Mask) stood. made-there who command at (entries.Load (through script.layout (answered_before script report who) v) l (Word mask word)) is stood)
 
 page-of : (script : Script) (at : At) (u : VSlot) (d : TransDecl) → slice_get script.layout.trans u.0 ≡ Some d → IsOf script.layout at.page u → at.page.0 ≡ d.page.0

@@ -14,6 +14,7 @@ use Rattle.hwp_law_run.specs.hwp_core_rule.declared.View.{View}
 use Rattle.hwp_law_run.specs.hwp_script_read.declared.Command.{Command}
 use Rattle.hwp_law_run.specs.hwp_script_read.declared.Script.{Script}
 use Rattle.hwp_law_run.specs.hwp_report_text.declared.Answer.{Answer}
+use Rattle.hwp_law_run.specs.hwp_report_text.declared.Answer.TheVariants as answers
 use Rattle.hwp_law_run.specs.hwp_report_text.declared.CpuLine.{CpuLine}
 use Rattle.hwp_law_run.specs.hwp_report_text.declared.CpuLine.TheVariants as lines
 use Rattle.hwp_law_run.specs.hwp_report_text.declared.EventLine.{EventLine}
@@ -22,7 +23,7 @@ use Rattle.hwp_law_run.specs.hwp_report_text.declared.OfflinedLine.{OfflinedLine
 use Rattle.hwp_law_run.specs.hwp_report_text.declared.Report.{Report}
 use Rattle.hwp_law_run.proofs.of_hwp_core_rule.Lists.{at_map}
 use Rattle.hwp_law_run.proofs.of_hwp_law.Rows.{same_answer}
-use Rattle.hwp_law_run.specs.hwp_law.Lines.{AnswerLine, answer_among, answer_in, answer_of, answered, event_in, events_among, events_of, guest_in, guests_among, guests_told, offlined_among, offlined_in, offlined_of, rows_of}
+use Rattle.hwp_law_run.specs.hwp_law.Lines.{AnswerLine, answer_among, answer_in, answer_of, answered, answers_from, answers_to, event_in, events_among, events_of, guest_in, guests_among, guests_told, offlined_among, offlined_in, offlined_of, rows_of}
 use Rattle.hwp_law_run.specs.hwp_law.Policies.{answered_on}
 use Rattle.hwp_cpu_row.specs.declared.Offlining.{Offlining}
 use Rattle.hwp_cpu_row.specs.declared.Row.{Row}
@@ -232,13 +233,6 @@ guests-in n row = by row.told
 pub answers-split : (n : ℕ) (row : Row) (rows : List Row) → filter_map answer_in (lines_from n (row ∷ rows)) ≡ record { seq = n; answer = row.answer } ∷ filter_map answer_in (lines_from (n + 1) rows)
 answers-split n row rows = filter_map-append answer_in (row_lines n row) (lines_from (n + 1) rows) ∙ ap (λ (l : List AnswerLine). l ++ filter_map answer_in (lines_from (n + 1) rows)) (answers-in n row)
 
--- the answers in the lines of rows are those of the rows
-pub answers-of-rows : (n : ℕ) (rows : List Row) → map (λ (l : AnswerLine). l.answer) (filter_map answer_in (lines_from n rows)) ≡ map (λ (r : Row). r.answer) rows
-answers-of-rows n [] = refl
-answers-of-rows n (row ∷ rows) =
-    ap (map (λ (l : AnswerLine). l.answer)) (answers-split n row rows)
-    ∙ ap (λ (l : List Answer). row.answer ∷ l) (answers-of-rows (n + 1) rows)
-
 -- the answer of a command among its processor's lines
 pub answer-at : (n : ℕ) (rows : List Row) (k m : ℕ) (row : Row) → slice_get rows k ≡ Some row → m ≡ n + k → answer_among (lines_from n rows) m ≡ Some row.answer
 answer-at n [] k m row there at = absurd (none-some row there)
@@ -252,6 +246,19 @@ answer-at n (r ∷ rows) (suc k) m row there at =
     ap (λ (l : List AnswerLine). option_map (λ (x : AnswerLine). x.answer) (find (λ (x : AnswerLine). m == x.seq) l)) (answers-split n r rows)
     ∙ ap (λ (b : Bool). option_map (λ (x : AnswerLine). x.answer) (cond b (Some (record { seq = n; answer = r.answer })) (find (λ (x : AnswerLine). m == x.seq) (filter_map answer_in (lines_from (n + 1) rows))))) (ne_eqb m n other)
     ∙ answer-at (n + 1) rows k m row there (omega arith)
+
+-- the answers in the lines of rows, one row for each command, are those of the rows
+answers-from-rows : (told : ℕ → Option Answer) (n : ℕ) (rows : List Row) → ((k : ℕ) (row : Row) → slice_get rows k ≡ Some row → told (n + k) ≡ Some row.answer) → answers_from told n (length rows) ≡ map (λ (r : Row). r.answer) rows
+answers-from-rows told n [] each = refl
+answers-from-rows told n (row ∷ rows) each =
+    let first : n ≡ n + 0 = omega arith in
+    ap (λ (o : Option Answer). unwrap_or o answers.Stopped ∷ answers_from told (n + 1) (length rows)) (ap told first ∙ each 0 row refl)
+    ∙ ap (λ (l : List Answer). row.answer ∷ l)
+    (answers-from-rows told (n + 1) rows (λ k r there. (let next : (n + 1) + k ≡ n + suc k = omega arith in ap told next ∙ each (suc k) r there)))
+
+pub answers-of-rows : (list : List Command) (rows : List Row) → length rows ≡ length list → answers_to list (lines_from 0 rows) ≡ map (λ (r : Row). r.answer) rows
+answers-of-rows list rows many =
+    ap (answers_from (answer_among (lines_from 0 rows)) 0) (sym many) ∙ answers-from-rows (answer_among (lines_from 0 rows)) 0 rows (λ k row there. answer-at 0 rows k (0 + k) row there refl)
 
 -- the lines of one kind: those of events, and those of frames that were taken out of use. Each row has some, with the row's number
 module _ {A B : Type 0} (kind : CpuLine → Option B) (number : B → ℕ) (line : ℕ → A → B) (of : Row → List A) (kind_is : (n : ℕ) (row : Row) → filter_map kind (row_lines n row) ≡ map (line n) (of row)) (numbered : (n : ℕ) (x : A) → number (line n x) ≡ n) where
@@ -378,4 +385,4 @@ module _ (script : Script) (copies : Who → Option VSlot) (seat : Cpu → ℕ) 
   answered-so cpu list own list_is own_is =
       ap (λ (o : Option (List Command)). answered (unwrap_or o []) (unwrap_or (slice_get report.cpus cpu.0) [])) list_is
       ∙ ap (λ (o : Option (List CpuLine)). answered list (unwrap_or o [])) (served-of script copies seat last report end cpu list own list_is own_is).1
-      ∙ ap (λ (l : List Answer). zip list l) (answers-of-rows 0 own)
+      ∙ ap (λ (l : List Answer). zip list l) (answers-of-rows list own (served-of script copies seat last report end cpu list own list_is own_is).0.count)

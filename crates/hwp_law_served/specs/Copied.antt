@@ -32,7 +32,7 @@ use Rattle.hwp_cpu_copy.specs.hwp_fork.declared.cow.Sub.{Sub}
 use Rattle.hwp_cpu_copy.specs.hwp_fork.declared.cow.Sub.TheVariants as subs
 use Rattle.hwp_cpu_copy.specs.hwp_fork.Cows as cows
 use Rattle.hwp_cpu_copy.specs.hwp_cpu_access.Checks.{AreChecks}
-use Rattle.hwp_cpu_copy.specs.hwp_cpu_access.Fits.{checks_in}
+use Rattle.hwp_cpu_copy.specs.hwp_cpu_access.Fits.{LetsGoOn, checks_in}
 use Rattle.hwp_cpu_copy.specs.Copyings.{load_of, request_by}
 use Rattle.hwp_cpu_copy.specs.Fits.{IsLastPlace}
 use Rattle.hwp_cpu_copy.specs.Runs.{AreRuns, IsBetween, Run, checks_by, made_by, words_of}
@@ -42,13 +42,14 @@ abbrev pub store_by : Who → Thread → VSlot → ℕ → ℕ → Page → Proc
 store_by who thread to line word page process = record { who = who; thread = thread; slot = to; line = line; kind = kinds.Store word; page = page; process = process }
 
 -- the store copied the page of `from`, with this in the banks before: the accesses that went well, in the order of the copy, and what its
--- command made behind them
+-- command made behind them; none of their machine checks stopped the machine or signalled the thread
 pub record HasCopied (layout : Layout) (view : View) (store : Request) (from : VSlot) (word : ℕ) (before : Banks) : Type 0 where
   pub names : accesses.IsDeclared layout store
   pub page : Page
   pub own : accesses.IsDeclared layout (load_of store page from 0)
   pub runs : List Run
   pub are : AreRuns layout view store page (cows.begin from store.slot store.line word) before runs
+  pub lets : LetsGoOn (lines_of (checks_by runs))
   pub rest : List Made
   pub all : deeds store.who view ≡ made_by runs ++ rest
 
@@ -69,10 +70,12 @@ pub record IsBehind (store : Request) (page : Page) (sub : Sub) (rest : List Mad
   pub access_is : request_by store page sub ≡ Some access
   pub such : EachMember (IsBetween access) rest
 
--- the accesses were all, and the place is that of the last one, the store itself; the freeing is behind it
-pub record HasSwitched (sub : Sub) (runs : List Run) (rest : List Made) (at : At) : Type 0 where
+-- the accesses were all, with no machine check beside theirs, and the place is that of the last one, the store itself; the freeing is
+-- behind it
+pub record HasSwitched (sub : Sub) (runs : List Run) (rest : List Made) (told : List EventOutcome) (at : At) : Type 0 where
   pub sub_is : sub ≡ subs.Switched
   pub rest_is : rest ≡ []
+  pub told_is : told ≡ lines_of (checks_by runs)
   pub stores : List Run
   pub freed : Run
   pub runs_are : runs ≡ stores ++ freed ∷ []
@@ -87,9 +90,11 @@ pub record IsRefused (store : Request) (page : Page) (sub : Sub) (rest : List Ma
   pub page_is : at.page ≡ behind.access.page
   pub refused : IsAt at.page at.entry (refusal_by behind.access.kind behind.access.slot behind.access.line behind.access.thread) last
 
--- a failure of its machine checks signalled the thread, first by the entry at the place
-pub record IsSignalled (store : Request) (page : Page) (sub : Sub) (rest : List Made) (told : List EventOutcome) (at : At) : Type 0 where
+-- a failure of its own machine checks, behind those of the accesses that went well, signalled the thread, first by the entry at the place
+pub record IsSignalled (store : Request) (page : Page) (sub : Sub) (runs : List Run) (rest : List Made) (told : List EventOutcome) (at : At) : Type 0 where
   pub first : first_signal told ≡ Some at
+  pub own : List EventOutcome
+  pub told_is : told ≡ lines_of (checks_by runs) ++ own
   pub behind : IsBehind store page sub rest
 
 -- no frame was available, and the access that comes found its page in none
@@ -105,14 +110,21 @@ pub record FoundEnded (layout : Layout) (view : View) (store : Request) (page : 
   pub saw : Saw view store.who (places.Process store.process) (ended.0 + 1)
   pub behind : IsBehind store page sub rest
 
--- the machine had stopped, as an access or the freeing found, or the command stopped it itself
+-- the freeing comes, and found that the machine had stopped
+pub record IsStoppedFreeing (view : View) (store : Request) (sub : Sub) (rest : List Made) : Type 0 where
+  pub slot : VSlot
+  pub sub_is : sub ≡ subs.Free slot
+  pub rest_is : rest ≡ []
+  pub saw : SawStop view store.who
+
+-- the machine had stopped, as the access that comes found, or the command stopped it itself; or the freeing found so
 pub record WasStopped (view : View) (store : Request) (page : Page) (sub : Sub) (rest : List Made) : Type 0 where
   pub stopped : SawStop view store.who ⊎ SomeMember (λ (w : Who). w ≡ store.who) view.stops
-  pub behind : IsBehind store page sub rest ⊎ (rest ≡ [])
+  pub behind : IsBehind store page sub rest ⊎ IsStoppedFreeing view store sub rest
 
 abbrev pub IsCopyEnded : Layout → View → Request → Page → Sub → List Run → List Made → List EventOutcome → Answer → Type 0
-IsCopyEnded layout view store page sub runs rest told (answers.Stored at) = IsGoing layout view store × HasSwitched sub runs rest at
-IsCopyEnded layout view store page sub runs rest told (answers.Sigbus at) = IsGoing layout view store × (IsRefused store page sub rest at ⊎ IsSignalled store page sub rest told at)
+IsCopyEnded layout view store page sub runs rest told (answers.Stored at) = IsGoing layout view store × HasSwitched sub runs rest told at
+IsCopyEnded layout view store page sub runs rest told (answers.Sigbus at) = IsGoing layout view store × (IsRefused store page sub rest at ⊎ IsSignalled store page sub runs rest told at)
 IsCopyEnded layout view store page sub runs rest told answers.NoFrame = IsGoing layout view store × FoundNone layout view store page sub rest
 IsCopyEnded layout view store page sub runs rest told (answers.Gone ended) = FoundEnded layout view store page sub rest ended
 IsCopyEnded layout view store page sub runs rest told answers.Stopped = WasStopped view store page sub rest

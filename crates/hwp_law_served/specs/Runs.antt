@@ -34,7 +34,6 @@ use Rattle.hwp_law_run.specs.Turns.{Leads}
 use Rattle.hwp_cpu_row.specs.declared.Row.{Row}
 use Rattle.hwp_cpu_row.specs.hwp_cpu_check.declared.EventOutcome.{EventOutcome}
 use Rattle.hwp_cpu_row.specs.hwp_cpu_check.Told.{frame_of}
-use Rattle.hwp_law_served.specs.Guests.{KnowsGuests}
 use Rattle.hwp_law_served.specs.Rows.{Note, lines_from, notes_from, record_of}
 use Rattle.hwp_law_served.specs.Served.{HasServed, IsServed}
 
@@ -50,11 +49,6 @@ abbrev pub HaveServed : Script → (Cpu → ℕ) → State → List (List Row) �
 HaveServed script seat last rows cpus =
     (cpu : Cpu) (list : List Command) (own : List Row) → slice_get script.lists cpu.0 ≡ Some list → slice_get rows cpu.0 ≡ Some own
     → HasServed script.layout (view_of last (seat cpu)) cpu list own × (slice_get cpus cpu.0 ≡ Some (lines_from 0 own))
-
--- what the rows of each processor say of guests, by the script's own lists
-abbrev pub KnowsAllGuests : Script → (Cpu → ℕ) → State → List (List Row) → Type 0
-KnowsAllGuests script seat last rows =
-    (cpu : Cpu) (list : List Command) (own : List Row) → slice_get script.lists cpu.0 ≡ Some list → slice_get rows cpu.0 ≡ Some own → KnowsGuests script.layout (view_of last (seat cpu)) cpu list own
 
 -- what the processors noted, from number n on
 abbrev pub notes_of : ℕ → List (List Row) → List (List Note)

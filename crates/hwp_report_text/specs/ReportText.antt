@@ -5,7 +5,7 @@ use Rattle.hwp_page.specs.hwp_geom.declared.Version.{Version}
 use Rattle.hwp_page.specs.hwp_geom.declared.Who.{Who}
 use Rattle.hwp_page.specs.hwp_geom.declared.Thread.{Thread}
 use Rattle.hwp_page.specs.hwp_geom.declared.Mode.{Mode}
-use Rattle.hwp_severity.specs.declared.McgBits.{McgBits}
+use Rattle.hwp_guest.specs.hwp_severity.declared.McgBits.{McgBits}
 use Rattle.hwp_page.specs.hwp_kill.declared.Seen.{Seen}
 use Rattle.hwp_page.specs.hwp_kill.declared.Signal.{Signal}
 use Rattle.hwp_page.specs.declared.At.{At}

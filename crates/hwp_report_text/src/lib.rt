@@ -8,12 +8,14 @@ mod report;
 mod terms;
 
 pub use frames::{FrameLine, How, MarkLine, Whereabouts};
+pub use hwp_guest::{
+    Access, Admit, Arrival, Decision, Grade, Guest, McgBits, Severity, Taken, grade, handle,
+};
 pub use hwp_page::{
     At, Code, Cpu, Entry, Frame, Line, List, MAX_SIGNALS, Mask, Met, Mode, OutOfMemory, Outcome,
     Page, PageState, Policy, Proc, Reply, Seen, Signal, Situation, Slots, Text, Thread, VSlot,
     Version, What, Who, prctl,
 };
-pub use hwp_severity::{Arrival, Decision, Grade, McgBits, Severity, grade, handle};
 pub use lines::{Acted, Answer, CpuLine, EventLine, GuestLine, OfflineResult, OfflinedLine};
 pub use printing::print;
 pub use report::{Report, Stop, StopCause};

@@ -11,8 +11,8 @@ use crate::terms::{
 };
 use answers::put_cpu_lines;
 use entries::put_entries;
+use hwp_guest::McgBits;
 use hwp_page::{Entry, List, Mask, Mode, OutOfMemory, Page, Text, Version, Who};
-use hwp_severity::McgBits;
 use std::alloc::Global;
 
 mod answers;

@@ -1,7 +1,7 @@
 use crate::frames::FrameLine;
 use crate::lines::CpuLine;
+use hwp_guest::McgBits;
 use hwp_page::{Entry, Frame, List, Mode, Version, Who};
-use hwp_severity::McgBits;
 
 /// What stopped the machine.
 #[derive(Clone, Copy)]

@@ -8,4 +8,5 @@ mod types;
 
 pub use grading::grade;
 pub use handling::{Decision, handle};
+pub use hwp_banks::{Bank, Event, Mcg, Origin};
 pub use types::{Arrival, Grade, McgBits, Severity};

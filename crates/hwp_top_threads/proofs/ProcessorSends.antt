@@ -33,6 +33,7 @@ use Rattle.hwp_top_turns.specs.hwp_cpu_command.hwp_cpu_copy.contracts.copying.Co
 use Rattle.hwp_top_turns.specs.hwp_cpu_command.hwp_cpu_copy.contracts.copying.Copying as Copying
 use Rattle.hwp_top_turns.specs.hwp_cpu_control.contracts.prctl.Prctl as Prctl
 use Rattle.hwp_top_turns.specs.hwp_cpu_control.contracts.fork.Fork as Fork
+use Rattle.hwp_top_turns.specs.hwp_cpu_control.contracts.denied.Denied as Denied
 use Rattle.hwp_top_turns.specs.hwp_cpu_raise.contracts.log.Log as Log
 use Rattle.hwp_top_turns.specs.hwp_cpu_raise.contracts.raise.Raise as Raise
 use Rattle.hwp_top_turns.specs.hwp_scrub.contracts.scrub.Scrub as Scrub
@@ -178,8 +179,11 @@ soft-send = search (soft-at-send, sendable, crosses) depth 100 fits 20000
 unpoison-send : IsSend Unpoison.the_field.row
 unpoison-send = search (sendable, crosses) depth 100 fits 20000
 
+denied-send : IsSend Denied.the_field.row
+denied-send = search (sendable, crosses) depth 100 fits 20000
+
 job-send : IsSend Job.the_field.row
-job-send = search (instruction-send, copying-send, evict-send, fsync-send, prctl-send, fork-send, log-send, raise-send, scrub-send, spoil-send, nested-send, inject-send, soft-send, unpoison-send, sendable, crosses) depth 100 fits 20000
+job-send = search (instruction-send, copying-send, evict-send, fsync-send, prctl-send, fork-send, log-send, raise-send, scrub-send, spoil-send, nested-send, inject-send, soft-send, unpoison-send, denied-send, sendable, crosses) depth 100 fits 20000
 
 due-frames-send : IsSend DueFrames.the_row
 due-frames-send = search (offlining-send, sendable, crosses) depth 100 fits 20000

@@ -75,7 +75,7 @@ module _ (script : Script) (turns : List Played) (state : State) (rows : List (L
 
   pub run-lawful : IsLawful script report
   unfolding run-of
-  run-lawful = law-holds script valid own_seat turns state report run-of (λ cpu list own list_is own_is. (lines-served cpu list own list_is own_is).0.guests)
+  run-lawful = law-holds script valid own_seat turns state report run-of lines-served
 
 -- and of one whose tasks made their turns in the script's order
 module _ (script : Script) (log : List Played) (state : State) (rows : List (List Row)) (valid : IsValid script) (played : IsPlayed script log state rows)

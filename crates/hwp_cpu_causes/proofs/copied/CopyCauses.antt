@@ -2,6 +2,7 @@
 use Rattle.std.proofs.Common.{◌≡◌, ◌⊎◌, inl, inr, ℕ, ◌+◌, true, false, List, [], ◌∷◌, ◌++◌, Option, Some, None, filter_map, length, append-nil, refl, sym, ap, ◌∙◌, subst, arith, true≢false}
 use Rattle.std.specs.Option.{option_map}
 use Rattle.std.proofs.lemmas.List.{append_assoc, length-append}
+use Rattle.std.proofs.lemmas.List.Concat.{flat_map-append}
 use Rattle.std.proofs.lemmas.Option.{none-some}
 use Rattle.hwp_law_served.specs.hwp_geom.declared.Layout.{Layout}
 use Rattle.hwp_law_served.specs.hwp_geom.declared.Page.{Page}
@@ -152,6 +153,10 @@ module _ (layout : Layout) (view : View) (c : Copying) (runs : List Run) (has : 
     only-so : (only : HasOnlyBeside base (Precedes a.page a.slot a.line) view a.who) → deeds c.store.who view ≡ made_by runs ++ (end.since ++ only.own)
     only-so only = all-of only.own only.all
 
+    -- those of the accesses that went well, and then its own
+    told-parts : told ≡ lines_of (checks_by runs) ++ lines_of end.checks
+    told-parts = end.told_is ∙ flat_map-append (λ (k : Check). k.lines) (checks_by runs) end.checks
+
     refused-so : (place : At) → place.page ≡ a.page → accesses.HasRefusal base a view place.entry → halts told ≡ false → x ≡ answers.Sigbus place → HasEnd layout view c runs x
     refused-so place same refusal off is = with-rest (end.since ++ (refusal.made.before ++ refusal.made.last ∷ [])) (all-of (refusal.made.before ++ refusal.made.last ∷ []) refusal.made.all)
         (subst (Ends (end.since ++ (refusal.made.before ++ refusal.made.last ∷ []))) (sym is) (
@@ -169,7 +174,7 @@ module _ (layout : Layout) (view : View) (c : Copying) (runs : List Run) (has : 
 
     signalled-so : (place : At) → instruction_fits.IsSignalled base view a told place → x ≡ answers.Sigbus place → HasEnd layout view c runs x
     signalled-so place signalled is = with-rest (end.since ++ signalled.only.own) (only-so signalled.only)
-        (subst (Ends (end.since ++ signalled.only.own)) (sym is) (goes signalled.going, inr (record { first = signalled.first; behind = behind signalled.only.own signalled.only.such })))
+        (subst (Ends (end.since ++ signalled.only.own)) (sym is) (goes signalled.going, inr (record { first = signalled.first; own = lines_of end.checks; told_is = told-parts; behind = behind signalled.only.own signalled.only.such })))
         (λ on. goes-on told signalled.halts_none on)
 
     none-so : instruction_fits.IsOwnEnd base layout view a told access_answers.NoFrame → x ≡ answers.NoFrame → HasEnd layout view c runs x
@@ -228,13 +233,13 @@ module _ (layout : Layout) (view : View) (c : Copying) (runs : List Run) (has : 
       counted = refl;
       told_is = over.told.told_is ∙ ap lines_of (sym (append-nil (checks_by runs)));
       banks_are = over.told.banks_are ∙ ap (left_by c.instruction.before.value) (sym (append-nil (checks_by runs)));
-      heeded = λ on. goes-on told over.told.lets.halts_none on;
+      heeded = λ on. goes-on told (ap halts over.told.told_is ∙ has.lets.halts_none) on;
     }
 
     by-freeing : (y : InstructionAnswer) → x ≡ y → copying_fits.IsEnd [] view c runs y → HasEnd layout view c runs x
     by-freeing (answers.Stored place) is ended = freed-so (ap (request_by c.store c.page) ended.sub_is) ended.all
-        (subst (Ends []) (sym is) (going c.store has.names over.going, record { sub_is = ended.sub_is; rest_is = refl; stores = ended.accesses; freed = ended.freed; runs_are = ended.runs_are; last = ended.last }))
-    by-freeing answers.Stopped is ended = freed-so (ap (request_by c.store c.page) ended.sub_is) ended.all (subst (Ends []) (sym is) (record { stopped = inl ended.saw; behind = inr refl }))
+        (subst (Ends []) (sym is) (going c.store has.names over.going, record { sub_is = ended.sub_is; rest_is = refl; told_is = over.told.told_is; stores = ended.accesses; freed = ended.freed; runs_are = ended.runs_are; last = ended.last }))
+    by-freeing answers.Stopped is ended = freed-so (ap (request_by c.store c.page) ended.sub_is) ended.all (subst (Ends []) (sym is) (record { stopped = inl ended.saw; behind = inr (record { slot = c.cow.v; sub_is = ended.sub_is; rest_is = refl; saw = ended.saw }) }))
     by-freeing (answers.Value word place) is ended = absurd ended
     by-freeing (answers.Sigbus place) is ended = absurd ended
     by-freeing answers.NoFrame is ended = absurd ended
@@ -259,6 +264,7 @@ module _ (layout : Layout) (view : View) (c : Copying) (runs : List Run) (has : 
     own = has.own;
     runs = runs;
     are = subst (λ (w : Cow). AreRuns layout view c.store c.page w c.instruction.before.value runs) begun-as has.are;
+    lets = has.lets;
     rest = rest;
     all = all;
   }

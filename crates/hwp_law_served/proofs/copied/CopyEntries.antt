@@ -171,7 +171,7 @@ copy-rest layout view who thread from to line word store page slot_is thread_is 
     which (answers.Gone ended) is = all (answers.Gone ended) rest is.behind
     which answers.Stopped is = elim is.behind [
       | inl b ↦ all answers.Stopped rest b
-      | inr none_is ↦ none answers.Stopped none_is
+      | inr freeing ↦ none answers.Stopped freeing.rest_is
     ]
     which answers.GuestBad (going, begun, is) = none answers.GuestBad is
     which answers.GuestStopped (going, begun, is) = none answers.GuestStopped is

@@ -60,7 +60,7 @@ module _ (store : Request) (page : Page) (sub : Sub) where
   left-of layout view runs rest told (answers.Gone ended) is = left-behind rest is.behind
   left-of layout view runs rest told answers.Stopped is = elim is.behind [
     | inl b ↦ left-behind rest b
-    | inr none ↦ left-none rest none
+    | inr freeing ↦ left-none rest freeing.rest_is
   ]
   left-of layout view runs rest told answers.GuestBad (going, begun, is) = left-none rest is
   left-of layout view runs rest told answers.GuestStopped (going, begun, is) = left-none rest is

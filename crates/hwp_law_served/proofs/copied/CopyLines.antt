@@ -112,8 +112,8 @@ other-access test page layout view a banks r n l run differs none =
     (each-push (IsQuiet page test) run.before run.last (record { unchecked = λ own. absurd (differs (sym run.answers.0 ∙ own)); fails = λ own. absurd (differs (sym run.answers.0 ∙ own)) })
     (λ i m there. off-way test page a m differs none (run.such i m there)))
 
-free-access : (test : What → Bool) (any page : Page) (slot : VSlot) (r : Run) (n : ℕ) (l : List Made) → IsFreeRun page slot r → test (entries.Free slot) ≡ false → seen any test n (r.made ++ l) ≡ seen any test n l
-free-access test any page slot r n l run misses = which run.made_is
+free-access : (test : What → Bool) {layout : Layout} {view : View} {who : Who} (any page : Page) (slot : VSlot) (r : Run) (n : ℕ) (l : List Made) → IsFreeRun layout view who page slot r → test (entries.Free slot) ≡ false → seen any test n (r.made ++ l) ≡ seen any test n l
+free-access test {layout} {view} {who} any page slot r n l run misses = which run.made_is
   where
     which : (r.made ≡ []) ⊎ ((m : Made) × (r.made ≡ m ∷ []) × (m.page ≡ page) × (m.entry.what ≡ entries.Free slot)) → seen any test n (r.made ++ l) ≡ seen any test n l
     which (inl none) = ap (λ (made : List Made). seen any test n (made ++ l)) none

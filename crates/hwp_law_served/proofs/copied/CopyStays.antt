@@ -27,7 +27,7 @@ use Rattle.hwp_cpu_copy.specs.hwp_fork.declared.cow.Sub.TheVariants as subs
 use Rattle.hwp_cpu_copy.specs.hwp_fork.Cows as cows
 use Rattle.hwp_cpu_copy.specs.Copyings.{load_of, request_by, store_of}
 use Rattle.hwp_cpu_copy.specs.Runs.{AreRuns, IsAccessRun, IsRun, Run}
-use Rattle.hwp_law_served.specs.Copied.{AreChecksOf, FoundEnded, FoundNone, HasCopied, IsCopyCaused, IsCopyEnded, IsCopyTold, IsGoing, WasStopped, store_by}
+use Rattle.hwp_law_served.specs.Copied.{AreChecksOf, FoundEnded, FoundNone, HasCopied, IsBehind, IsCopyCaused, IsCopyEnded, IsCopyTold, IsGoing, IsStoppedFreeing, WasStopped, store_by}
 use Rattle.hwp_law_served.proofs.CheckTells.{checks-stay, deeds-stay}
 
 module _ {layout : Layout} {by : Who} {step : Step} {body : Option BodyValue} {old new : View} {found : ℕ} {got : Option BodyValue} (can : CanMake layout by step body old) (made : Steps layout by step (logs body) old new found got)
@@ -38,7 +38,7 @@ module _ {layout : Layout} {by : Who} {step : Step} {body : Option BodyValue} {o
   run-stays : (page : Page) (banks : Banks) (r : Run) (sub : Sub) → IsRun layout old store page banks r sub → IsRun layout new store page banks r sub
   run-stays page banks r (subs.Load slot line) is = record { before = is.before; last = is.last; made_is = is.made_is; such = is.such; mask = is.mask; good = is.good; page_is = is.page_is; answers = is.answers; checked = access-stays line banks r.checks is.checked; counted = is.counted }
   run-stays page banks r (subs.Store slot line word) is = record { before = is.before; last = is.last; made_is = is.made_is; such = is.such; mask = is.mask; good = is.good; page_is = is.page_is; answers = is.answers; checked = access-stays line banks r.checks is.checked; counted = is.counted }
-  run-stays page banks r (subs.Free slot) is = is
+  run-stays page banks r (subs.Free slot) is = record { made_is = is.made_is; unused = λ none. saw-state-stays made (is.unused none); unchecked = is.unchecked }
   run-stays page banks r subs.Switched is = is
 
   runs-stay : (page : Page) (cow : Cow) (banks : Banks) (runs : List Run) → AreRuns layout old store page cow banks runs → AreRuns layout new store page cow banks runs
@@ -52,6 +52,7 @@ module _ {layout : Layout} {by : Who} {step : Step} {body : Option BodyValue} {o
     own = has.own;
     runs = has.runs;
     are = runs-stay has.page (cows.begin from store.slot store.line word) before has.runs has.are;
+    lets = has.lets;
     rest = has.rest;
     all = deeds-stay can made store.who other ∙ has.all;
   }
@@ -61,10 +62,17 @@ module _ {layout : Layout} {by : Who} {step : Step} {body : Option BodyValue} {o
 
   module _ (stops : (P : Who → Type 0) → SomeMember P old.stops → SomeMember P new.stops) (page : Page) (sub : Sub) (runs : List Run) (rest : List Made) (told : List EventOutcome) where
     stopped-stays : WasStopped old store page sub rest → WasStopped new store page sub rest
-    stopped-stays was = record { stopped = which was.stopped; behind = was.behind }
+    stopped-stays was = record { stopped = which was.stopped; behind = freeing was.behind }
       where
+        saw-stop : SawStop old store.who → SawStop new store.who
+        saw-stop saw = record { word = saw.word; stopped = saw.stopped; saw = saw-stays made saw.saw }
+
+        freeing : IsBehind store page sub rest ⊎ IsStoppedFreeing old store sub rest → IsBehind store page sub rest ⊎ IsStoppedFreeing new store sub rest
+        freeing (inl b) = inl b
+        freeing (inr f) = inr (record { slot = f.slot; sub_is = f.sub_is; rest_is = f.rest_is; saw = saw-stop f.saw })
+
         which : SawStop old store.who ⊎ SomeMember (λ (w : Who). w ≡ store.who) old.stops → SawStop new store.who ⊎ SomeMember (λ (w : Who). w ≡ store.who) new.stops
-        which (inl saw) = inl (record { word = saw.word; stopped = saw.stopped; saw = saw-stays made saw.saw })
+        which (inl saw) = inl (saw-stop saw)
         which (inr own) = inr (stops (λ (w : Who). w ≡ store.who) own)
 
     ended-stays : (answer : Answer) → IsCopyEnded layout old store page sub runs rest told answer → IsCopyEnded layout new store page sub runs rest told answer

@@ -30,6 +30,7 @@ use Rattle.hwp_law_run.specs.hwp_law_commands.Commands.{command_at}
 use Rattle.hwp_law_run.specs.hwp_law.Copies.{own_in}
 use Rattle.hwp_law_run.specs.hwp_law.Lines.{answer_of}
 use Rattle.hwp_law_run.specs.hwp_law.Private.{last_word, word_in}
+use Rattle.hwp_cpu_row.specs.hwp_cpu_check.declared.EventOutcome.{EventOutcome}
 use Rattle.hwp_cpu_copy.specs.hwp_fault.declared.Request.{Request}
 use Rattle.hwp_cpu_copy.specs.hwp_fork.Cows as cows
 use Rattle.hwp_cpu_copy.specs.Copyings.{load_of}
@@ -66,9 +67,9 @@ of-command script copies seat last report end who command is = which (slice_get 
 
 module _ (script : Script) (copies : Who → Option VSlot) (seat : Cpu → ℕ) (last : State) (report : Report) (end : IsEnd script copies seat last report) where
   -- of the copy itself
-  kept-by : (who : Who) → who.cpu.0 < script.layout.cpus → (from : VSlot) (word line : ℕ) (before : Banks) (store : Request) → store.who ≡ who → (has : HasCopied script.layout (view_of last (seat who.cpu)) store from word before) (at : At)
-      → HasSwitched (sub_next store from word has.runs) has.runs has.rest at → line < line_limit → HasKept script.layout report who from store.slot store.line word line
-  kept-by who inside from word line before store who_is has at switched within = record {
+  kept-by : (who : Who) → who.cpu.0 < script.layout.cpus → (from : VSlot) (word line : ℕ) (before : Banks) (store : Request) → store.who ≡ who → (has : HasCopied script.layout (view_of last (seat who.cpu)) store from word before) {told : List EventOutcome} (at : At)
+      → HasSwitched (sub_next store from word has.runs) has.runs has.rest told at → line < line_limit → HasKept script.layout report who from store.slot store.line word line
+  kept-by who inside from word line before store who_is has {told} at switched within = record {
     stored = ends_on line (cows.begin from store.slot store.line word) kept.word;
     last = left;
     same = λ is. ap (λ (b : Bool). if b then word else kept.word) (eq-eqb store.line line is);

@@ -20,7 +20,7 @@ use Rattle.hwp_law_run.specs.hwp_report_text.declared.StopCause.{StopCause}
 use Rattle.hwp_law_run.specs.hwp_law_commands.Commands.{command_at}
 use Rattle.hwp_law_run.specs.hwp_law_commands.Cows.{acting, copied_from}
 use Rattle.hwp_law_run.specs.hwp_law.Acting.{acting_from, acting_lists, acting_script, copied_at}
-use Rattle.hwp_law_run.specs.hwp_law.Lines.{answered, answers_in}
+use Rattle.hwp_law_run.specs.hwp_law.Lines.{answered, answers_to}
 use Rattle.hwp_law_run.specs.hwp_law.Policies.{answered_before, answered_on}
 use Rattle.hwp_law_run.proofs.of_hwp_law.ActedLaws.{command-acted, list-at}
 use Rattle.hwp_cpu_row.specs.declared.Row.{Row}
@@ -65,33 +65,33 @@ module _ (script : Script) (report : Report) where
   pub acting-long : length (acting_script script report).lists ≡ length script.lists
   acting-long = lists-long script.layout report.cpus 0 script.lists
 
-  pub answered-are : (cpu : Cpu) (list : List Command) (own : List Row) → slice_get script.lists cpu.0 ≡ Some list → slice_get report.cpus cpu.0 ≡ Some (lines_from 0 own) → answered_on script report cpu ≡ answers_by list own
-  answered-are cpu list own list_is lines_is =
+  pub answered-are : (cpu : Cpu) (list : List Command) (own : List Row) → slice_get script.lists cpu.0 ≡ Some list → slice_get report.cpus cpu.0 ≡ Some (lines_from 0 own) → length own ≡ length list → answered_on script report cpu ≡ answers_by list own
+  answered-are cpu list own list_is lines_is many =
       ap (λ (o : Option (List Command)). answered (unwrap_or o []) (unwrap_or (slice_get report.cpus cpu.0) [])) list_is
       ∙ ap (λ (o : Option (List CpuLine)). answered list (unwrap_or o [])) lines_is
-      ∙ ap (λ (l : List Answer). zip list l) (answers-of-rows 0 own)
+      ∙ ap (λ (l : List Answer). zip list l) (answers-of-rows list own many)
 
-  copies-from : (cpu : Cpu) (list : List Command) (own : List Row) → slice_get script.lists cpu.0 ≡ Some list → slice_get report.cpus cpu.0 ≡ Some (lines_from 0 own) → CopiesFrom script.layout (copied_at script report) cpu [] 0 list own
-  copies-from cpu list own list_is lines_is k c there =
+  copies-from : (cpu : Cpu) (list : List Command) (own : List Row) → slice_get script.lists cpu.0 ≡ Some list → slice_get report.cpus cpu.0 ≡ Some (lines_from 0 own) → length own ≡ length list → CopiesFrom script.layout (copied_at script report) cpu [] 0 list own
+  copies-from cpu list own list_is lines_is many k c there =
       let same : k ≡ 0 + k = omega arith in
       subst (λ (m : ℕ). copied_at script report (record { cpu = cpu; seq = m }) ≡ copied_from script.layout (take k (answers_by list own)) c) same
       (ap (option_and_then (copied_from script.layout (answered_before script report (record { cpu = cpu; seq = k })))) (ap (option_and_then (λ (l : List Command). slice_get l k)) list_is ∙ there)
-      ∙ ap (λ (l : List (Command × Answer)). copied_from script.layout (take k l) c) (answered-are cpu list own list_is lines_is))
+      ∙ ap (λ (l : List (Command × Answer)). copied_from script.layout (take k l) c) (answered-are cpu list own list_is lines_is many))
 
   -- the rows are those of the commands that were acted on
   pub run-served : (seat : Cpu → ℕ) (last : State) (rows : List (List Row)) → HaveServed script seat last rows report.cpus → AreServed (acting_script script report) (copied_at script report) seat last rows report.cpus
   run-served seat last rows served cpu list own list_is own_is = which (slice_get script.lists cpu.0) refl (sym (list-at script report cpu.0) ∙ list_is)
     where
-      which : (o : Option (List Command)) → slice_get script.lists cpu.0 ≡ o → option_map (λ (l : List Command). acting_from script.layout [] l (answers_in (unwrap_or (slice_get report.cpus cpu.0) []))) o ≡ Some list
+      which : (o : Option (List Command)) → slice_get script.lists cpu.0 ≡ o → option_map (λ (l : List Command). acting_from script.layout [] l (answers_to l (unwrap_or (slice_get report.cpus cpu.0) []))) o ≡ Some list
           → IsServed script.layout (copied_at script report) (view_of last (seat cpu)) cpu list own × (slice_get report.cpus cpu.0 ≡ Some (lines_from 0 own))
       which None none there = absurd (none-some list there)
       which (Some mine) some there =
           let s = served cpu mine own some own_is in
-          let given_is : answers_in (unwrap_or (slice_get report.cpus cpu.0) []) ≡ given own = ap (λ (o : Option (List CpuLine)). answers_in (unwrap_or o [])) s.1 ∙ answers-of-rows 0 own in
+          let given_is : answers_to mine (unwrap_or (slice_get report.cpus cpu.0) []) ≡ given own = ap (λ (o : Option (List CpuLine)). answers_to mine (unwrap_or o [])) s.1 ∙ answers-of-rows mine own s.0.acted.count in
           let same : acted script.layout mine own ≡ list =
-          ap (acting_from script.layout [] mine) (sym given_is) ∙ same_Some (acting_from script.layout [] mine (answers_in (unwrap_or (slice_get report.cpus cpu.0) []))) list there in (
+          ap (acting_from script.layout [] mine) (sym given_is) ∙ same_Some (acting_from script.layout [] mine (answers_to mine (unwrap_or (slice_get report.cpus cpu.0) []))) list there in (
             subst (λ (l : List Command). IsServed script.layout (copied_at script report) (view_of last (seat cpu)) cpu l own) same
-                (served-acted script.layout mine own (copied_at script report) (view_of last (seat cpu)) cpu (copies-from cpu mine own some s.1) s.0.acted),
+                (served-acted script.layout mine own (copied_at script report) (view_of last (seat cpu)) cpu (copies-from cpu mine own some s.1 s.0.acted.count) s.0.acted),
             s.1,
           )
 

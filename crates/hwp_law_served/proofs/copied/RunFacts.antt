@@ -69,7 +69,7 @@ module _ (P : Made → Type 0) (layout : Layout) (view : View) (store : Request)
   of-access : (a : Request) (banks : Banks) (r : Run) → ((m : Made) → IsBetween a m → P m) → ((mask : ℕ) (m : Made) → IsAt a.page r.place.entry (what_of a mask r.word) m → P m) → IsAccessRun layout view a banks r → EachMember P r.made
   of-access a banks r way last run = subst (EachMember P) (sym run.made_is) (each-push P run.before run.last (last run.mask run.last run.answers) (λ i m there. way m (run.such i m there)))
 
-  of-free : (slot : VSlot) (r : Run) → ((m : Made) → m.page ≡ page → m.entry.what ≡ entries.Free slot → P m) → IsFreeRun page slot r → EachMember P r.made
+  of-free : (slot : VSlot) (r : Run) → ((m : Made) → m.page ≡ page → m.entry.what ≡ entries.Free slot → P m) → IsFreeRun layout view store.who page slot r → EachMember P r.made
   of-free slot r free run = which run.made_is
     where
       which : (r.made ≡ []) ⊎ ((m : Made) × (r.made ≡ m ∷ []) × (m.page ≡ page) × (m.entry.what ≡ entries.Free slot)) → EachMember P r.made

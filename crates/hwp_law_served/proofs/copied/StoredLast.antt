@@ -14,6 +14,7 @@ use Rattle.hwp_law_run.specs.hwp_core_rule.declared.Made.{Made}
 use Rattle.hwp_law_run.specs.hwp_core_rule.declared.View.{View}
 use Rattle.hwp_law_run.specs.hwp_core_rule.Lists.{EachMember}
 use Rattle.hwp_law_run.specs.hwp_core_task.Known.{IsAt, deeds}
+use Rattle.hwp_cpu_row.specs.hwp_cpu_check.declared.EventOutcome.{EventOutcome}
 use Rattle.hwp_cpu_row.specs.hwp_cpu_check.Checks.{left_by}
 use Rattle.hwp_cpu_copy.specs.hwp_fault.declared.Request.{Request}
 use Rattle.hwp_cpu_copy.specs.hwp_fork.declared.cow.Cow.{Cow}
@@ -37,7 +38,7 @@ apart sub other is = absurd (true≢false (sym (ap is_switched is) ∙ other))
 pub record AreLastTwo (layout : Layout) (view : View) (store : Request) (page : Page) (c : Cow) (last freed : Run) : Type 0 where
   pub banks : Banks
   pub stored : IsAccessRun layout view (store_of store c.w c.line c.x) banks last
-  pub freeing : IsFreeRun page c.v freed
+  pub freeing : IsFreeRun layout view store.who page c.v freed
 
 module _ (layout : Layout) (view : View) (store : Request) (page : Page) where
   two-at : (c : Cow) (x : CowAt) (banks : Banks) (last freed : Run) → IsRun layout view store page banks last (cows.sub_at c x) → IsRun layout view store page (left_by banks last.checks) freed (cows.sub_at c (cows.told_at x last.word))
@@ -74,8 +75,8 @@ pub record IsStoredLast (view : View) (store : Request) (page : Page) (from : VS
   pub stands : IsAt store.page place.entry (entries.Store store.slot store.line (Word (record { 0 = mask }) word)) last
   pub freed : (behind ≡ []) ⊎ ((m : Made) × (behind ≡ m ∷ []) × (m.page ≡ page) × (m.entry.what ≡ entries.Free from))
 
-pub stored-last : (layout : Layout) (view : View) (store : Request) (from : VSlot) (word : ℕ) (before : Banks) (has : HasCopied layout view store from word before) (place : At) → HasSwitched (sub_next store from word has.runs) has.runs has.rest place → IsStoredLast view store has.page from word place
-stored-last layout view store from word before has place is =
+pub stored-last : (layout : Layout) (view : View) (store : Request) (from : VSlot) (word : ℕ) (before : Banks) (has : HasCopied layout view store from word before) {told : List EventOutcome} (place : At) → HasSwitched (sub_next store from word has.runs) has.runs has.rest told place → IsStoredLast view store has.page from word place
+stored-last layout view store from word before has {told} place is =
     let front : List Run = is.last.0 in
     let last : Run = is.last.1 in
     let runs_are : has.runs ≡ front ++ last ∷ is.freed ∷ [] = is.runs_are ∙ ap (λ (l : List Run). l ++ is.freed ∷ []) is.last.2 ∙ append_assoc front (last ∷ []) (is.freed ∷ []) in

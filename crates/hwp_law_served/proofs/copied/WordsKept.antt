@@ -5,6 +5,7 @@ use Rattle.std.proofs.lemmas.Bool.{both_ways, cases_eq, eq-eqb, false_from_ne_tr
 use Rattle.hwp_law_run.specs.hwp_geom.declared.Layout.{Layout}
 use Rattle.hwp_law_run.specs.hwp_geom.declared.Page.{Page}
 use Rattle.hwp_law_run.specs.hwp_geom.declared.VSlot.{VSlot}
+use Rattle.hwp_law_run.specs.hwp_geom.declared.Who.{Who}
 use Rattle.hwp_law_run.specs.hwp_geom.Limits.{line_limit}
 use Rattle.hwp_law_run.specs.hwp_banks.Banks.{Banks}
 use Rattle.hwp_law_run.specs.hwp_page.declared.Met.TheVariants.{Word}
@@ -82,8 +83,8 @@ access-left k before layout view a banks r run =
     ∙ ap (λ (b : ℕ). left_on k b (run.last ∷ [])) (left-none k before run.before (λ i m there. stores-none k m.entry.what (no-store a m (run.such i m there))))
     ∙ ap (λ (w : What). last_word before (cons_option (word_in k w) [])) run.answers.2
 
-free-left : (k before : ℕ) (page : Page) (slot : VSlot) (r : Run) → IsFreeRun page slot r → left_on k before r.made ≡ before
-free-left k before page slot r run = which run.made_is
+free-left : (k before : ℕ) {layout : Layout} {view : View} {who : Who} (page : Page) (slot : VSlot) (r : Run) → IsFreeRun layout view who page slot r → left_on k before r.made ≡ before
+free-left k before {layout} {view} {who} page slot r run = which run.made_is
   where
     which : (r.made ≡ []) ⊎ ((m : Made) × (r.made ≡ m ∷ []) × (m.page ≡ page) × (m.entry.what ≡ entries.Free slot)) → left_on k before r.made ≡ before
     which (inl none) = ap (left_on k before) none

@@ -1,6 +1,6 @@
 -- The number of a handle that an answer of the report tells is one that its processor's seat knows. Before a command it is the one that an
 -- earlier command told, or 0.
-use Rattle.std.proofs.Common.{◌≡◌, ◌⊎◌, inl, inr, ℕ, zero, suc, ◌+◌, ◌<◌, ◌≤◌, ◌==◌, Bool, true, false, cond, List, [], ◌∷◌, Some, filter_map, length, map, slice_get, take, refl, sym, ap, ◌∙◌, subst, arith, Option}
+use Rattle.std.proofs.Common.{◌≡◌, ◌⊎◌, inl, inr, ℕ, zero, suc, ◌+◌, ◌<◌, ◌≤◌, ◌==◌, Bool, true, false, cond, List, [], ◌∷◌, Some, length, map, slice_get, take, refl, sym, ap, ◌∙◌, subst, arith, Option}
 use Rattle.std.specs.List.{zip}
 use Rattle.std.proofs.lemmas.Option.{none-some, same_Some}
 use Rattle.hwp_law_served.specs.hwp_geom.declared.Who.{Who}
@@ -19,7 +19,7 @@ use Rattle.hwp_law_served.specs.hwp_report_text.declared.Answer.{Answer}
 use Rattle.hwp_law_served.specs.hwp_report_text.declared.Answer.TheVariants as answers
 use Rattle.hwp_law_served.specs.hwp_report_text.declared.CpuLine.{CpuLine}
 use Rattle.hwp_law_served.specs.hwp_report_text.declared.Report.{Report}
-use Rattle.hwp_law_served.specs.hwp_law.Lines.{AnswerLine, answer_in, answered}
+use Rattle.hwp_law_served.specs.hwp_law.Lines.{answered, answers_to}
 use Rattle.hwp_law_served.specs.hwp_law.Losses.{number_by, numbers_after, tells_number}
 use Rattle.hwp_law_served.proofs.of_hwp_law_run.Homes.{there-is}
 use Rattle.hwp_law_served.specs.hwp_cpu_row.declared.Row.{Row}
@@ -50,7 +50,7 @@ module _ (script : Script) (copies : Who → Option VSlot) (seat : Cpu → ℕ) 
   number-known cpu list lines list_is lines_is file i p there tells =
       let has = rows-of-lines script copies seat last report end cpu lines lines_is in
       let same : has.list ≡ list = same_Some has.list list (sym has.list_is ∙ list_is) in
-      let pairs : answers_by list has.own ≡ answered list lines = ap (λ (l : List Answer). zip list l) (sym (ap (λ (l : List CpuLine). map (λ (x : AnswerLine). x.answer) (filter_map answer_in l)) has.lines_are ∙ answers-of-rows 0 has.own)) in
+      let pairs : answers_by list has.own ≡ answered list lines = ap (λ (l : List Answer). zip list l) (sym (ap (answers_to list) has.lines_are ∙ answers-of-rows list has.own (has.served.count ∙ ap (λ (l : List Command). length l) same))) in
       let knows : KnowsNumbers script.layout (view_of last (seat cpu)) cpu list has.own = subst (λ (l : List Command). KnowsNumbers script.layout (view_of last (seat cpu)) cpu l has.own) same has.served.numbers in (
         has.inside,
         subst (λ (l : List (Command × Answer)). slice_get {X = Command × Answer} l i ≡ Some p → KnowsNumber script.layout (view_of last (seat cpu)) (record { cpu = cpu; seq = i }) file (numbers_after file 0 (take (i + 1) l))) pairs

@@ -1,14 +1,10 @@
 use Rattle.std.proofs.Common.{ℕ, Option, subst, sym, MatchOption}
 use Rattle.hwp_check_answers.specs.Offlining.{AreAllDue, IsFirstOfflined}
-use Rattle.hwp_check_answers.proofs.AnswerCounts.{answers-enough}
 use Rattle.hwp_check_answers.proofs.OfflinedOrder.{heading-first, judged-line, none-lacking, row-within}
 use Rattle.hwp_check_answers.proofs.offlines.offlined_line.Goals as goal
 
 pub returns-in-Some : goal.returns-in-Some
 returns-in-Some c = heading-first c.args.script.now c.args.report.now c.args.cpu c.args.commands.now c.args.rows.now c.args.heading _ c.in_ok-lacking.lacking c.in-Some.is c.in_ok-lacking.ensures
-
-pub offlined_faults-requires-clause-answered : goal.offlined_faults-requires-clause-answered
-offlined_faults-requires-clause-answered c = λ watch. answers-enough c.args.commands.now c.args.rows.now (none-lacking c.args.commands.now c.args.rows.now c.in_ok-lacking.lacking c.in-None.is c.in_ok-lacking.ensures watch)
 
 pub line_of-requires : goal.line_of-requires
 line_of-requires c =

@@ -1,6 +1,4 @@
-use Rattle.std.proofs.Common.{ap, ◌∙◌}
-use Rattle.hwp_check_event_line.specs.Firsts.{shown_lines}
-use Rattle.hwp_check_events.specs.Copied.{copied_by}
+use Rattle.hwp_check_scrub.specs.hwp_check_event_line.Firsts.{shown_lines}
 use Rattle.hwp_check_events.proofs.JudgeLaws.{accessed-judged, scrubbed-judged, store-judged}
 use Rattle.hwp_check_events.proofs.judge.command_faults.Goals as goal
 use Rattle.hwp_check_events.proofs.judge.command_faults.Goals.{in-Load, in-Load-2}
@@ -16,13 +14,10 @@ returns-in-Load c = elim c.in-Load-1.branch [
       (rw w.line-is at c.judge_access-in-Load.ensures)
 ]
 
-pub judge_store-requires-clause-copied : goal.judge_store-requires-clause-copied
-judge_store-requires-clause-copied c = c.requires.copied ∙ ap (copied_by c.args.script.now.layout (copies_in c.args.copies.now) c.args.report.now c.args.who) c.in-Store.is
-
 pub returns-in-Store : goal.returns-in-Store
 returns-in-Store c =
     store-judged c.args.script.now (copies_in c.args.copies.now) c.args.report.now c.args.who c.args.command.now c.args.raw.now c.judge_store.new.raw (shown_lines c.args.lines.now) c.judge_store.result c.arrival_of-how.result c.arrival_of-how.ensures
-    c.in-Store.thread c.in-Store.slot c.in-Store.line c.in-Store.word c.in-Store.is c.judge_store.ensures
+    c.in-Store.thread c.in-Store.slot c.in-Store.line c.in-Store.word c.args.copied.now c.in-Store.is c.requires.copied c.judge_store.ensures
 
 pub returns-in-Scrub : goal.returns-in-Scrub
 returns-in-Scrub c =

@@ -8,5 +8,5 @@ first_fault-requires-clause-few c =
     let most : c.args.script.now.layout.cpus ≤ 16 = c.requires.valid.sound.cpus in
     omega (arith, one, most)
 
-pub returns-else-has_fork : goal.returns-else-has_fork
-returns-else-has_fork c = private-unforked c.args.script.now c.args.report.now (sym c.if-has_fork.ensures)
+pub returns-else-has_fork-clause-judged : goal.returns-else-has_fork-clause-judged
+returns-else-has_fork-clause-judged c = private-unforked c.args.script.now c.args.report.now (sym c.if-has_fork.ensures)

@@ -1,0 +1,5 @@
+pub mod AdmissionLaws
+pub mod TellingLaws
+pub mod BusyLaws
+pub mod JudgeLaws
+pub mod RuleLaws

@@ -1,0 +1,269 @@
+-- The processors one after another: the first line of a report that breaks the rule of guests, or none does.
+use Rattle.std.proofs.Common.{◌≡◌, ◌⊎◌, inl, inr, ℕ, zero, suc, ◌+◌, ◌<◌, ◌≤◌, min, Bool, true, false, List, [], ◌∷◌, Option, Some, None, MatchOption, if◌then◌else◌, get_or, length, option_and_then, slice_get, slice_index_or, take, unwrap_or, refl, sym, ap, subst, ◌∙◌, true≢false, arith}
+use Rattle.std.specs.List.{list_any, sum_by}
+use Rattle.std.proofs.lemmas.Bool.{cases_lt, or_parts}
+use Rattle.std.proofs.lemmas.List.{take-take}
+use Rattle.std.proofs.lemmas.List.Sums.{sum_by-take-le, sum_by_more}
+use Rattle.std.proofs.lemmas.Option.{get_or_from_slice_get, none-some, same_Some, slice_get-get_or, slice_get_within, unwrap_or-slice_get}
+use Rattle.hwp_check_rules.specs.hwp_geom.Layout.{is_guest}
+use Rattle.hwp_check_rules.specs.hwp_geom.declared.Cpu.{Cpu}
+use Rattle.hwp_check_rules.specs.hwp_geom.declared.Layout.{Layout}
+use Rattle.hwp_check_rules.specs.hwp_geom.declared.Proc.{Proc}
+use Rattle.hwp_check_rules.specs.hwp_geom.declared.Who.{Who}
+use Rattle.hwp_check_rules.specs.hwp_report_text.declared.Answer.{Answer}
+use Rattle.hwp_check_rules.specs.hwp_report_text.declared.CpuLine.{CpuLine}
+use Rattle.hwp_check_rules.specs.hwp_report_text.declared.CpuLine.TheVariants as lines
+use Rattle.hwp_check_rules.specs.hwp_report_text.declared.Report.{Report}
+use Rattle.hwp_check_rules.specs.hwp_script_read.declared.Command.{Command}
+use Rattle.hwp_check_rules.specs.hwp_script_read.declared.Script.{Script}
+use Rattle.hwp_check_rules.specs.hwp_law.Guests.{DoesNothing}
+use Rattle.hwp_check_rules.specs.hwp_law.Lines.{answered}
+use Rattle.hwp_check_rules.specs.hwp_law_commands.Commands as access
+use Rattle.hwp_check_rules.specs.hwp_law_commands.Commands.{access_of, arrival_of, process_of_thread}
+use Rattle.hwp_check_rules.specs.hwp_law_commands.Guests.{GuestAccess, denial, denied, guest_access, guest_of, kind_of}
+use Rattle.hwp_check_rules.specs.Firsts.{IsLeast}
+use Rattle.hwp_check_rules.specs.GuestFaults.{IsAdmitted, IsGuestFault, IsGuestLacking, IsGuestWrong, IsMisadmitted}
+use Rattle.hwp_check_rules.specs.Standing.{cpu_height, cpu_line, last_line, row_line}
+use Rattle.hwp_check_rules.specs.hwp_guest.GuestState.{admitted}
+use Rattle.hwp_check_guests.specs.Accesses.{has_guests}
+use Rattle.hwp_check_guests.specs.Busy.{busy_by}
+use Rattle.hwp_check_guests.specs.Judging.{AreEnough, AreRight, HasNoFault, HasNoFaultOn, IsFirstIn, IsFirstLacking, IsFirstOn, IsFirstWrong, IsKnown, IsMisadmittedBy, IsWrongBy}
+use Rattle.hwp_check_guests.proofs.BusyLaws.{idle-nothing, nothing-idle}
+
+-- ---- where no process is a guest
+
+no-flag : (flags : List Bool) (i : ℕ) → list_any (λ (guest : Bool). guest) flags ≡ false → get_or flags i false ≡ false
+no-flag [] i none = refl
+no-flag (b ∷ bs) zero none = (or_parts b (list_any (λ (guest : Bool). guest) bs) none).0
+no-flag (b ∷ bs) (suc i) none = no-flag bs i (or_parts b (list_any (λ (guest : Bool). guest) bs) none).1
+
+abbrev found_by : Layout → Command → access.Access → Proc → Option GuestAccess
+found_by layout command a process = if is_guest layout process then Some (record { process = process; slot = a.slot; line = a.line; kind = kind_of command; mode = (arrival_of command).mode }) else None
+
+no-access : (layout : Layout) (command : Command) → has_guests layout ≡ false → guest_access layout command ≡ None
+no-access layout command none = by (access_of command)
+  where
+    of-process : (a : access.Access) (o : Option Proc) → option_and_then (found_by layout command a) o ≡ None
+    of-process a None = refl
+    of-process a (Some process) = ap (λ (b : Bool). if b then Some (record { process = process; slot = a.slot; line = a.line; kind = kind_of command; mode = (arrival_of command).mode }) else None) (no-flag layout.guests process.0 none)
+
+    by : (o : Option access.Access) → option_and_then (λ (a : access.Access). option_and_then (found_by layout command a) (process_of_thread layout a.thread)) o ≡ None
+    by None = refl
+    by (Some a) = of-process a (process_of_thread layout a.thread)
+
+unasked : (layout : Layout) (earlier : List (Command × Answer)) (command : Command) → guest_access layout command ≡ None → denied layout earlier command ≡ None
+unasked layout earlier command none = by (guest_access layout command) none
+  where
+    by : (o : Option GuestAccess) → o ≡ None → option_and_then (λ (a : GuestAccess). denial (admitted (guest_of layout earlier a.process) a.slot.0)) o ≡ None
+    by None is = refl
+    by (Some a) is = absurd (none-some a (sym is))
+
+-- ---- what is known of a processor's commands
+
+module _ (layout : Layout) (report : Report) (cpu : Cpu) (commands : List Command) (rows : List CpuLine) where
+  pub known_unasked : has_guests layout ≡ false → IsKnown layout report cpu commands rows [] []
+  known_unasked none = record {
+    denied_is = λ seq command made. unasked layout (take seq []) command (no-access layout command none) ∙ sym (unasked layout (take seq (answered commands rows)) command (no-access layout command none));
+    idle = λ seq command due made denies is. absurd (none-some due (sym (unasked layout (take seq (answered commands rows)) command (no-access layout command none)) ∙ denies));
+    nothing = λ seq command due made denies is. absurd (none-some due (sym (unasked layout (take seq (answered commands rows)) command (no-access layout command none)) ∙ denies));
+  }
+
+  pub known_asked : (pairs : List (Command × Answer)) (flags : List Bool) → slice_get report.cpus cpu.0 ≡ Some rows → pairs ≡ answered commands rows → flags ≡ busy_by report cpu (length commands) rows
+      → IsKnown layout report cpu commands rows pairs flags
+  known_asked pairs flags of_report pairs_are flags_are = record {
+    denied_is = λ seq command made. ap (λ (p : List (Command × Answer)). denied layout (take seq p) command) pairs_are;
+    idle = λ seq command due made denies is.
+        idle-nothing cpu seq report (length commands) rows (slice_get_within commands seq command made) of_report (sym (ap (λ (f : List Bool). slice_index_or f seq false) flags_are) ∙ is);
+    nothing = λ seq command due made denies does.
+        ap (λ (f : List Bool). slice_index_or f seq false) flags_are ∙ nothing-idle cpu seq report (length commands) rows (slice_get_within commands seq command made) of_report does;
+  }
+
+-- what is wrong by what is known is what is wrong
+module _ (script : Script) (report : Report) (cpu : Cpu) (commands : List Command) (rows : List CpuLine) (pairs : List (Command × Answer)) (flags : List Bool) (known : IsKnown script.layout report cpu commands rows pairs flags) where
+  abbrev due-of : ℕ → Command → Option Answer
+  due-of seq command = denied script.layout (take seq (answered commands rows)) command
+
+  abbrev Nothing : ℕ → Type 0
+  Nothing seq = DoesNothing report (record { cpu = cpu; seq = seq })
+
+  exchange : (due : Option Answer) (answer : Answer) (P Q : Type 0) → ((a : Answer) → due ≡ Some a → P → Q) → IsAdmitted due answer P → IsAdmitted due answer Q
+  exchange None answer P Q turn is = is
+  exchange (Some a) answer P Q turn is = (is.0, turn a refl is.1)
+
+  to-law : (seq : ℕ) (answer : Answer) → IsMisadmittedBy script.layout commands pairs flags seq answer → IsMisadmitted script report cpu commands rows seq answer
+  to-law seq answer w = record {
+    command = w.command;
+    made = w.made;
+    wrong = λ fit.
+        w.wrong (subst (λ (o : Option Answer). IsAdmitted o answer (slice_index_or flags seq false ≡ false)) (sym (known.denied_is seq w.command w.made))
+        (exchange (due-of seq w.command) answer (Nothing seq) (slice_index_or flags seq false ≡ false) (λ a is does. known.nothing seq w.command a w.made is does) fit));
+  }
+
+  from-law : (seq : ℕ) (answer : Answer) → IsMisadmitted script report cpu commands rows seq answer → IsMisadmittedBy script.layout commands pairs flags seq answer
+  from-law seq answer w = record {
+    command = w.command;
+    made = w.made;
+    wrong = λ fit.
+        w.wrong (exchange (due-of seq w.command) answer (slice_index_or flags seq false ≡ false) (Nothing seq) (λ a is idle. known.idle seq w.command a w.made is idle)
+        (subst (λ (o : Option Answer). IsAdmitted o answer (slice_index_or flags seq false ≡ false)) (known.denied_is seq w.command w.made) fit));
+  }
+
+  wrong-law : (row : ℕ) (line : CpuLine) → IsWrongBy script.layout commands rows pairs flags row line → IsGuestWrong script report cpu commands rows row line
+  wrong-law row (lines.Answer seq answer) w = to-law seq answer w
+  wrong-law row (lines.Guest guest) w = w
+  wrong-law row (lines.Event event) w = absurd w
+  wrong-law row (lines.Offlined offlined) w = absurd w
+
+  law-wrong : (row : ℕ) (line : CpuLine) → IsGuestWrong script report cpu commands rows row line → IsWrongBy script.layout commands rows pairs flags row line
+  law-wrong row (lines.Answer seq answer) w = from-law seq answer w
+  law-wrong row (lines.Guest guest) w = w
+  law-wrong row (lines.Event event) w = absurd w
+  law-wrong row (lines.Offlined offlined) w = absurd w
+
+  pub none-on : AreEnough script.layout commands rows (length rows) → AreRight script.layout commands rows pairs flags (length rows) → HasNoFault script report cpu commands rows
+  none-on enough right = record { enough = enough; right = λ row line there wrong. right row line (slice_get_within rows row line there) there (law-wrong row line wrong) }
+
+  pub first-in : (row : ℕ) → AreEnough script.layout commands rows (length rows) → IsFirstWrong script.layout commands rows pairs flags row → IsFirstIn script report cpu commands rows row
+  first-in row enough f = record {
+    line = f.line;
+    there = f.there;
+    enough = enough;
+    wrong = wrong-law row f.line f.wrong;
+    before = λ other line less there wrong. f.before other line less there (law-wrong other line wrong);
+  }
+
+-- the lines of processors
+next-line : (report : Report) (n : ℕ) (rows : List CpuLine) → slice_get report.cpus n ≡ Some rows → cpu_line report (n + 1) ≡ cpu_line report n + 1 + length rows
+next-line report n rows is =
+    let more : sum_by cpu_height (take (n + 1) report.cpus) ≡ sum_by cpu_height (take n report.cpus) + cpu_height rows =
+    sum_by_more cpu_height report.cpus n rows (slice_get_within report.cpus n rows is) ∙ ap (λ (r : List CpuLine). sum_by cpu_height (take n report.cpus) + cpu_height r) (get_or_from_slice_get report.cpus n rows rows is) in
+    omega (arith, more)
+
+later-line : (report : Report) (i j : ℕ) → i ≤ j → cpu_line report i ≤ cpu_line report j
+later-line report i j low =
+    let rises : sum_by cpu_height (take i report.cpus) ≤ sum_by cpu_height (take j report.cpus) =
+    subst (λ (t : List (List CpuLine)). sum_by cpu_height t ≤ sum_by cpu_height (take j report.cpus)) (take-take i j report.cpus low) (sum_by-take-le cpu_height (take j report.cpus) i) in
+    omega (arith, rises)
+
+module _ (script : Script) (report : Report) where
+  -- a processor was judged
+  pub kept-on : (cpu : Cpu) (commands : List Command) (rows : List CpuLine) → slice_get script.lists cpu.0 ≡ Some commands → slice_get report.cpus cpu.0 ≡ Some rows → HasNoFault script report cpu commands rows → HasNoFaultOn script report cpu
+  kept-on cpu commands rows of_script of_report none = λ cs rs one other.
+      subst (λ (l : List Command). HasNoFault script report cpu l rs) (same_Some _ _ (sym of_script ∙ one)) (subst (HasNoFault script report cpu commands) (same_Some _ _ (sym of_report ∙ other)) none)
+
+  -- the processors below this number have no fault
+  abbrev pub NoneUnder : ℕ → Type 0
+  NoneUnder n = (cpu : Cpu) → cpu.0 < n → HasNoFaultOn script report cpu
+
+  pub none-under : NoneUnder 0
+  none-under = λ cpu low. absurd (omega (arith, low))
+
+  pub under-next : (n : ℕ) → HasNoFaultOn script report (record { 0 = n }) → NoneUnder n → NoneUnder (n + 1)
+  under-next n on under = λ cpu less. elim (cases_lt cpu.0 n) [
+    | inl low ↦ under cpu low
+    | inr high ↦ let here : n ≡ cpu.0 = omega (arith, less, high) in subst (HasNoFaultOn script report) (λ i. record { 0 = here i }) on
+  ]
+
+  -- a processor without a fault has no line that is one
+  on-none : (line : ℕ) (f : IsGuestFault script report line) → HasNoFaultOn script report f.cpu → ⊥
+  on-none line f on = elim f.fault [
+    | inl lacks ↦ none.enough f.row f.shown (slice_get_within f.rows f.row f.shown f.there) f.there lacks.0
+    | inr wrong ↦ none.right f.row f.shown f.there wrong.0
+  ]
+    where
+      none : HasNoFault script report f.cpu f.commands f.rows
+      none = on f.commands f.rows f.of_script f.of_report
+
+  pub no-fault : (n : ℕ) → min (length script.lists) (length report.cpus) ≤ n → NoneUnder n → (line : ℕ) → IsGuestFault script report line → ⊥
+  no-fault n most under line f =
+      let a : f.cpu.0 < length script.lists = slice_get_within script.lists f.cpu.0 f.commands f.of_script in
+      let b : f.cpu.0 < length report.cpus = slice_get_within report.cpus f.cpu.0 f.rows f.of_report in
+      on-none line f (under f.cpu (omega (arith, most, a, b)))
+
+  -- a fault stands on its processor's lines
+  at-least : (line : ℕ) (f : IsGuestFault script report line) → cpu_line report f.cpu.0 ≤ line
+  at-least line f = elim f.fault [
+    | inl lacks ↦ let is : line ≡ cpu_line report f.cpu.0 = lacks.1 in omega (arith, is)
+    | inr wrong ↦ let is : line ≡ cpu_line report f.cpu.0 + 1 + f.row = wrong.1 in omega (arith, is)
+  ]
+
+  -- the first fault of the first processor that has one
+  module _ (n line : ℕ) (under : NoneUnder n) (f : IsFirstOn script report (record { 0 = n }) line) where
+    within : line < cpu_line report (n + 1)
+    within = elim f.first [
+      | inl l ↦ let is : line ≡ cpu_line report n = l.2 in omega (arith, next, is)
+      | inr w ↦
+          let is : line ≡ cpu_line report n + 1 + w.0 = w.2 in
+          let inside : w.0 < length f.rows = slice_get_within f.rows w.0 w.1.line w.1.there in
+          omega (arith, next, is, inside)
+    ]
+      where
+        next : cpu_line report (n + 1) ≡ cpu_line report n + 1 + length f.rows
+        next = next-line report n f.rows f.of_report
+
+    at-fault : IsGuestFault script report line
+    at-fault = elim f.first [
+      | inl l ↦ record { cpu = record { 0 = n }; commands = f.commands; rows = f.rows; row = l.0; shown = l.1.line; of_script = f.of_script; of_report = f.of_report; there = l.1.there; fault = inl (l.1.lacks, l.2) }
+      | inr w ↦ record { cpu = record { 0 = n }; commands = f.commands; rows = f.rows; row = w.0; shown = w.1.line; of_script = f.of_script; of_report = f.of_report; there = w.1.there; fault = inr (w.1.wrong, w.2) }
+    ]
+
+    -- another fault of the same processor
+    own : (other : ℕ) (g : IsGuestFault script report other) → n ≡ g.cpu.0 → line ≤ other
+    own other g here = elim f.first [
+      | inl l ↦
+          let is : line ≡ cpu_line report n = l.2 in
+          let at : cpu_line report n ≡ cpu_line report g.cpu.0 = ap (cpu_line report) here in
+          let least : cpu_line report g.cpu.0 ≤ other = at-least other g in
+          omega (arith, is, at, least)
+      | inr w ↦ elim g.fault [
+        | inl lacks ↦ absurd (w.1.enough g.row g.shown (slice_get_within f.rows g.row g.shown there) there (subst (λ (r : List CpuLine). IsGuestLacking script.layout f.commands r g.shown) rows_are (subst (λ (l : List Command). IsGuestLacking script.layout l g.rows g.shown) lists_are lacks.0)))
+        | inr wrong ↦ elim (cases_lt g.row w.0) [
+          | inl low ↦ absurd (w.1.before g.row g.shown low there (turned wrong.0))
+          | inr high ↦
+              let is : line ≡ cpu_line report n + 1 + w.0 = w.2 in
+              let at : cpu_line report n ≡ cpu_line report g.cpu.0 = ap (cpu_line report) here in
+              let more : other ≡ cpu_line report g.cpu.0 + 1 + g.row = wrong.1 in
+              omega (arith, is, at, more, high)
+        ]
+      ]
+    ]
+      where
+        lists_are : g.commands ≡ f.commands
+        lists_are = same_Some _ _ (sym g.of_script ∙ ap (slice_get script.lists) (sym here) ∙ f.of_script)
+
+        rows_are : g.rows ≡ f.rows
+        rows_are = same_Some _ _ (sym g.of_report ∙ ap (slice_get report.cpus) (sym here) ∙ f.of_report)
+
+        there : slice_get f.rows g.row ≡ Some g.shown
+        there = subst (λ (r : List CpuLine). slice_get r g.row ≡ Some g.shown) rows_are g.there
+
+        turned : IsGuestWrong script report g.cpu g.commands g.rows g.row g.shown → IsGuestWrong script report (record { 0 = n }) f.commands f.rows g.row g.shown
+        turned wrong = subst (λ (c : Cpu). IsGuestWrong script report c f.commands f.rows g.row g.shown) (λ i. record { 0 = sym here i })
+            (subst (λ (r : List CpuLine). IsGuestWrong script report g.cpu f.commands r g.row g.shown) rows_are (subst (λ (l : List Command). IsGuestWrong script report g.cpu l g.rows g.row g.shown) lists_are wrong))
+
+    pub fault-is : IsLeast (IsGuestFault script report) line
+    fault-is = record {
+      at = at-fault;
+      first = λ other g. elim (cases_lt g.cpu.0 n) [
+        | inl low ↦ absurd (on-none other g (under g.cpu low))
+        | inr high ↦ elim (cases_lt n g.cpu.0) [
+          | inl later ↦
+              let rises : cpu_line report (n + 1) ≤ cpu_line report g.cpu.0 = later-line report (n + 1) g.cpu.0 (omega (arith, later)) in
+              let least : cpu_line report g.cpu.0 ≤ other = at-least other g in
+              omega (arith, within, rises, least)
+          | inr most ↦ own other g (let here : n ≡ g.cpu.0 = omega (arith, high, most) in here)
+        ]
+      ];
+    }
+
+-- a list that was read where it is
+pub read-at : {X : Type 0} (xs : List (List X)) (n : ℕ) (l : List X) → n < length xs → l ≡ unwrap_or (slice_get xs n) [] → slice_get xs n ≡ Some l
+read-at xs n l within is = slice_get-get_or xs n [] within ∙ ap Some (sym (is ∙ unwrap_or-slice_get xs n []))
+
+-- the lines of a report are no more than its last
+pub row-room : (report : Report) (n row : ℕ) (rows : List CpuLine) → slice_get report.cpus n ≡ Some rows → row < length rows → cpu_line report n + 1 + row < last_line report
+row-room report n row rows is inside =
+    let next : cpu_line report (n + 1) ≡ cpu_line report n + 1 + length rows = next-line report n rows is in
+    let within : n < length report.cpus = slice_get_within report.cpus n rows is in
+    let most : cpu_line report (n + 1) ≤ cpu_line report (length report.cpus) = later-line report (n + 1) (length report.cpus) (omega (arith, within)) in
+    omega (arith, next, most, inside)

@@ -1,0 +1,5 @@
+pub mod Accesses
+pub mod Admission
+pub mod Telling
+pub mod Busy
+pub mod Judging

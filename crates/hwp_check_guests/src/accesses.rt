@@ -1,0 +1,72 @@
+ghost use Rattle.std.specs.Prelude.{◌≡◌, option_map};
+ghost use Rattle.hwp_check_rules.specs.hwp_law_commands.Guests.{guest_access};
+ghost use Rattle.hwp_check_guests.specs.Accesses.{access_by, access_in, has_guests};
+
+use hwp_check_rules::{Access, Command, Layout, Line, Mode, Proc, Thread, VSlot};
+
+/// An access by a thread of a guest (this project's rule).
+#[derive(Clone, Copy)]
+pub struct GuestAccess {
+    pub process: Proc,
+    pub slot: VSlot,
+    pub line: Line,
+    pub kind: Access,
+    pub mode: Mode,
+}
+
+/// Whether a process is a guest.
+pub(crate) fn has_guests(layout: &Layout) -> bool
+    ensures { result ≡ has_guests layout.now }
+{
+    layout.guests.as_slice().iter().any(|guest| *guest)
+}
+
+/// The access of a thread through this translation, where the thread is one of a guest.
+fn access_by(
+    layout: &Layout,
+    thread: Thread,
+    slot: VSlot,
+    line: Line,
+    kind: Access,
+    mode: Mode,
+) -> Option<GuestAccess>
+    ensures { option_map access_in result ≡ access_by layout.now thread slot line kind mode }
+{
+    let Some(declared) = layout.threads.as_slice().get(usize::from(thread.0)) else {
+        return None;
+    };
+    let process = declared.process;
+    if layout.is_guest(process) {
+        Some(GuestAccess {
+            process,
+            slot,
+            line,
+            kind,
+            mode,
+        })
+    } else {
+        None
+    }
+}
+
+/// The access of a command, where its thread is one of a guest.
+pub(crate) fn guest_access(layout: &Layout, command: &Command) -> Option<GuestAccess>
+    ensures { option_map access_in result ≡ guest_access layout.now command.now }
+{
+    match *command {
+        Command::Load { thread, slot, line }
+        | Command::Store {
+            thread,
+            slot,
+            line,
+            ..
+        } => { access_by(layout, thread, slot, line, Access::Plain, Mode::User) }
+        Command::Fetch { thread, slot, line } => {
+            access_by(layout, thread, slot, line, Access::Fetch, Mode::User)
+        }
+        Command::KLoad { thread, slot, line } => {
+            access_by(layout, thread, slot, line, Access::Plain, Mode::Kernel)
+        }
+        _ => None,
+    }
+}

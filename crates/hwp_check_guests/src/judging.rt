@@ -1,0 +1,211 @@
+ghost use Rattle.std.specs.Prelude.{◌≡◌, ◌<◌, MatchBool, MatchOption, length, slice_index_or, take, false};
+ghost use Rattle.hwp_check_rules.specs.GuestFaults.{IsAdmitted, IsGuestLacking, IsMistold, LacksGuest};
+ghost use Rattle.hwp_check_rules.specs.hwp_law_commands.Guests.{denial};
+ghost use Rattle.hwp_check_guests.specs.Judging.{AreEnough, AreRight, IsFirstLacking, IsFirstWrong, IsMisadmittedBy, IsWrongBy, answer_behind, answer_by, says_bad, says_denied, says_stopped};
+
+use crate::admission::admission;
+use crate::telling::{has_guest, is_due, is_told};
+use hwp_check_rules::{Admit, Answer, Command, CpuLine, GuestLine, Layout};
+
+/// Whether the answer is one by which a guest doesn't admit an access.
+fn says_denied(answer: Answer) -> bool
+    ensures { result ≡ says_denied answer }
+{
+    matches!(answer, Answer::GuestBad | Answer::GuestStopped)
+}
+
+/// Whether it can be that of an access whose guest frame is bad.
+fn says_bad(answer: Answer) -> bool
+    ensures { result ≡ says_bad answer }
+{
+    matches!(answer, Answer::GuestBad | Answer::Stopped)
+}
+
+/// Whether it can be that of an access of a stopped guest.
+fn says_stopped(answer: Answer) -> bool
+    ensures { result ≡ says_stopped answer }
+{
+    matches!(answer, Answer::GuestStopped | Answer::Stopped)
+}
+
+/// Whether the answer is as the guest admits the access, where the command does something or nothing.
+#[tactic(auto, using(crate::proofs::JudgeLaws::yes_there, crate::proofs::JudgeLaws::bad_there, crate::proofs::JudgeLaws::stopped_there))]
+fn is_admitted(admit: Admit, answer: Answer, busy: bool) -> bool
+    ensures { MatchBool result (IsAdmitted (denial admit) answer (busy ≡ false)) (IsAdmitted (denial admit) answer (busy ≡ false) → ⊥) }
+{
+    match admit {
+        Admit::Yes => !says_denied(answer),
+        Admit::Bad => says_bad(answer) && !busy,
+        Admit::Stopped => says_stopped(answer) && !busy,
+    }
+}
+
+/// The flag with the number.
+fn flag_at(flags: &[bool], seq: u32) -> bool
+    ensures { result ≡ slice_index_or flags.now seq false }
+{
+    match flags.get(seq as usize) {
+        Some(flag) => *flag,
+        None => false,
+    }
+}
+
+/// The pairs before the command with the number.
+fn before(pairs: &[(Command, Answer)], number: usize) -> &[(Command, Answer)]
+    ensures { result.now ≡ take number pairs.now }
+{
+    if number < pairs.len() {
+        &pairs[..number]
+    } else {
+        pairs
+    }
+}
+
+/// Whether the command with the number has to be answered otherwise, or does something where it has to do nothing.
+#[tactic(auto, using(crate::proofs::JudgeLaws::none_made, crate::proofs::JudgeLaws::answered_there))]
+fn is_misadmitted(
+    layout: &Layout,
+    commands: &[Command],
+    pairs: &[(Command, Answer)],
+    flags: &[bool],
+    seq: u32,
+    answer: Answer,
+) -> bool
+    ensures { MatchBool result (IsMisadmittedBy layout.now commands.now pairs.now flags.now seq answer) (IsMisadmittedBy layout.now commands.now pairs.now flags.now seq answer → ⊥) }
+{
+    let number = seq as usize;
+    let Some(command) = commands.get(number) else {
+        return false;
+    };
+    let admit = admission(layout, before(pairs, number), command);
+    !is_admitted(admit, answer, flag_at(flags, seq))
+}
+
+/// The answer, if the line is that of the command with the number.
+fn answer_by(seq: u32, row: &CpuLine) -> Option<Answer>
+    ensures { result ≡ answer_by seq row.now }
+{
+    match *row {
+        CpuLine::Answer {
+            seq: number,
+            answer,
+        } => { if number == seq { Some(answer) } else { None } }
+        _ => None,
+    }
+}
+
+/// The answer of the command with the number, if it stands right behind the row.
+fn answer_behind(rows: &[CpuLine], row: usize, seq: u32) -> Option<Answer>
+    requires { row < length rows.now }
+    ensures { result ≡ answer_behind rows.now row seq }
+{
+    match rows.get(row + 1) {
+        Some(next) => answer_by(seq, next),
+        None => None,
+    }
+}
+
+/// Whether the guest's line in a row isn't that of the answer behind it.
+#[tactic(auto, using(crate::proofs::JudgeLaws::untold_made, crate::proofs::JudgeLaws::untold_next, crate::proofs::JudgeLaws::told_there))]
+fn is_mistold(
+    layout: &Layout,
+    commands: &[Command],
+    rows: &[CpuLine],
+    row: usize,
+    line: &GuestLine,
+) -> bool
+    requires { row < length rows.now }
+    ensures { MatchBool result (IsMistold layout.now commands.now rows.now row line.now) (IsMistold layout.now commands.now rows.now row line.now → ⊥) }
+{
+    let seq = line.seq;
+    let Some(command) = commands.get(seq as usize) else {
+        return false;
+    };
+    match answer_behind(rows, row, seq) {
+        Some(answer) => !is_told(layout, seq, command, answer, line),
+        None => false,
+    }
+}
+
+/// Whether the line in a row is a wrong answer of a guest's access, or a wrong line of a guest.
+fn is_wrong(
+    layout: &Layout,
+    commands: &[Command],
+    rows: &[CpuLine],
+    pairs: &[(Command, Answer)],
+    flags: &[bool],
+    number: usize,
+    row: &CpuLine,
+) -> bool
+    requires { number < length rows.now }
+    ensures { MatchBool result (IsWrongBy layout.now commands.now rows.now pairs.now flags.now number row.now) (IsWrongBy layout.now commands.now rows.now pairs.now flags.now number row.now → ⊥) }
+{
+    match row {
+        CpuLine::Answer { seq, answer } => {
+            is_misadmitted(layout, commands, pairs, flags, *seq, *answer)
+        }
+        CpuLine::Guest(line) => is_mistold(layout, commands, rows, number, line),
+        CpuLine::Event(_) | CpuLine::Offlined(_) => false,
+    }
+}
+
+/// The number of the first line of a processor that is.
+pub(crate) fn first_wrong(
+    layout: &Layout,
+    commands: &[Command],
+    rows: &[CpuLine],
+    pairs: &[(Command, Answer)],
+    flags: &[bool],
+) -> Option<usize>
+    ensures { MatchOption result (AreRight layout.now commands.now rows.now pairs.now flags.now (length rows.now)) (IsFirstWrong layout.now commands.now rows.now pairs.now flags.now) }
+{
+    for number in 0..rows.len() {
+        if is_wrong(layout, commands, rows, pairs, flags, number, &rows[number]) {
+            return Some(number);
+        }
+    }
+    None
+}
+
+/// Whether the answer is one of which a guest has to be told, and the command has no guest's line.
+#[tactic(auto, using(crate::proofs::JudgeLaws::lacks_made, crate::proofs::JudgeLaws::lacks_there))]
+fn lacks_guest(
+    layout: &Layout,
+    commands: &[Command],
+    rows: &[CpuLine],
+    seq: u32,
+    answer: Answer,
+) -> bool
+    ensures { MatchBool result (LacksGuest layout.now commands.now rows.now seq answer) (LacksGuest layout.now commands.now rows.now seq answer → ⊥) }
+{
+    let Some(command) = commands.get(seq as usize) else {
+        return false;
+    };
+    is_due(layout, command, answer) && !has_guest(rows, seq)
+}
+
+/// Whether the line is an answer whose guest's line lacks.
+fn is_lacking(layout: &Layout, commands: &[Command], rows: &[CpuLine], row: &CpuLine) -> bool
+    ensures { MatchBool result (IsGuestLacking layout.now commands.now rows.now row.now) (IsGuestLacking layout.now commands.now rows.now row.now → ⊥) }
+{
+    match row {
+        CpuLine::Answer { seq, answer } => lacks_guest(layout, commands, rows, *seq, *answer),
+        CpuLine::Event(_) | CpuLine::Offlined(_) | CpuLine::Guest(_) => false,
+    }
+}
+
+/// The number of the first line of a processor that is.
+pub(crate) fn first_lacking(
+    layout: &Layout,
+    commands: &[Command],
+    rows: &[CpuLine],
+) -> Option<usize>
+    ensures { MatchOption result (AreEnough layout.now commands.now rows.now (length rows.now)) (IsFirstLacking layout.now commands.now rows.now) }
+{
+    for number in 0..rows.len() {
+        if is_lacking(layout, commands, rows, &rows[number]) {
+            return Some(number);
+        }
+    }
+    None
+}

@@ -1,0 +1,11 @@
+//! Whether guests' accesses are answered as the guests admit them, and whether guests are told of the bad lines that their accesses met.
+#![tactic(auto)]
+
+mod accesses;
+mod admission;
+mod busy;
+mod judging;
+mod rule;
+mod telling;
+
+pub use rule::guests_fault;

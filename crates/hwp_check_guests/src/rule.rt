@@ -1,0 +1,108 @@
+ghost use Rattle.std.specs.Prelude.{◌≡◌, ℕ, ◌<◌, ◌^◌, Some, IfOk, MatchOption, length, slice_get};
+ghost use Rattle.hwp_check_rules.specs.hwp_check_acting.Scripts.{IsDeclared};
+ghost use Rattle.hwp_check_rules.specs.Firsts.{IsLeast};
+ghost use Rattle.hwp_check_rules.specs.GuestFaults.{IsGuestFault};
+ghost use Rattle.hwp_check_rules.specs.Standing.{last_line, row_line};
+ghost use Rattle.hwp_check_guests.specs.Judging.{HasNoFaultOn, IsFirstOn, IsKnown};
+
+use crate::accesses::has_guests;
+use crate::busy::busy;
+use crate::judging::{first_lacking, first_wrong};
+use hwp_check_rules::{
+    Answer, Command, Cpu, CpuLine, Layout, OutOfMemory, Report, Script, commands_of, cpu_at,
+    pairs_of, rows_on,
+};
+use std::alloc::Global;
+
+/// What is known of a processor's commands: they with their answers, and which of them do something. Nothing where no process is a
+/// guest.
+#[derive(Drop)]
+struct Known {
+    pairs: Vec<(Command, Answer)>,
+    flags: Vec<bool>,
+}
+
+/// What is known of the commands of a processor with these lines.
+#[tactic(auto, using(crate::proofs::RuleLaws::known_unasked, crate::proofs::RuleLaws::known_asked))]
+fn known_of(
+    alloc: Global,
+    layout: &Layout,
+    report: &Report,
+    cpu: Cpu,
+    commands: &[Command],
+    rows: &[CpuLine],
+) -> Result<Known, OutOfMemory>
+    requires of_report { slice_get report.now.cpus cpu.0 ≡ Some rows.now }
+    ensures { IfOk result (λ known. IsKnown layout.now report.now cpu commands.now rows.now known.pairs.items known.flags.items) }
+{
+    if !has_guests(layout) {
+        return Ok(Known {
+            pairs: Vec::new(alloc),
+            flags: Vec::new(alloc),
+        });
+    }
+    let pairs = pairs_of(alloc, commands, rows)?;
+    let flags = busy(alloc, report, cpu, commands.len(), rows)?;
+    Ok(Known { pairs, flags })
+}
+
+/// Where a line of a processor stands in the report.
+fn row_at(report: &Report, cpu: Cpu, rows: &[CpuLine], row: usize) -> u64
+    requires room { last_line report.now < 2 ^ 64 }
+    requires of_report { slice_get report.now.cpus cpu.0 ≡ Some rows.now }
+    requires inside { row < length rows.now }
+    ensures { result ≡ row_line report.now cpu.0 row }
+{
+    cpu_at(report, usize::from(cpu.0)) + 1 + row as u64
+}
+
+/// The first line of a processor that breaks the rule, if one does: its heading, where a guest's line lacks.
+fn fault_on(
+    alloc: Global,
+    script: &Script,
+    report: &Report,
+    cpu: Cpu,
+) -> Result<Option<u64>, OutOfMemory>
+    requires room { last_line report.now < 2 ^ 64 }
+    requires of_script { cpu.0 < length script.now.lists }
+    requires of_report { cpu.0 < length report.now.cpus }
+    ensures { IfOk result (λ found. MatchOption found (HasNoFaultOn script.now report.now cpu) (IsFirstOn script.now report.now cpu)) }
+{
+    let layout = &script.layout;
+    let commands = commands_of(script, cpu);
+    let rows = rows_on(report, cpu);
+    if let Some(_) = first_lacking(layout, commands, rows) {
+        return Ok(Some(cpu_at(report, usize::from(cpu.0))));
+    }
+    let known = known_of(alloc, layout, report, cpu, commands, rows)?;
+    match first_wrong(
+        layout,
+        commands,
+        rows,
+        known.pairs.as_slice(),
+        known.flags.as_slice(),
+    ) {
+        Some(row) => Ok(Some(row_at(report, cpu, rows, row))),
+        None => Ok(None),
+    }
+}
+
+/// Whether each access of a guest was answered as the guest admits it, and the guest was told of each bad line that one met, by the line
+/// right before the answer; else the first line of a report that breaks this. It takes no memory where no process is a guest.
+pub fn guests_fault(
+    alloc: Global,
+    script: &Script,
+    report: &Report,
+) -> Result<Option<u64>, OutOfMemory>
+    requires valid { IsDeclared script.now }
+    requires room { last_line report.now < 2 ^ 64 }
+    ensures { IfOk result (λ found. MatchOption found ((line : ℕ) → IsGuestFault script.now report.now line → ⊥) (IsLeast (IsGuestFault script.now report.now))) }
+{
+    for number in 0..script.lists.len().min(report.cpus.len()) {
+        let found = fault_on(alloc, script, report, Cpu(number as u8))?;
+        if let Some(line) = found {
+            return Ok(Some(line));
+        }
+    }
+    Ok(None)
+}
