@@ -28,7 +28,7 @@ use Rattle.hwp_law_served.specs.hwp_geom.declared.Mode.{Mode}
 use Rattle.hwp_law_served.specs.hwp_law_commands.Commands.{Access, access_of, is_check, process_of_thread}
 use Rattle.hwp_law_served.specs.hwp_cpu_check.declared.EventOutcome.{EventOutcome}
 use Rattle.hwp_law_served.specs.Causes.{FoundGone, HasOnlyBegun, IsAnswerCaused, IsCausedWith, SawProcess}
-use Rattle.hwp_law_served.specs.Copied.{HasCopied, IsCopyCaused, IsCopyEnded, IsCopyTold, store_by, sub_next}
+use Rattle.hwp_law_served.specs.Copied.{HasCopied, IsBehind, IsCopyCaused, IsCopyEnded, IsCopyTold, store_by, sub_next}
 use Rattle.hwp_law_served.specs.Told.{AreToldWith, IsAccessTold}
 use Rattle.hwp_cpu_command.specs.hwp_cpu_control.declared.Denial.{Denial}
 use Rattle.hwp_cpu_command.specs.hwp_cpu_control.declared.Denial.TheVariants as denials
@@ -214,11 +214,15 @@ module _ {layout : Layout} {view : View} {who : Who} (thread : Thread) (slot : V
   copied = declared layout who thread from 0 kinds.Load process k.begun.sound k.begun.can_copy (omega arith) process_is
 
   has : HasCopied layout view store from word before
-  has = record { names = names.1; page = copied.0; own = copied.1; runs = []; are = tt; rest = []; all = k.made }
+  has = record { names = names.1; page = copied.0; own = copied.1; runs = []; are = tt; lets = record { halts_none = refl; signals_none = refl }; rest = []; all = k.made }
+
+  -- the first access comes, and nothing was made
+  behind : IsBehind store copied.0 (sub_next store from word []) []
+  behind = record { access = load_of store copied.0 from 0; access_is = refl; such = λ i m there. absurd (none-some m there) }
 
   ended : (why : Denial) (x : DeniedAnswer) → denieds.FitsOver view who process x → IsCopyEnded layout view store copied.0 (sub_next store from word []) [] [] [] (denied_answer why x)
-  ended why answers.Stopped saw = record { stopped = inl saw; behind = inr refl }
-  ended why (answers.Gone page) saw = record { process_is = process_is; saw = saw; behind = record { access = load_of store copied.0 from 0; access_is = refl; such = λ i m there. absurd (none-some m there) } }
+  ended why answers.Stopped saw = record { stopped = inl saw; behind = inl behind }
+  ended why (answers.Gone page) saw = record { process_is = process_is; saw = saw; behind = behind }
   ended denials.BadFrame answers.Denied saw = (record { process_is = process_is; saw = saw }, refl, refl)
   ended denials.Stopped answers.Denied saw = (record { process_is = process_is; saw = saw }, refl, refl)
 

@@ -1,10 +1,12 @@
 -- What a processor's list of guests says is what its earlier commands and their answers made of each.
 use Rattle.std.proofs.Common.{◌≡◌, ◌≢◌, ℕ, zero, suc, ◌<◌, ◌||◌, Bool, true, false, List, [], ◌∷◌, ◌++◌, Option, Some, None, get_or, length, replicate, set, if◌then◌else◌, refl, sym, ap, ◌∙◌, subst, inl, inr, true≢false, arith}
+use Rattle.std.specs.FinSet as set
 use Rattle.std.specs.List.{list_any}
+use Rattle.std.specs.Ordering.{nat_cmp}
 use Rattle.std.specs.Option.{option_map_or}
 use Rattle.std.specs.Prelude.{◌≤◌, IsSomeAnd, option_and_then, slice_get}
 use Rattle.std.proofs.lemmas.Bool.{cases_eq, eq-eqb, ne_eqb}
-use Rattle.std.proofs.lemmas.List.{get_or-set_other, get_or-set_same, length-replicate, length-set}
+use Rattle.std.proofs.lemmas.List.{get_or_past, get_or-set_other, get_or-set_same, length-replicate, length-set}
 use Rattle.std.proofs.lemmas.List.Sums.{fold-append}
 use Rattle.std.proofs.lemmas.Option.{none-some, same_Some, slice_get_within}
 use Rattle.hwp_cpu_check.specs.hwp_geom.Layout.{is_guest}
@@ -41,6 +43,10 @@ first-by false n i = refl
 
 pub first-known : (layout : Layout) → KnowsGuests layout [] (first_guests layout)
 first-known layout = λ process is. first-by (has_guests layout) layout.procs process.0
+
+-- what the list doesn't hold admits each access
+pub new-admits : (guests : List GuestState) (i frame : ℕ) → length guests ≤ i → admissions.Yes ≡ admitted (get_or guests i new_guest) frame
+new-admits guests i frame past = sym (ap (λ (b : Bool). if b then admissions.Bad else admissions.Yes) (set.contains-empty nat_cmp frame)) ∙ ap (λ (g : GuestState). admitted g frame) (sym (get_or_past guests i new_guest past))
 
 -- a guest is one of the list of guests
 some-guest : (gs : List Bool) (i : ℕ) → get_or gs i false ≡ true → (list_any (λ (g : Bool). g) gs ≡ true) × (i < length gs)
