@@ -1,6 +1,6 @@
 -- A command that is an access: what it names is declared, and the task of what it asks for begins it.
-use Rattle.std.proofs.Common.{◌≡◌, ℕ, ◌<◌, Bool, None, Option, Some, slice_get, true≢false, sym, ap, subst}
-use Rattle.std.specs.Prelude.{IsSome, IsSomeAnd}
+use Rattle.std.proofs.Common.{◌≡◌, ℕ, ◌<◌, Bool, None, Option, Some, slice_get, sym, ap, subst}
+use Rattle.std.specs.Prelude.{IsSomeAnd}
 use Rattle.std.proofs.lemmas.Option.{none-some, same_Some}
 use Rattle.hwp_cpu_control.specs.hwp_geom.declared.Layout.{Layout}
 use Rattle.hwp_cpu_control.specs.hwp_geom.declared.ThreadDecl.{ThreadDecl}
@@ -40,13 +40,6 @@ access-is (commands.Fetch thread slot line) at is = ap (λ (a : LineAccess). Som
 access-is (commands.KLoad thread slot line) at is = ap (λ (a : LineAccess). Some (access a.thread a.slot a.line)) (same_Some _ at is)
 access-is (commands.Store thread slot line word) at is = ap (λ (a : LineAccess). Some (access a.thread a.slot a.line)) (same_Some _ at is)
 access-is command at is = absurd (none-some at is)
-
-pub no-access : (command : Command) → access_in command ≡ None → IsSome (access_of command) → ⊥
-no-access (commands.Load thread slot line) none some = none-some _ (sym none)
-no-access (commands.Fetch thread slot line) none some = none-some _ (sym none)
-no-access (commands.KLoad thread slot line) none some = none-some _ (sym none)
-no-access (commands.Store thread slot line word) none some = none-some _ (sym none)
-no-access command none some = true≢false (sym some)
 
 -- its thread is one of the processor
 pub access-thread : (layout : Layout) (cpu : ℕ) (command : Command) (at : LineAccess) → access_in command ≡ Some at → IsCommandOf layout cpu command → IsThreadOf layout cpu at.thread
