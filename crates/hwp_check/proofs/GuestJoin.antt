@@ -390,7 +390,7 @@ module _ (script : Script) (report : Report) (many : length script.lists ≡ len
 
           -- a guest's line of the command is the one that is due
           due-by : (row : ℕ) (g : GuestLine) → slice_get rows row ≡ Some (lines.Guest g) → g.seq ≡ seq → (row + 1 ≡ has.0) × (guest_lines script.layout seq command answer ≡ g ∷ [])
-          due-by row g there seq_is = (in-row (cases_lt (row + 1) has.0) , one-due script.layout seq command answer g wrong)
+          due-by row g there seq_is = (in-row (cases_lt (row + 1) has.0), one-due script.layout seq command answer g wrong)
             where
               next : (a : Answer) × (slice_get rows (row + 1) ≡ Some (lines.Answer g.seq a))
               next = answer-next row g there

@@ -146,10 +146,7 @@ fn is_access(command: &Command) -> bool
 {
     matches!(
         command,
-        Command::Load { .. }
-            | Command::Fetch { .. }
-            | Command::KLoad { .. }
-            | Command::Store { .. }
+        Command::Load { .. } | Command::Fetch { .. } | Command::KLoad { .. } | Command::Store { .. }
     )
 }
 
