@@ -1,4 +1,4 @@
-ghost use Rattle.std.specs.Prelude.{◌≡◌, ◌↔◌, IsTrue, IfOk, MatchOption, Some, false, length, slice_get};
+ghost use Rattle.std.specs.Prelude.{◌≡◌, ◌<◌, ◌↔◌, IsTrue, IfOk, MatchOption, Some, false, length, slice_get};
 ghost use Rattle.hwp_check_rules.specs.Answered.{answers_next, is_well_before};
 ghost use Rattle.hwp_check_rules.specs.hwp_law.Lines.{seq_of};
 ghost use Rattle.hwp_check_answers.specs.Placing.{AreInPlace, AreSet, HasNone, HaveAnswers, IsFirstOut, IsOfNext, TellAnswers, marked};

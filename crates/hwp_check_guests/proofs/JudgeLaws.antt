@@ -178,6 +178,11 @@ module _ (layout : Layout) (commands : List Command) (rows : List CpuLine) where
     lacks_there c false has made due told = λ w.
         w.due (ap (λ (x : Command). guest_lines layout seq x answer) (same_Some w.command c (sym w.made ∙ made)) ∙ none-lines layout seq c answer (sym due))
 
+    pub lacks_not : (c : Command) (due : Bool) → slice_get commands seq ≡ Some c → due ≡ is_some (due_by layout c answer) → due ≡ false → MatchBool due Lacks (Lacks → ⊥)
+    lacks_not c true made is off = absurd (true≢false off)
+    lacks_not c false made is off = λ w.
+        w.due (ap (λ (x : Command). guest_lines layout seq x answer) (same_Some w.command c (sym w.made ∙ made)) ∙ none-lines layout seq c answer (sym is))
+
   pub enough-none : AreEnough layout commands rows 0
   enough-none = λ row line less is. absurd (omega (arith, less))
 

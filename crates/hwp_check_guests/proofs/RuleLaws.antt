@@ -151,6 +151,29 @@ module _ (script : Script) (report : Report) where
   kept-on cpu commands rows of_script of_report none = λ cs rs one other.
       subst (λ (l : List Command). HasNoFault script report cpu l rs) (same_Some _ _ (sym of_script ∙ one)) (subst (HasNoFault script report cpu commands) (same_Some _ _ (sym of_report ∙ other)) none)
 
+  -- what was found of it, by what is known of its commands
+  module _ (cpu : Cpu) (commands : List Command) (rows : List CpuLine) (pairs told : List (Command × Answer)) (flags set : List Bool) (of_script : slice_get script.lists cpu.0 ≡ Some commands) (of_report : slice_get report.cpus cpu.0 ≡ Some rows)
+      (known : IsKnown script.layout report cpu commands rows pairs flags) (told_are : told ≡ pairs) (set_are : set ≡ flags) (enough : AreEnough script.layout commands rows (length rows)) where
+    pub judged-none : AreRight script.layout commands rows told set (length rows) → HasNoFaultOn script report cpu
+    judged-none right =
+        kept-on cpu commands rows of_script of_report
+        (none-on script report cpu commands rows pairs flags known enough
+        (subst (λ (f : List Bool). AreRight script.layout commands rows pairs f (length rows)) set_are (subst (λ (p : List (Command × Answer)). AreRight script.layout commands rows p set (length rows)) told_are right)))
+
+    pub judged-first : (row line : ℕ) → IsFirstWrong script.layout commands rows told set row → line ≡ row_line report cpu.0 row → IsFirstOn script report cpu line
+    judged-first row line wrong line_is = record {
+      commands = commands;
+      rows = rows;
+      of_script = of_script;
+      of_report = of_report;
+      first = inr (
+        row,
+        first-in script report cpu commands rows pairs flags known row enough
+            (subst (λ (f : List Bool). IsFirstWrong script.layout commands rows pairs f row) set_are (subst (λ (p : List (Command × Answer)). IsFirstWrong script.layout commands rows p set row) told_are wrong)),
+        line_is,
+      );
+    }
+
   -- the processors below this number have no fault
   abbrev pub NoneUnder : ℕ → Type 0
   NoneUnder n = (cpu : Cpu) → cpu.0 < n → HasNoFaultOn script report cpu

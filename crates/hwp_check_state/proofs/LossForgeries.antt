@@ -38,7 +38,6 @@ script_with list = record {
     threads = [];
     pages = File file 9 ∷ [];
     trans = [];
-    twins = [];
     locked = false ∷ [];
     twins = [];
     guests = [];
