@@ -12,7 +12,7 @@ syntax match hwpError /\t/
 
 syntax match hwpComment /^#.*/
 
-syntax match hwpDeclaration /^ *\zs\%(hwp\|cpus\|frames\|kernel\|recovery\|early\|file\|proc\|thread\|page\|trans\|cow\)\ze\%( \|$\)/
+syntax match hwpDeclaration /^ *\zs\%(hwp\|cpus\|frames\|kernel\|recovery\|early\|file\|proc\|thread\|page\|trans\|cow\|guest\)\ze\%( \|$\)/
 syntax match hwpList /^ *\zs\%(cpu\|end\)\ze\%( \|$\)/
 
 " accesses; commands on pages, files and policies; commands by which memory fails, is tested and is taken back
