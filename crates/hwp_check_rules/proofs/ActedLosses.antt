@@ -122,7 +122,7 @@ module _ (script : Script) (report : Report) where
   acting-many layout earlier (c ∷ cs) (a ∷ given) = ap suc (acting-many layout (earlier ++ (c, a) ∷ []) cs given)
 
   pub acted-there : (cpu : ℕ) (list : List Command) → slice_get script.lists cpu ≡ Some list → (made : List Command) × (slice_get (acting_script script report).lists cpu ≡ Some made) × (length made ≡ length list)
-  acted-there cpu list there = (acted-list cpu list, at cpu ∙ ap (option_map (acted-list cpu)) there, acting-many script.layout [] list (answers_in (rows-of cpu)))
+  acted-there cpu list there = (acted-list cpu list, at cpu ∙ ap (option_map (acted-list cpu)) there, acting-many script.layout [] list (answers_to list (rows-of cpu)))
 
   -- the answers are those of the rows
   given-is : (cpu : ℕ) (list : List Command) (rows : List CpuLine) → slice_get report.cpus cpu ≡ Some rows → answers_to list (rows-of cpu) ≡ answers_to list rows
