@@ -418,6 +418,7 @@ impl Task for Instruction {
         }
     }
 
+    #[inline(always)]
     fn settle(&mut self, layout: &Layout, found: u64, body: Option<Body>) -> Turn {
         match &mut self.at {
             InstructionAt::Access { access } => {

@@ -63,12 +63,14 @@ impl Job {
         ensures { result ≡ answer self.now }
     {
         match self {
-            Job::Instruction(instruction) => {
-                instruction
-                    .answer()
-                    .map(|answer| instruction_answer(answer))
-            }
-            Job::Copying(copying) => copying.answer().map(|answer| instruction_answer(answer)),
+            Job::Instruction(instruction) => match instruction.answer() {
+                Some(answer) => Some(instruction_answer(answer)),
+                None => None,
+            },
+            Job::Copying(copying) => match copying.answer() {
+                Some(answer) => Some(instruction_answer(answer)),
+                None => None,
+            },
             Job::Evict(evict) => evict.answer().map(|answer| evict_answer(answer)),
             Job::Fsync(fsync) => fsync.answer().map(|answer| fsync_answer(answer)),
             Job::Prctl(prctl) => prctl.answer().map(|answer| prctl_answer(answer)),

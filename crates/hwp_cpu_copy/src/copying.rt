@@ -37,6 +37,7 @@ enum CopyingAt {
 impl Copying {
     /// The command at its beginning: `store` is what is asked for, of the word `x` through the twin of `slot`, which leads to `page`.
     /// The banks of its processor hold this, and it collects corrected errors or doesn't.
+    #[inline(never)]
     pub fn new(
         alloc: Global,
         store: Request,
@@ -68,6 +69,7 @@ impl Copying {
 
     /// What it came to; `None` until it is over, and where it gave up because memory ran out. `stored` is of the store that was asked
     /// for; any other answer is that of the access that didn't go well, or of the freeing.
+    #[inline(never)]
     pub fn answer(&self) -> Option<InstructionAnswer>
         ensures { result ≡ answer self.now }
     {
@@ -79,6 +81,7 @@ impl Copying {
     }
 
     /// The translation of the access that goes on, or that answered the command.
+    #[inline(never)]
     pub fn through(&self) -> VSlot
         ensures { result ≡ through self.now }
     {
@@ -89,6 +92,7 @@ impl Copying {
     }
 
     /// What is left of the access that goes on, where it pauses.
+    #[inline(never)]
     pub fn pause(&self) -> Option<Pause>
         ensures { result ≡ pause self.now }
     {
@@ -99,6 +103,7 @@ impl Copying {
     }
 
     /// Goes on behind its pause. Where it doesn't pause nothing changes.
+    #[inline(never)]
     pub fn resume(&mut self)
         ensures { self.new ≡ resume self.old }
     {
@@ -109,6 +114,7 @@ impl Copying {
     }
 
     /// Its next step gives up the command: memory ran out.
+    #[inline(never)]
     pub fn give_up(&mut self)
         ensures { self.new ≡ give_up self.old }
     {
@@ -117,6 +123,7 @@ impl Copying {
     }
 
     /// What was done about the events of its machine checks, in order.
+    #[inline(never)]
     pub fn told(&self) -> &[EventOutcome]
         ensures { result.now ≡ self.now.instruction.lines.told }
     {
@@ -124,6 +131,7 @@ impl Copying {
     }
 
     /// The same as a list, and its processor's banks are put back, once it is over.
+    #[inline(never)]
     pub fn finish(&mut self, banks: &mut [Bank; BANKS]) -> List<EventOutcome>
         ensures told { result ≡ self.old.instruction.lines.told }
         ensures banks { banks.new ≡ self.old.instruction.banks }
@@ -132,6 +140,7 @@ impl Copying {
     }
 
     /// An access that went well is followed by the next one; any other goes on, or answers the command.
+    #[inline(never)]
     fn after_access(&mut self)
         ensures { self.new ≡ after_access self.old (instructions.answer self.old.instruction) }
     {
@@ -143,6 +152,7 @@ impl Copying {
     }
 
     /// An access went well, by the entry at the place: a load read the word.
+    #[inline(never)]
     fn went(&mut self, word: u64, place: At)
         ensures { self.new ≡ went self.old word place }
     {
@@ -152,6 +162,7 @@ impl Copying {
     }
 
     /// What comes next begins, behind an access whose entry stands at the place.
+    #[inline(never)]
     fn go_on(&mut self, sub: Sub, place: At)
         ensures { self.new ≡ going_on self.old place sub }
     {
@@ -178,6 +189,7 @@ impl Copying {
     }
 
     /// The freeing has its answer: a translation that wasn't in use is as good as freed.
+    #[inline(never)]
     fn after_free(&mut self, answer: EvictAnswer, stored: At)
         ensures { self.new ≡ after_free self.old answer stored }
     {
@@ -202,6 +214,7 @@ impl Copying {
     }
 }
 
+#[inline(never)]
 fn first_line() -> Line
     ensures { result ≡ 0 }
 {
@@ -212,6 +225,7 @@ fn first_line() -> Line
 }
 
 /// A load of the line through the frozen translation, by the thread of the store.
+#[inline(never)]
 fn load_of(store: &Request, page: Page, slot: VSlot, line: Line) -> Request
     ensures { result ≡ load_of store.now page slot line }
 {
@@ -227,6 +241,7 @@ fn load_of(store: &Request, page: Page, slot: VSlot, line: Line) -> Request
 }
 
 /// A store of the word on the line through the twin.
+#[inline(never)]
 fn store_of(store: &Request, slot: VSlot, line: Line, word: u64) -> Request
     ensures { result ≡ store_of store.now slot line word }
 {
@@ -246,10 +261,12 @@ impl Task for Copying {
 
     ghost task = { fits.task };
 
+    #[inline(never)]
     fn who(&self) -> Who {
         self.store.who
     }
 
+    #[inline(never)]
     fn plan(&self) -> Option<Step> {
         match &self.at {
             CopyingAt::Access => self.instruction.plan(),
@@ -258,6 +275,7 @@ impl Task for Copying {
         }
     }
 
+    #[inline(never)]
     fn give(&mut self) -> Option<Body> {
         match &mut self.at {
             CopyingAt::Access => self.instruction.give(),
@@ -266,6 +284,7 @@ impl Task for Copying {
         }
     }
 
+    #[inline(never)]
     fn settle(&mut self, layout: &Layout, found: u64, body: Option<Body>) -> Turn {
         match &mut self.at {
             CopyingAt::Access => {
@@ -288,6 +307,7 @@ impl Task for Copying {
 }
 
 impl Ranked for Copying {
+    #[inline(never)]
     fn class(&self) -> u8 {
         match &self.at {
             CopyingAt::Access => self.instruction.class(),
@@ -300,6 +320,7 @@ impl Ranked for Copying {
 }
 
 impl Scheduled for Copying {
+    #[inline(never)]
     fn is_over(&self) -> bool {
         match &self.at {
             CopyingAt::Access => self.instruction.is_over(),
