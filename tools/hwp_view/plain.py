@@ -33,7 +33,7 @@ ANSWERS = {
     "gone": "its process was ended by a signal",
     "stopped": "the machine has stopped",
     "gueststopped": "the guest has stopped",
-    "guestbad": "the guest uses this address no more",
+    "guestbad": "the guest uses this guest frame no more",
     "takenfree": "no page was in the frame",
     "delayed": "the content is lost, nobody told yet",
     "ignored": "it stays in use",
