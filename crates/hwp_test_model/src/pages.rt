@@ -2,8 +2,8 @@
 
 use crate::machine::{all_seen, machine, with_locked};
 use hwp_page::{
-    Body, Code, Cpu, Entry, Line, List, Mask, Met, Outcome, Page, Policy, Proc, Signal, Situation,
-    Thread, VSlot, What, Who,
+    Body, Code, Cpu, Entry, Line, List, Mask, Met, Outcome, Page, PageState, Policy, Proc, Signal,
+    Situation, Thread, VSlot, What, Who,
 };
 use std::alloc::Global;
 use std::process::Abort;
@@ -110,15 +110,50 @@ fn failure(rt: &impl Abort, alloc: Global, page: u16, situation: Situation, sign
     }
 }
 
-/// The page is out of its frame, with this word on line 2; and whether it is dirty, has a poison entry at the translation
-/// of its number, and is lost.
+/// The page has this word on line 2, and on all other lines what it was filled with.
+fn has_words(rt: &impl Abort, state: &PageState, word: u64, fill: u64) {
+    let stored = second(rt);
+    for number in 0..64 {
+        let line = Line::new(number).expect(rt, "a line");
+        let due = if line == stored { word } else { fill };
+        assert!(rt; state.val.get(line) == due);
+    }
+}
+
+/// Of all translations this one alone has a poison entry, or none has.
+fn has_entry(rt: &impl Abort, state: &PageState, slot: VSlot, has: bool) {
+    for number in 0..3 {
+        let due = has && number == slot.0;
+        assert!(rt; state.bar.has(VSlot(number)) == due);
+    }
+    assert!(rt; state.bar.lowest_from(VSlot(3)).is_none());
+}
+
+/// The page is out of its frame, with this word on line 2 and the other lines as they were filled; and whether it is dirty, has a
+/// poison entry at the translation of its number, and is lost.
 fn became(rt: &impl Abort, body: &Body, word: u64, flags: [bool; 3]) {
     let state = body.state();
-    let slot = VSlot(body.page().0);
-    let line = second(rt);
-    let found = [state.dirty, state.bar.has(slot), state.lost];
-    assert!(rt; (state.val.get(line), found) == (word, flags));
+    let page = body.page().0;
+    has_words(rt, state, word, if page == 1 { 9 } else { 0 });
+    let [dirty, entry, lost] = flags;
+    has_entry(rt, state, VSlot(page), entry);
+    assert!(rt; (state.dirty, state.lost) == (dirty, lost));
     assert!(rt; !state.cached && state.maps.lowest_from(VSlot(0)).is_none());
+}
+
+#[rattlefmt::skip]
+const SITUATIONS: &[Situation] = &[
+    Situation::Free, Situation::Kernel, Situation::FileClean, Situation::FileDirty, Situation::AnonOnly, Situation::SwapClean,
+    Situation::SwapDirty, Situation::LockedClean, Situation::LockedFile, Situation::LockedAnon,
+];
+
+/// The failure is allowed in the situation of the page, and the same one in no other.
+fn fails_as(rt: &impl Abort, alloc: Global, body: &Body, signals: bool) {
+    let found = body.state().situation();
+    for situation in SITUATIONS {
+        let what = failure(rt, alloc, body.page().0, *situation, signals);
+        assert!(rt; body.allowed(&entry(what)) == (*situation == found));
+    }
 }
 
 /// A page and what comes to it; what it is found as, what comes of its failure, whether that signals, and whether it tells every
@@ -137,6 +172,7 @@ fn fails(rt: &impl Abort, alloc: Global, locked: bool, row: &Failed<'_>) {
     let situation = body.state().situation();
     let (outcome, signals) = (situation.outcome(), situation.signals());
     assert!(rt; (situation, outcome, signals, situation.always_signals()) == *found);
+    fails_as(rt, alloc, &body, signals);
     add(rt, &mut body, failure(rt, alloc, *page, situation, signals));
     became(rt, &body, *word, *flags);
 }
