@@ -14,3 +14,5 @@ mod pages;
 mod releasing;
 #[cfg(test)]
 mod turns;
+#[cfg(test)]
+mod words;
