@@ -97,11 +97,11 @@ module _ (layout : Layout) (a b : State) (was now : List Played) (before after :
       by None over t = ap (λ (s : State). hand_of (view_of s 0)) t.board ∙ hand ∙ ap (λ (x : Take). taken x.at) (sym t.task)
       by (Some step) planned t = made-on step planned t
 
-taken_in : Frame → Option TakeAnswer → Frame
+abbrev taken_in : Frame → Option TakeAnswer → Frame
 taken_in none (Some (answers.Taken frame)) = frame
 taken_in none _ = none
 
-is_taken : Option TakeAnswer → Bool
+abbrev is_taken : Option TakeAnswer → Bool
 is_taken (Some (answers.Taken frame)) = true
 is_taken _ = false
 
