@@ -94,7 +94,9 @@ class Step:
 
 
 def order_of(script: Script) -> list[tuple[int, int]]:
-    """The order of the commands, where each is whole. Raises NoForm where processors meet inside their commands."""
+    """The order of the commands, where each is whole. Raises NoForm where processors meet inside their commands, and for a guest."""
+    if any(script.guests):
+        raise NoForm("the processes of the emulated kernel are no virtual machines")
     at = [0] * script.cpus
     found: list[tuple[int, int]] = []
 

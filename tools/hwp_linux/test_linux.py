@@ -74,6 +74,10 @@ class Plans(unittest.TestCase):
                 else:
                     self.assertEqual(order_of(script(schedule)), due)
 
+    def test_a_script_with_a_guest_has_no_form(self) -> None:
+        guest = read_script(b"hwp 2\ncpus 1\nframes 1\nproc 0\nguest 0\ncpu 0\nlog 0x0 0x0 0x0\nend\n")
+        self.assertRaises(NoForm, order_of, guest)
+
     def test_kinds_of_pages(self) -> None:
         self.assertEqual(Twin(Recording(""), script()).kinds, [PRIVATE, SHARED, SHARED, OF_FILE])
 
