@@ -14,7 +14,7 @@ use Rattle.hwp_check_rules.specs.hwp_report_text.declared.Answer.{Answer}
 use Rattle.hwp_check_rules.specs.hwp_report_text.declared.Answer.TheVariants as answers
 use Rattle.hwp_check_rules.specs.hwp_law_commands.Guests.{GuestAccess, denial, denied, guest_access, guest_of}
 
--- the access of a command with this answer, where it was one of a guest that met a bad line
+-- the access of a command with this answer, where it was one of a guest that SIGBUS answered
 abbrev pub met_by : Layout → Command × Answer → Option GuestAccess
 met_by layout (command, answers.Sigbus at) = guest_access layout command
 met_by layout p = None

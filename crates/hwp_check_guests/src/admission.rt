@@ -8,7 +8,7 @@ use crate::accesses::{GuestAccess, guest_access};
 use hwp_check_rules::{Admit, Answer, Command, Layout, Mode, OutOfMemory, Proc, VSlot};
 use std::alloc::Global;
 
-/// The access of a command with this answer, where it was one of a guest that met a bad line.
+/// The access of a command with this answer, where it was one of a guest that SIGBUS answered.
 fn met_by(layout: &Layout, pair: &(Command, Answer)) -> Option<GuestAccess>
     ensures { option_map access_in result ≡ met_by layout.now pair.now }
 {

@@ -95,8 +95,8 @@ fn fault_on(
     }
 }
 
-/// Whether each access of a guest was answered as the guest admits it, and the guest was told of each bad line that one met, by the line
-/// right before the answer; else the first line of a report that breaks this. It takes no memory where no process is a guest.
+/// Whether each access of a guest was answered as the guest admits it, and the guest was told of each that SIGBUS answered, by the
+/// line right before the answer; else the first line of a report that breaks this. It takes no memory where no process is a guest.
 pub fn guests_fault(
     alloc: Global,
     script: &Script,
