@@ -1,12 +1,14 @@
 -- What a guest is, told by which of the earlier commands stopped it, and which made frames of it bad.
-use Rattle.std.proofs.Common.{◌≡◌, ◌⊎◌, inl, inr, ℕ, ◌==◌, ◌||◌, ◌&&◌, Bool, true, false, List, [], ◌∷◌, Option, Some, None, option_map, fold, if◌then◌else◌, refl, sym, ap, ◌∙◌}
+use Rattle.std.proofs.Common.{◌≡◌, ◌⊎◌, inl, inr, ℕ, ◌+◌, ◌<◌, ◌≤◌, ◌==◌, ◌||◌, ◌&&◌, Bool, true, false, List, [], ◌∷◌, Option, Some, None, option_map, fold, if◌then◌else◌, ◌++◌, get_or, length, slice_get, take, refl, sym, ap, ◌∙◌, subst, arith}
 use Rattle.std.specs.List.{list_any}
 use Rattle.std.specs.Prelude.{option_and_then}
 use Rattle.std.specs.Option.{option_map_or}
 use Rattle.std.specs.FinSet as set
 use Rattle.std.specs.Ordering.{nat_cmp}
 use Rattle.std.specs.Cmp.{nat_cmp_total, unsigned_tied}
-use Rattle.std.proofs.lemmas.Bool.{cases_eq, eq-eqb, ne_eqb}
+use Rattle.std.proofs.lemmas.Bool.{cases_eq, cases_lt, eq-eqb, ne_eqb}
+use Rattle.std.proofs.lemmas.List.{get_or_append_left, get_or_push, length_push}
+use Rattle.std.proofs.lemmas.Option.{same_Some}
 use Rattle.hwp_check_rules.specs.hwp_guest.declared.Admit.{Admit}
 use Rattle.hwp_check_rules.specs.hwp_guest.declared.Admit.TheVariants as admissions
 use Rattle.hwp_check_rules.specs.hwp_guest.GuestState.{GuestState, admitted, after}
@@ -20,7 +22,7 @@ use Rattle.hwp_check_rules.specs.hwp_report_text.declared.Answer.{Answer}
 use Rattle.hwp_check_rules.specs.hwp_report_text.declared.Answer.TheVariants as answers
 use Rattle.hwp_check_rules.specs.hwp_law_commands.Guests.{GuestAccess, denial, denied, guest_access, guest_after, guest_met, guest_of, new_guest}
 use Rattle.hwp_check_guests.specs.Accesses.{access_in}
-use Rattle.hwp_check_guests.specs.Admission.{admission_of, is_spoil, is_spoil_by, is_spoil_in, is_stop, is_stop_by, is_stop_in, met_by}
+use Rattle.hwp_check_guests.specs.Admission.{AreAdmissions, admission_of, is_spoil, is_spoil_by, is_spoil_in, is_stop, is_stop_by, is_stop_in, met_by}
 use Rattle.hwp_check_guests.specs.declared.accesses.GuestAccess.{GuestAccess as Found}
 
 -- ---- a command and its answer, as they were read
@@ -162,3 +164,19 @@ module _ (layout : Layout) (earlier : List (Command × Answer)) (command : Comma
 
   pub by_access : (a : Found) (d : Admit) → option_map access_in (Some a) ≡ guest_access layout command → d ≡ admission_of layout earlier (access_in a) → denial d ≡ denied layout earlier command
   by_access a d is told = ap denial told ∙ ap (option_and_then (λ (x : GuestAccess). denial (admission_of layout earlier x))) is
+
+-- ---- one command after the other
+
+module _ (layout : Layout) (commands : List Command) (pairs : List (Command × Answer)) where
+  pub next-admission : (n : ℕ) (admits : List Admit) (command : Command) (admit : Admit) → slice_get commands n ≡ Some command → denial admit ≡ denied layout (take n pairs) command → AreAdmissions layout commands pairs n admits
+      → AreAdmissions layout commands pairs (n + 1) (admits ++ admit ∷ [])
+  next-admission n admits command admit there is are = record {
+    many = length_push admits admit ∙ ap (λ (k : ℕ). k + 1) are.many;
+    each = λ seq other less made. elim (cases_lt seq n) [
+      | inl low ↦ ap denial (get_or_append_left admits (admit ∷ []) admissions.Yes seq (subst (λ (k : ℕ). seq < k) (sym are.many) low)) ∙ are.each seq other low made
+      | inr high ↦
+          let here : n ≡ seq = omega (arith, less, high) in
+          ap denial (get_or_push admits admit admissions.Yes seq (are.many ∙ here)) ∙ is
+          ∙ ap (λ (c : Command). denied layout (take n pairs) c) (same_Some command other (sym there ∙ ap (slice_get commands) here ∙ made)) ∙ ap (λ (k : ℕ). denied layout (take k pairs) other) here
+    ];
+  }

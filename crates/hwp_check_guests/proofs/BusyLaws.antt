@@ -1,5 +1,6 @@
--- A command is flagged exactly where it does something.
-use Rattle.std.proofs.Common.{◌≡◌, ◌≢◌, inl, inr, ℕ, zero, suc, ◌+◌, ◌<◌, ◌≤◌, ◌==◌, Bool, true, false, cond, if◌then◌else◌, List, [], ◌∷◌, Option, Some, None, drop, fold, get_or, length, option_and_then, replicate, slice_get, slice_set, unwrap_or, refl, sym, ap, ◌∙◌, subst, true≢false}
+-- A command is flagged exactly where it does something, or where it has a guest's line.
+use Rattle.std.proofs.Common.{◌≡◌, ◌≢◌, inl, inr, ℕ, zero, suc, ◌+◌, ◌<◌, ◌≤◌, ◌==◌, ◌||◌, Bool, true, false, cond, if◌then◌else◌, List, [], ◌∷◌, Option, Some, None, drop, fold, get_or, length, option_and_then, replicate, slice_get, slice_set, unwrap_or, refl, sym, ap, ◌∙◌, subst, true≢false}
+use Rattle.std.specs.List.{list_any}
 use Rattle.std.proofs.lemmas.Bool.{cases_eq, eq-eqb, eqb-true, ne_eqb}
 use Rattle.std.proofs.lemmas.List.{drop_all, drop_more, get_or-replicate, get_or-set_other, get_or-set_same, length-replicate, length-set}
 use Rattle.std.proofs.lemmas.Option.{none-some, same_Some}
@@ -13,7 +14,8 @@ use Rattle.hwp_check_rules.specs.hwp_report_text.declared.EventLine.{EventLine}
 use Rattle.hwp_check_rules.specs.hwp_report_text.declared.Report.{Report}
 use Rattle.hwp_check_rules.specs.hwp_law.Guests.{DoesNothing}
 use Rattle.hwp_check_rules.specs.hwp_law.Lines.{events_among, events_of}
-use Rattle.hwp_check_guests.specs.Busy.{busy_by, marked_by, marked_in, told_by}
+use Rattle.hwp_check_guests.specs.Busy.{busy_by, guest_by, guests_by, marked_by, marked_in, told_by}
+use Rattle.hwp_check_guests.specs.Telling.{is_guest_of}
 
 -- ---- loops over a list
 
@@ -149,6 +151,35 @@ module _ (cpu : Cpu) (seq : ℕ) where
     | inl same ↦ absurd (true≢false (ap is_some_event (sym (ap (λ (b : Bool). among b event rs) (eq-eqb seq event.seq same)) ∙ none)))
     | inr other ↦ other-rows (slice_set flags event.seq true) rs (sym (ap (λ (b : Bool). among b event rs) (ne_eqb seq event.seq other)) ∙ none) ∙ set-other flags event.seq other
   ]
+
+  -- the flags of guests' lines
+  stays-guests : (flags : List Bool) (rows : List CpuLine) → seq < length flags → at flags ≡ true → at (fold guest_by flags rows) ≡ true
+  stays-guests flags [] within is = is
+  stays-guests flags (lines.Guest line ∷ rs) within is =
+      stays-guests (slice_set flags line.seq true) rs (subst (λ (n : ℕ). seq < n) (sym (length-set flags line.seq true)) within) (set-stays flags line.seq within is)
+  stays-guests flags (lines.Event event ∷ rs) within is = stays-guests flags rs within is
+  stays-guests flags (lines.Offlined offlined ∷ rs) within is = stays-guests flags rs within is
+  stays-guests flags (lines.Answer s answer ∷ rs) within is = stays-guests flags rs within is
+
+  -- one is set exactly where the command has a guest's line
+  guests-are : (flags : List Bool) (rows : List CpuLine) → seq < length flags → at flags ≡ false → at (fold guest_by flags rows) ≡ list_any (is_guest_of seq) rows
+  guests-are flags [] within is = is
+  guests-are flags (lines.Event event ∷ rs) within is = guests-are flags rs within is
+  guests-are flags (lines.Offlined offlined ∷ rs) within is = guests-are flags rs within is
+  guests-are flags (lines.Answer s answer ∷ rs) within is = guests-are flags rs within is
+  guests-are flags (lines.Guest line ∷ rs) within is = elim (cases_eq seq line.seq) [
+    | inl same ↦ stays-guests (slice_set flags line.seq true) rs inside (set-own flags line.seq within same) ∙ sym (ap (λ (b : Bool). b || list_any (is_guest_of seq) rs) (eq-eqb line.seq seq (sym same)))
+    | inr other ↦
+        guests-are (slice_set flags line.seq true) rs inside (set-other flags line.seq other ∙ is)
+        ∙ sym (ap (λ (b : Bool). b || list_any (is_guest_of seq) rs) (ne_eqb line.seq seq (λ same. other (sym same))))
+  ]
+    where
+      inside : seq < length (slice_set flags line.seq true)
+      inside = subst (λ (n : ℕ). seq < n) (sym (length-set flags line.seq true)) within
+
+  pub told-guests : (commands : ℕ) (rows : List CpuLine) → seq < commands → at (guests_by commands rows) ≡ list_any (is_guest_of seq) rows
+  told-guests commands rows within =
+      guests-are (replicate commands false) rows (subst (λ (n : ℕ). seq < n) (sym (length-replicate {A = Bool} commands false)) within) (get_or-replicate {A = Bool} commands seq false false within)
 
   -- ---- all of a report
 

@@ -1,9 +1,9 @@
 -- What is found of a line of a processor, from what was read of it.
-use Rattle.std.proofs.Common.{◌≡◌, ◌≢◌, ◌⊎◌, inl, inr, ℕ, ◌+◌, ◌<◌, ◌≤◌, ◌==◌, Bool, true, false, cond, not, is_some, List, [], ◌∷◌, Option, Some, None, MatchBool, if◌then◌else◌, length, option_and_then, slice_get, slice_index_or, take, refl, sym, ap, ◌∙◌, subst, true≢false, arith}
-use Rattle.std.specs.List.{list_any}
+use Rattle.std.proofs.Common.{◌≡◌, ◌≢◌, ◌⊎◌, inl, inr, ℕ, ◌+◌, ◌<◌, ◌≤◌, ◌==◌, Bool, true, false, cond, not, is_some, List, [], ◌∷◌, Option, Some, None, MatchBool, if◌then◌else◌, length, option_and_then, slice_get, slice_index_or, refl, sym, ap, ◌∙◌, subst, true≢false, arith}
 use Rattle.std.proofs.lemmas.Bool.{cases_lt, eq-eqb, eqb-true}
 use Rattle.std.proofs.lemmas.Option.{none-some, same_Some}
 use Rattle.hwp_check_rules.specs.hwp_guest.declared.Admit.{Admit}
+use Rattle.hwp_check_rules.specs.hwp_guest.declared.Admit.TheVariants as admissions
 use Rattle.hwp_check_rules.specs.hwp_geom.declared.Layout.{Layout}
 use Rattle.hwp_check_rules.specs.hwp_script_read.declared.Command.{Command}
 use Rattle.hwp_check_rules.specs.hwp_report_text.declared.Answer.{Answer}
@@ -11,10 +11,10 @@ use Rattle.hwp_check_rules.specs.hwp_report_text.declared.Answer.TheVariants as 
 use Rattle.hwp_check_rules.specs.hwp_report_text.declared.CpuLine.{CpuLine}
 use Rattle.hwp_check_rules.specs.hwp_report_text.declared.CpuLine.TheVariants as lines
 use Rattle.hwp_check_rules.specs.hwp_report_text.declared.GuestLine.{GuestLine}
-use Rattle.hwp_check_rules.specs.hwp_law_commands.Guests.{denial, denied, guest_lines}
+use Rattle.hwp_check_rules.specs.hwp_law_commands.Guests.{denial, guest_lines}
 use Rattle.hwp_check_rules.specs.GuestFaults.{IsAdmitted, IsGuestLacking, IsMistold, LacksGuest}
-use Rattle.hwp_check_guests.specs.Judging.{AreEnough, AreRight, IsFirstLacking, IsFirstWrong, IsMisadmittedBy, IsWrongBy, answer_behind, answer_by, says_bad, says_denied, says_stopped}
-use Rattle.hwp_check_guests.specs.Telling.{due_by, is_guest_of, is_told}
+use Rattle.hwp_check_guests.specs.Judging.{AreEnough, AreRight, AreTold, IsFirstLacking, IsFirstWrong, IsLackingBy, IsMisadmittedBy, IsWrongBy, LacksGuestBy, answer_behind, answer_by, says_bad, says_denied, says_stopped}
+use Rattle.hwp_check_guests.specs.Telling.{due_by, is_told}
 use Rattle.hwp_check_guests.proofs.TellingLaws.{guest-none, is-told, no-guest, none-lines, some-lines, told-is}
 
 -- ---- an answer, by what its guest makes of the access
@@ -67,9 +67,9 @@ module _ (answer : Answer) (busy : Bool) where
 
 -- ---- the command of an answer
 
-module _ (layout : Layout) (commands : List Command) (pairs : List (Command × Answer)) (flags : List Bool) (seq : ℕ) (answer : Answer) where
+module _ (commands : List Command) (admits : List Admit) (flags : List Bool) (seq : ℕ) (answer : Answer) where
   abbrev Wrong : Type 0
-  Wrong = IsMisadmittedBy layout commands pairs flags seq answer
+  Wrong = IsMisadmittedBy commands admits flags seq answer
 
   abbrev Good : Option Answer → Type 0
   Good due = IsAdmitted due answer (slice_index_or flags seq false ≡ false)
@@ -77,13 +77,16 @@ module _ (layout : Layout) (commands : List Command) (pairs : List (Command × A
   pub none_made : slice_get commands seq ≡ None → Wrong → ⊥
   none_made none w = none-some w.command (sym none ∙ w.made)
 
-  pub answered_there : (c : Command) (admit : Admit) (flag b : Bool) → slice_get commands seq ≡ Some c → denial admit ≡ denied layout (take seq pairs) c → flag ≡ slice_index_or flags seq false
+  abbrev due-here : Option Answer
+  due-here = denial (slice_index_or admits seq admissions.Yes)
+
+  pub answered_there : (c : Command) (admit : Admit) (flag b : Bool) → slice_get commands seq ≡ Some c → admit ≡ slice_index_or admits seq admissions.Yes → flag ≡ slice_index_or flags seq false
       → MatchBool b (IsAdmitted (denial admit) answer (flag ≡ false)) (IsAdmitted (denial admit) answer (flag ≡ false) → ⊥) → MatchBool (not b) Wrong (Wrong → ⊥)
-  answered_there c admit flag b made admits flag_is told = by b (subst (λ (f : Bool). MatchBool b (IsAdmitted (denied layout (take seq pairs) c) answer (f ≡ false)) (IsAdmitted (denied layout (take seq pairs) c) answer (f ≡ false) → ⊥)) flag_is
-      (subst (λ (o : Option Answer). MatchBool b (IsAdmitted o answer (flag ≡ false)) (IsAdmitted o answer (flag ≡ false) → ⊥)) admits told))
+  answered_there c admit flag b made admit_is flag_is told = by b (subst (λ (f : Bool). MatchBool b (IsAdmitted due-here answer (f ≡ false)) (IsAdmitted due-here answer (f ≡ false) → ⊥)) flag_is
+      (subst (λ (a : Admit). MatchBool b (IsAdmitted (denial a) answer (flag ≡ false)) (IsAdmitted (denial a) answer (flag ≡ false) → ⊥)) admit_is told))
     where
-      by : (r : Bool) → MatchBool r (Good (denied layout (take seq pairs) c)) (Good (denied layout (take seq pairs) c) → ⊥) → MatchBool (not r) Wrong (Wrong → ⊥)
-      by true good = λ w. w.wrong (subst (λ (x : Command). Good (denied layout (take seq pairs) x)) (same_Some c w.command (sym made ∙ w.made)) good)
+      by : (r : Bool) → MatchBool r (Good due-here) (Good due-here → ⊥) → MatchBool (not r) Wrong (Wrong → ⊥)
+      by true good = λ w. w.wrong good
       by false wrong = record { command = c; made = made; wrong = wrong }
 
 -- ---- a guest's line
@@ -141,14 +144,14 @@ module _ (layout : Layout) (commands : List Command) (rows : List CpuLine) (row 
 
 -- ---- lines one after another
 
-module _ (layout : Layout) (commands : List Command) (rows : List CpuLine) (pairs : List (Command × Answer)) (flags : List Bool) where
+module _ (layout : Layout) (commands : List Command) (rows : List CpuLine) (admits : List Admit) (flags : List Bool) where
   abbrev WrongRow : ℕ → CpuLine → Type 0
-  WrongRow row line = IsWrongBy layout commands rows pairs flags row line
+  WrongRow row line = IsWrongBy layout commands rows admits flags row line
 
-  pub right-none : AreRight layout commands rows pairs flags 0
+  pub right-none : AreRight layout commands rows admits flags 0
   right-none = λ row line less is. absurd (omega (arith, less))
 
-  pub right_next : (n : ℕ) (line : CpuLine) → slice_get rows n ≡ Some line → (WrongRow n line → ⊥) → AreRight layout commands rows pairs flags n → AreRight layout commands rows pairs flags (n + 1)
+  pub right_next : (n : ℕ) (line : CpuLine) → slice_get rows n ≡ Some line → (WrongRow n line → ⊥) → AreRight layout commands rows admits flags n → AreRight layout commands rows admits flags (n + 1)
   right_next n line there fine before = λ row other less is. elim (cases_lt row n) [
     | inl low ↦ before row other low is
     | inr high ↦
@@ -156,32 +159,48 @@ module _ (layout : Layout) (commands : List Command) (rows : List CpuLine) (pair
         subst (λ (k : ℕ). WrongRow k other → ⊥) (sym here) (subst (λ (l : CpuLine). WrongRow n l → ⊥) (same_Some line other (sym there ∙ ap (slice_get rows) (sym here) ∙ is)) fine)
   ]
 
-  pub right_all : (n : ℕ) → length rows ≤ n → AreRight layout commands rows pairs flags n → AreRight layout commands rows pairs flags (length rows)
+  pub right_all : (n : ℕ) → length rows ≤ n → AreRight layout commands rows admits flags n → AreRight layout commands rows admits flags (length rows)
   right_all n past right = λ row line less is. right row line (omega (arith, less, past)) is
 
-  pub wrong_first : (n : ℕ) (line : CpuLine) → slice_get rows n ≡ Some line → WrongRow n line → AreRight layout commands rows pairs flags n → IsFirstWrong layout commands rows pairs flags n
+  pub wrong_first : (n : ℕ) (line : CpuLine) → slice_get rows n ≡ Some line → WrongRow n line → AreRight layout commands rows admits flags n → IsFirstWrong layout commands rows admits flags n
   wrong_first n line there wrong before = record { line = line; there = there; wrong = wrong; before = before }
 
 -- ---- lines that lack
 
+module _ (layout : Layout) (commands : List Command) (told : List Bool) (seq : ℕ) (answer : Answer) where
+  abbrev Lacks : Type 0
+  Lacks = LacksGuestBy layout commands told seq answer
+
+  pub lacks_made : slice_get commands seq ≡ None → Lacks → ⊥
+  lacks_made none w = none-some w.command (sym none ∙ w.made)
+
+  pub lacks_there : (c : Command) (due has : Bool) → slice_get commands seq ≡ Some c → due ≡ is_some (due_by layout c answer) → has ≡ slice_index_or told seq false → MatchBool (cond due (not has) false) Lacks (Lacks → ⊥)
+  lacks_there c true true made due has = λ w. true≢false (has ∙ w.none)
+  lacks_there c true false made due has = record { command = c; made = made; due = some-lines layout seq c answer (sym due); none = sym has }
+  lacks_there c false has made due told = λ w.
+      w.due (ap (λ (x : Command). guest_lines layout seq x answer) (same_Some w.command c (sym w.made ∙ made)) ∙ none-lines layout seq c answer (sym due))
+
+  pub lacks_not : (c : Command) (due : Bool) → slice_get commands seq ≡ Some c → due ≡ is_some (due_by layout c answer) → due ≡ false → MatchBool due Lacks (Lacks → ⊥)
+  lacks_not c true made is off = absurd (true≢false off)
+  lacks_not c false made is off = λ w.
+      w.due (ap (λ (x : Command). guest_lines layout seq x answer) (same_Some w.command c (sym w.made ∙ made)) ∙ none-lines layout seq c answer (sym is))
+
 module _ (layout : Layout) (commands : List Command) (rows : List CpuLine) where
-  module _ (seq : ℕ) (answer : Answer) where
-    abbrev Lacks : Type 0
-    Lacks = LacksGuest layout commands rows seq answer
+  -- a guest's line lacks by the flags exactly where it lacks
+  module _ (told : List Bool) (are : AreTold layout commands rows told) where
+    lacks-law : (seq : ℕ) (answer : Answer) → LacksGuestBy layout commands told seq answer → LacksGuest layout commands rows seq answer
+    lacks-law seq answer w = record { command = w.command; made = w.made; due = w.due; none = no-guest seq rows (sym (are seq w.command answer w.made w.due) ∙ w.none) }
 
-    pub lacks_made : slice_get commands seq ≡ None → Lacks → ⊥
-    lacks_made none w = none-some w.command (sym none ∙ w.made)
+    law-lacks : (seq : ℕ) (answer : Answer) → LacksGuest layout commands rows seq answer → LacksGuestBy layout commands told seq answer
+    law-lacks seq answer w = record { command = w.command; made = w.made; due = w.due; none = are seq w.command answer w.made w.due ∙ guest-none seq rows w.none }
 
-    pub lacks_there : (c : Command) (due has : Bool) → slice_get commands seq ≡ Some c → due ≡ is_some (due_by layout c answer) → has ≡ list_any (is_guest_of seq) rows → MatchBool (cond due (not has) false) Lacks (Lacks → ⊥)
-    lacks_there c true true made due has = λ w. true≢false (has ∙ guest-none seq rows w.none)
-    lacks_there c true false made due has = record { command = c; made = made; due = some-lines layout seq c answer (sym due); none = no-guest seq rows (sym has) }
-    lacks_there c false has made due told = λ w.
-        w.due (ap (λ (x : Command). guest_lines layout seq x answer) (same_Some w.command c (sym w.made ∙ made)) ∙ none-lines layout seq c answer (sym due))
+    pub lacking-law : (line : CpuLine) → IsLackingBy layout commands told line → IsGuestLacking layout commands rows line
+    lacking-law (lines.Answer seq answer) w = lacks-law seq answer w
+    lacking-law line w = absurd w
 
-    pub lacks_not : (c : Command) (due : Bool) → slice_get commands seq ≡ Some c → due ≡ is_some (due_by layout c answer) → due ≡ false → MatchBool due Lacks (Lacks → ⊥)
-    lacks_not c true made is off = absurd (true≢false off)
-    lacks_not c false made is off = λ w.
-        w.due (ap (λ (x : Command). guest_lines layout seq x answer) (same_Some w.command c (sym w.made ∙ made)) ∙ none-lines layout seq c answer (sym is))
+    pub law-lacking : (line : CpuLine) → IsGuestLacking layout commands rows line → IsLackingBy layout commands told line
+    law-lacking (lines.Answer seq answer) w = law-lacks seq answer w
+    law-lacking line w = absurd w
 
   pub enough-none : AreEnough layout commands rows 0
   enough-none = λ row line less is. absurd (omega (arith, less))

@@ -1,6 +1,6 @@
 -- The processors one after another: the first line of a report that breaks the rule of guests, or none does.
-use Rattle.std.proofs.Common.{◌≡◌, ◌⊎◌, inl, inr, ℕ, zero, suc, ◌+◌, ◌<◌, ◌≤◌, min, Bool, true, false, List, [], ◌∷◌, Option, Some, None, MatchOption, if◌then◌else◌, get_or, length, option_and_then, slice_get, slice_index_or, take, unwrap_or, refl, sym, ap, subst, ◌∙◌, true≢false, arith}
-use Rattle.std.specs.List.{list_any, sum_by}
+use Rattle.std.proofs.Common.{◌≡◌, ◌⊎◌, inl, inr, ℕ, zero, suc, ◌+◌, ◌<◌, ◌≤◌, min, Bool, true, false, List, [], ◌∷◌, Option, Some, None, MatchOption, if◌then◌else◌, get_or, length, option_and_then, option_map, slice_get, slice_index_or, take, unwrap_or, refl, sym, ap, subst, ◌∙◌, true≢false, arith}
+use Rattle.std.specs.List.{cons_option, list_any, sum_by}
 use Rattle.std.proofs.lemmas.Bool.{cases_lt, or_parts}
 use Rattle.std.proofs.lemmas.List.{take-take}
 use Rattle.std.proofs.lemmas.List.Sums.{sum_by-take-le, sum_by_more}
@@ -11,6 +11,7 @@ use Rattle.hwp_check_rules.specs.hwp_geom.declared.Layout.{Layout}
 use Rattle.hwp_check_rules.specs.hwp_geom.declared.Proc.{Proc}
 use Rattle.hwp_check_rules.specs.hwp_geom.declared.Who.{Who}
 use Rattle.hwp_check_rules.specs.hwp_report_text.declared.Answer.{Answer}
+use Rattle.hwp_check_rules.specs.hwp_report_text.declared.Answer.TheVariants as answers
 use Rattle.hwp_check_rules.specs.hwp_report_text.declared.CpuLine.{CpuLine}
 use Rattle.hwp_check_rules.specs.hwp_report_text.declared.CpuLine.TheVariants as lines
 use Rattle.hwp_check_rules.specs.hwp_report_text.declared.Report.{Report}
@@ -20,15 +21,18 @@ use Rattle.hwp_check_rules.specs.hwp_law.Guests.{DoesNothing}
 use Rattle.hwp_check_rules.specs.hwp_law.Lines.{answered}
 use Rattle.hwp_check_rules.specs.hwp_law_commands.Commands as access
 use Rattle.hwp_check_rules.specs.hwp_law_commands.Commands.{access_of, arrival_of, process_of_thread}
-use Rattle.hwp_check_rules.specs.hwp_law_commands.Guests.{GuestAccess, denial, denied, guest_access, guest_of, kind_of}
+use Rattle.hwp_check_rules.specs.hwp_law_commands.Guests.{GuestAccess, denial, denied, guest_access, guest_line, guest_lines, guest_of, kind_of}
 use Rattle.hwp_check_rules.specs.Firsts.{IsLeast}
 use Rattle.hwp_check_rules.specs.GuestFaults.{IsAdmitted, IsGuestFault, IsGuestLacking, IsGuestWrong, IsMisadmitted}
 use Rattle.hwp_check_rules.specs.Standing.{cpu_height, cpu_line, last_line, row_line}
+use Rattle.hwp_check_rules.specs.hwp_guest.declared.Admit.{Admit}
+use Rattle.hwp_check_rules.specs.hwp_guest.declared.Admit.TheVariants as admissions
 use Rattle.hwp_check_rules.specs.hwp_guest.GuestState.{admitted}
 use Rattle.hwp_check_guests.specs.Accesses.{has_guests}
-use Rattle.hwp_check_guests.specs.Busy.{busy_by}
+use Rattle.hwp_check_guests.specs.Admission.{AreAdmissions}
+use Rattle.hwp_check_guests.specs.Busy.{busy_by, guests_by}
 use Rattle.hwp_check_guests.specs.Judging.{AreEnough, AreRight, HasNoFault, HasNoFaultOn, IsFirstIn, IsFirstLacking, IsFirstOn, IsFirstWrong, IsKnown, IsMisadmittedBy, IsWrongBy}
-use Rattle.hwp_check_guests.proofs.BusyLaws.{idle-nothing, nothing-idle}
+use Rattle.hwp_check_guests.proofs.BusyLaws.{idle-nothing, nothing-idle, told-guests}
 
 -- ---- where no process is a guest
 
@@ -61,17 +65,24 @@ unasked layout earlier command none = by (guest_access layout command) none
 -- ---- what is known of a processor's commands
 
 module _ (layout : Layout) (report : Report) (cpu : Cpu) (commands : List Command) (rows : List CpuLine) where
-  pub known_unasked : has_guests layout ≡ false → IsKnown layout report cpu commands rows [] []
-  known_unasked none = record {
-    denied_is = λ seq command made. unasked layout (take seq []) command (no-access layout command none) ∙ sym (unasked layout (take seq (answered commands rows)) command (no-access layout command none));
+  untold : (seq : ℕ) (command : Command) (answer : Answer) → guest_access layout command ≡ None → guest_lines layout seq command answer ≡ []
+  untold seq command (answers.Sigbus at) none = ap (λ (o : Option GuestAccess). cons_option (option_map (guest_line seq) o) []) none
+  untold seq command answer none = refl
+
+  pub known_unasked : (admits : List Admit) (flags told : List Bool) → has_guests layout ≡ false → admits ≡ [] → IsKnown layout report cpu commands rows admits flags told
+  known_unasked admits flags told none empty = record {
+    told_is = λ seq command answer made due. absurd (due (untold seq command answer (no-access layout command none)));
+    denied_is = λ seq command made. ap (λ (a : List Admit). denial (slice_index_or a seq admissions.Yes)) empty ∙ sym (unasked layout (take seq (answered commands rows)) command (no-access layout command none));
     idle = λ seq command due made denies is. absurd (none-some due (sym (unasked layout (take seq (answered commands rows)) command (no-access layout command none)) ∙ denies));
     nothing = λ seq command due made denies is. absurd (none-some due (sym (unasked layout (take seq (answered commands rows)) command (no-access layout command none)) ∙ denies));
   }
 
-  pub known_asked : (pairs : List (Command × Answer)) (flags : List Bool) → slice_get report.cpus cpu.0 ≡ Some rows → pairs ≡ answered commands rows → flags ≡ busy_by report cpu (length commands) rows
-      → IsKnown layout report cpu commands rows pairs flags
-  known_asked pairs flags of_report pairs_are flags_are = record {
-    denied_is = λ seq command made. ap (λ (p : List (Command × Answer)). denied layout (take seq p) command) pairs_are;
+  pub known_asked : (pairs : List (Command × Answer)) (admits : List Admit) (flags told : List Bool) → slice_get report.cpus cpu.0 ≡ Some rows → pairs ≡ answered commands rows
+      → AreAdmissions layout commands pairs (length commands) admits → flags ≡ busy_by report cpu (length commands) rows → told ≡ guests_by (length commands) rows → IsKnown layout report cpu commands rows admits flags told
+  known_asked pairs admits flags told of_report pairs_are are flags_are told_are = record {
+    told_is = λ seq command answer made due. ap (λ (t : List Bool). slice_index_or t seq false) told_are ∙ told-guests cpu seq (length commands) rows (slice_get_within commands seq command made);
+    denied_is = λ seq command made.
+        are.each seq command (slice_get_within commands seq command made) made ∙ ap (λ (p : List (Command × Answer)). denied layout (take seq p) command) pairs_are;
     idle = λ seq command due made denies is.
         idle-nothing cpu seq report (length commands) rows (slice_get_within commands seq command made) of_report (sym (ap (λ (f : List Bool). slice_index_or f seq false) flags_are) ∙ is);
     nothing = λ seq command due made denies does.
@@ -79,7 +90,7 @@ module _ (layout : Layout) (report : Report) (cpu : Cpu) (commands : List Comman
   }
 
 -- what is wrong by what is known is what is wrong
-module _ (script : Script) (report : Report) (cpu : Cpu) (commands : List Command) (rows : List CpuLine) (pairs : List (Command × Answer)) (flags : List Bool) (known : IsKnown script.layout report cpu commands rows pairs flags) where
+module _ (script : Script) (report : Report) (cpu : Cpu) (commands : List Command) (rows : List CpuLine) (admits : List Admit) (flags told : List Bool) (known : IsKnown script.layout report cpu commands rows admits flags told) where
   abbrev due-of : ℕ → Command → Option Answer
   due-of seq command = denied script.layout (take seq (answered commands rows)) command
 
@@ -90,7 +101,7 @@ module _ (script : Script) (report : Report) (cpu : Cpu) (commands : List Comman
   exchange None answer P Q turn is = is
   exchange (Some a) answer P Q turn is = (is.0, turn a refl is.1)
 
-  to-law : (seq : ℕ) (answer : Answer) → IsMisadmittedBy script.layout commands pairs flags seq answer → IsMisadmitted script report cpu commands rows seq answer
+  to-law : (seq : ℕ) (answer : Answer) → IsMisadmittedBy commands admits flags seq answer → IsMisadmitted script report cpu commands rows seq answer
   to-law seq answer w = record {
     command = w.command;
     made = w.made;
@@ -99,7 +110,7 @@ module _ (script : Script) (report : Report) (cpu : Cpu) (commands : List Comman
         (exchange (due-of seq w.command) answer (Nothing seq) (slice_index_or flags seq false ≡ false) (λ a is does. known.nothing seq w.command a w.made is does) fit));
   }
 
-  from-law : (seq : ℕ) (answer : Answer) → IsMisadmitted script report cpu commands rows seq answer → IsMisadmittedBy script.layout commands pairs flags seq answer
+  from-law : (seq : ℕ) (answer : Answer) → IsMisadmitted script report cpu commands rows seq answer → IsMisadmittedBy commands admits flags seq answer
   from-law seq answer w = record {
     command = w.command;
     made = w.made;
@@ -108,22 +119,22 @@ module _ (script : Script) (report : Report) (cpu : Cpu) (commands : List Comman
         (subst (λ (o : Option Answer). IsAdmitted o answer (slice_index_or flags seq false ≡ false)) (known.denied_is seq w.command w.made) fit));
   }
 
-  wrong-law : (row : ℕ) (line : CpuLine) → IsWrongBy script.layout commands rows pairs flags row line → IsGuestWrong script report cpu commands rows row line
+  wrong-law : (row : ℕ) (line : CpuLine) → IsWrongBy script.layout commands rows admits flags row line → IsGuestWrong script report cpu commands rows row line
   wrong-law row (lines.Answer seq answer) w = to-law seq answer w
   wrong-law row (lines.Guest guest) w = w
   wrong-law row (lines.Event event) w = absurd w
   wrong-law row (lines.Offlined offlined) w = absurd w
 
-  law-wrong : (row : ℕ) (line : CpuLine) → IsGuestWrong script report cpu commands rows row line → IsWrongBy script.layout commands rows pairs flags row line
+  law-wrong : (row : ℕ) (line : CpuLine) → IsGuestWrong script report cpu commands rows row line → IsWrongBy script.layout commands rows admits flags row line
   law-wrong row (lines.Answer seq answer) w = from-law seq answer w
   law-wrong row (lines.Guest guest) w = w
   law-wrong row (lines.Event event) w = absurd w
   law-wrong row (lines.Offlined offlined) w = absurd w
 
-  pub none-on : AreEnough script.layout commands rows (length rows) → AreRight script.layout commands rows pairs flags (length rows) → HasNoFault script report cpu commands rows
+  pub none-on : AreEnough script.layout commands rows (length rows) → AreRight script.layout commands rows admits flags (length rows) → HasNoFault script report cpu commands rows
   none-on enough right = record { enough = enough; right = λ row line there wrong. right row line (slice_get_within rows row line there) there (law-wrong row line wrong) }
 
-  pub first-in : (row : ℕ) → AreEnough script.layout commands rows (length rows) → IsFirstWrong script.layout commands rows pairs flags row → IsFirstIn script report cpu commands rows row
+  pub first-in : (row : ℕ) → AreEnough script.layout commands rows (length rows) → IsFirstWrong script.layout commands rows admits flags row → IsFirstIn script report cpu commands rows row
   first-in row enough f = record {
     line = f.line;
     there = f.there;
@@ -152,15 +163,15 @@ module _ (script : Script) (report : Report) where
       subst (λ (l : List Command). HasNoFault script report cpu l rs) (same_Some _ _ (sym of_script ∙ one)) (subst (HasNoFault script report cpu commands) (same_Some _ _ (sym of_report ∙ other)) none)
 
   -- what was found of it, by what is known of its commands
-  module _ (cpu : Cpu) (commands : List Command) (rows : List CpuLine) (pairs told : List (Command × Answer)) (flags set : List Bool) (of_script : slice_get script.lists cpu.0 ≡ Some commands) (of_report : slice_get report.cpus cpu.0 ≡ Some rows)
-      (known : IsKnown script.layout report cpu commands rows pairs flags) (told_are : told ≡ pairs) (set_are : set ≡ flags) (enough : AreEnough script.layout commands rows (length rows)) where
-    pub judged-none : AreRight script.layout commands rows told set (length rows) → HasNoFaultOn script report cpu
+  module _ (cpu : Cpu) (commands : List Command) (rows : List CpuLine) (admits let-in : List Admit) (flags set told : List Bool) (of_script : slice_get script.lists cpu.0 ≡ Some commands) (of_report : slice_get report.cpus cpu.0 ≡ Some rows)
+      (known : IsKnown script.layout report cpu commands rows admits flags told) (let_are : let-in ≡ admits) (set_are : set ≡ flags) (enough : AreEnough script.layout commands rows (length rows)) where
+    pub judged-none : AreRight script.layout commands rows let-in set (length rows) → HasNoFaultOn script report cpu
     judged-none right =
         kept-on cpu commands rows of_script of_report
-        (none-on script report cpu commands rows pairs flags known enough
-        (subst (λ (f : List Bool). AreRight script.layout commands rows pairs f (length rows)) set_are (subst (λ (p : List (Command × Answer)). AreRight script.layout commands rows p set (length rows)) told_are right)))
+        (none-on script report cpu commands rows admits flags told known enough
+        (subst (λ (f : List Bool). AreRight script.layout commands rows admits f (length rows)) set_are (subst (λ (a : List Admit). AreRight script.layout commands rows a set (length rows)) let_are right)))
 
-    pub judged-first : (row line : ℕ) → IsFirstWrong script.layout commands rows told set row → line ≡ row_line report cpu.0 row → IsFirstOn script report cpu line
+    pub judged-first : (row line : ℕ) → IsFirstWrong script.layout commands rows let-in set row → line ≡ row_line report cpu.0 row → IsFirstOn script report cpu line
     judged-first row line wrong line_is = record {
       commands = commands;
       rows = rows;
@@ -168,8 +179,8 @@ module _ (script : Script) (report : Report) where
       of_report = of_report;
       first = inr (
         row,
-        first-in script report cpu commands rows pairs flags known row enough
-            (subst (λ (f : List Bool). IsFirstWrong script.layout commands rows pairs f row) set_are (subst (λ (p : List (Command × Answer)). IsFirstWrong script.layout commands rows p set row) told_are wrong)),
+        first-in script report cpu commands rows admits flags told known row enough
+            (subst (λ (f : List Bool). IsFirstWrong script.layout commands rows admits f row) set_are (subst (λ (a : List Admit). IsFirstWrong script.layout commands rows a set row) let_are wrong)),
         line_is,
       );
     }

@@ -44,12 +44,12 @@ set-not false is = refl
 
 -- what the guest makes of it, as the law has it
 outcome-is : (mode : Mode) (line : GuestLine) → has_outcome mode line ≡ true → (line.row ≡ outcome_row mode) × (line.stops ≡ stops (outcome mode))
-outcome-is modes.User line is = let b = both (line.row == 9) (not line.stops) is in (eqb-true line.row 9 b.0, set-not line.stops b.1)
-outcome-is modes.Kernel line is = let b = both (line.row == 10) line.stops is in (eqb-true line.row 10 b.0, b.1)
+outcome-is modes.User line is = let b = both (line.row == 9) (not line.stops) is in (eqb-true line.row (outcome_row modes.User) b.0, set-not line.stops b.1)
+outcome-is modes.Kernel line is = let b = both (line.row == 10) line.stops is in (eqb-true line.row (outcome_row modes.Kernel) b.0, b.1)
 
 own-outcome : (mode : Mode) (line : GuestLine) → line.row ≡ outcome_row mode → line.stops ≡ stops (outcome mode) → has_outcome mode line ≡ true
-own-outcome modes.User line row stop = ap (λ (b : Bool). b && not line.stops) (eq-eqb line.row 9 row) ∙ ap not stop
-own-outcome modes.Kernel line row stop = ap (λ (b : Bool). b && line.stops) (eq-eqb line.row 10 row) ∙ stop
+own-outcome modes.User line row stop = ap (λ (b : Bool). b && not line.stops) (eq-eqb line.row (outcome_row modes.User) row) ∙ ap not stop
+own-outcome modes.Kernel line row stop = ap (λ (b : Bool). b && line.stops) (eq-eqb line.row (outcome_row modes.Kernel) row) ∙ stop
 
 line-is : (seq : ℕ) (a : GuestAccess) (line : GuestLine) → is_line seq a line ≡ true → guest_line seq a ≡ line
 line-is seq a line is = λ i. record {

@@ -1,7 +1,8 @@
 -- Whether a guest admits an access, by the earlier commands of its processor with their answers.
-use Rattle.std.specs.Prelude.{ℕ, ◌==◌, ◌&&◌, Bool, false, List, Option, None}
+use Rattle.std.specs.Prelude.{◌≡◌, ℕ, ◌<◌, ◌==◌, ◌&&◌, Bool, false, List, Option, Some, None, length, slice_get, slice_index_or, take}
 use Rattle.std.specs.Option.{option_map_or}
 use Rattle.hwp_check_rules.specs.hwp_guest.declared.Admit.{Admit}
+use Rattle.hwp_check_rules.specs.hwp_guest.declared.Admit.TheVariants as admissions
 use Rattle.hwp_check_rules.specs.hwp_guest.GuestState.{admitted}
 use Rattle.hwp_check_rules.specs.hwp_geom.declared.Layout.{Layout}
 use Rattle.hwp_check_rules.specs.hwp_geom.declared.Mode.{Mode}
@@ -11,9 +12,9 @@ use Rattle.hwp_check_rules.specs.hwp_geom.declared.VSlot.{VSlot}
 use Rattle.hwp_check_rules.specs.hwp_script_read.declared.Command.{Command}
 use Rattle.hwp_check_rules.specs.hwp_report_text.declared.Answer.{Answer}
 use Rattle.hwp_check_rules.specs.hwp_report_text.declared.Answer.TheVariants as answers
-use Rattle.hwp_check_rules.specs.hwp_law_commands.Guests.{GuestAccess, guest_access, guest_of}
+use Rattle.hwp_check_rules.specs.hwp_law_commands.Guests.{GuestAccess, denial, denied, guest_access, guest_of}
 
--- the access of a command with this answer, where it was one of a guest that met a bad line
+-- the access of a command with this answer, where it was one of a guest that SIGBUS answered
 abbrev pub met_by : Layout → Command × Answer → Option GuestAccess
 met_by layout (command, answers.Sigbus at) = guest_access layout command
 met_by layout p = None
@@ -43,3 +44,8 @@ is_spoil layout process slot p = option_map_or (is_spoil_by process slot) (met_b
 -- whether the guest admits the access
 abbrev pub admission_of : Layout → List (Command × Answer) → GuestAccess → Admit
 admission_of layout earlier a = admitted (guest_of layout earlier a.process) a.slot.0
+
+-- of the first n commands each is admitted or not, by the commands before it
+pub record AreAdmissions (layout : Layout) (commands : List Command) (pairs : List (Command × Answer)) (n : ℕ) (admits : List Admit) : Type 0 where
+  pub many : length admits ≡ n
+  pub each : (seq : ℕ) (command : Command) → seq < n → slice_get commands seq ≡ Some command → denial (slice_index_or admits seq admissions.Yes) ≡ denied layout (take seq pairs) command

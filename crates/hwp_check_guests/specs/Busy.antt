@@ -1,4 +1,4 @@
--- Which commands of a processor do something: they have an entry, or an event line.
+-- Which commands of a processor do something: they have an entry, or an event line. And which have a guest's line.
 use Rattle.std.specs.Prelude.{◌≡◌, ℕ, ◌==◌, Bool, true, false, List, fold, replicate, slice_set, if◌then◌else◌}
 use Rattle.hwp_check_rules.specs.hwp_geom.declared.Cpu.{Cpu}
 use Rattle.hwp_check_rules.specs.hwp_page.declared.Entry.{Entry}
@@ -20,3 +20,11 @@ told_by flags line = flags
 -- those of so many commands, after all entries and all lines
 abbrev pub busy_by : Report → Cpu → ℕ → List CpuLine → List Bool
 busy_by report cpu commands rows = fold told_by (fold (marked_in cpu) (replicate commands false) report.pages) rows
+
+-- the flags after a line of a guest, and after all lines
+abbrev pub guest_by : List Bool → CpuLine → List Bool
+guest_by flags (lines.Guest line) = slice_set flags line.seq true
+guest_by flags line = flags
+
+abbrev pub guests_by : ℕ → List CpuLine → List Bool
+guests_by commands rows = fold guest_by (replicate commands false) rows

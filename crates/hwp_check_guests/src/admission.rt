@@ -1,13 +1,14 @@
-ghost use Rattle.std.specs.Prelude.{◌≡◌, option_map};
+ghost use Rattle.std.specs.Prelude.{◌≡◌, IfOk, length, option_map, take};
 ghost use Rattle.std.specs.List.{list_any};
 ghost use Rattle.hwp_check_rules.specs.hwp_law_commands.Guests.{denial, denied};
 ghost use Rattle.hwp_check_guests.specs.Accesses.{access_in};
-ghost use Rattle.hwp_check_guests.specs.Admission.{admission_of, is_spoil, is_spoil_by, is_stop, is_stop_by, met_by};
+ghost use Rattle.hwp_check_guests.specs.Admission.{AreAdmissions, admission_of, is_spoil, is_spoil_by, is_stop, is_stop_by, met_by};
 
 use crate::accesses::{GuestAccess, guest_access};
-use hwp_check_rules::{Admit, Answer, Command, Layout, Mode, Proc, VSlot};
+use hwp_check_rules::{Admit, Answer, Command, Layout, Mode, OutOfMemory, Proc, VSlot};
+use std::alloc::Global;
 
-/// The access of a command with this answer, where it was one of a guest that met a bad line.
+/// The access of a command with this answer, where it was one of a guest that SIGBUS answered.
 fn met_by(layout: &Layout, pair: &(Command, Answer)) -> Option<GuestAccess>
     ensures { option_map access_in result ≡ met_by layout.now pair.now }
 {
@@ -91,11 +92,38 @@ fn admission_of(layout: &Layout, earlier: &[(Command, Answer)], access: &GuestAc
 
 /// The same of the access of a command; one of no guest is admitted.
 #[tactic(auto, using(crate::proofs::AdmissionLaws::no_access, crate::proofs::AdmissionLaws::by_access))]
-pub(crate) fn admission(layout: &Layout, earlier: &[(Command, Answer)], command: &Command) -> Admit
+fn admission(layout: &Layout, earlier: &[(Command, Answer)], command: &Command) -> Admit
     ensures { denial result ≡ denied layout.now earlier.now command.now }
 {
     match guest_access(layout, command) {
         Some(access) => admission_of(layout, earlier, &access),
         None => Admit::Yes,
     }
+}
+
+/// The pairs before the command with the number.
+fn before(pairs: &[(Command, Answer)], number: usize) -> &[(Command, Answer)]
+    ensures { result.now ≡ take number pairs.now }
+{
+    if number < pairs.len() {
+        &pairs[..number]
+    } else {
+        pairs
+    }
+}
+
+/// Whether its guest admits the access of each command, by the commands of the processor with their answers.
+pub(crate) fn admissions(
+    alloc: Global,
+    layout: &Layout,
+    commands: &[Command],
+    pairs: &[(Command, Answer)],
+) -> Result<Vec<Admit>, OutOfMemory>
+    ensures { IfOk result (λ admits. AreAdmissions layout.now commands.now pairs.now (length commands.now) admits.items) }
+{
+    let mut admits = Vec::new(alloc);
+    for number in 0..commands.len() {
+        admits.push(admission(layout, before(pairs, number), &commands[number]))?;
+    }
+    Ok(admits)
 }

@@ -1,5 +1,5 @@
 ghost use Rattle.std.specs.Prelude.{◌≡◌, fold, true, slice_set, IfOk};
-ghost use Rattle.hwp_check_guests.specs.Busy.{busy_by, marked_by, marked_in, told_by};
+ghost use Rattle.hwp_check_guests.specs.Busy.{busy_by, guest_by, guests_by, marked_by, marked_in, told_by};
 
 use hwp_check_rules::{Cpu, CpuLine, Entry, List, OutOfMemory, Report};
 use std::alloc::Global;
@@ -74,4 +74,36 @@ pub(crate) fn busy(
     mark_pages(&mut flags, cpu, report.pages.as_slice());
     mark_rows(&mut flags, rows);
     Ok(flags)
+}
+
+/// Flags the command of a guest's line.
+fn mark_guest(flags: &mut Vec<bool>, row: &CpuLine)
+    ensures { flags.new.items ≡ guest_by flags.old.items row.now }
+{
+    match row {
+        CpuLine::Guest(line) => mark(flags, line.seq),
+        CpuLine::Event(_) | CpuLine::Offlined(_) | CpuLine::Answer { .. } => {}
+    }
+}
+
+/// The same of the guests' lines of a processor.
+fn mark_guests(flags: &mut Vec<bool>, rows: &[CpuLine])
+    ensures { flags.new.items ≡ fold guest_by flags.old.items rows.now }
+{
+    for row in rows {
+        mark_guest(flags, row);
+    }
+}
+
+/// Which of so many commands of a processor have a guest's line.
+pub(crate) fn with_guests(
+    alloc: Global,
+    commands: usize,
+    rows: &[CpuLine],
+) -> Result<Vec<bool>, OutOfMemory>
+    ensures { IfOk result (λ told. told.items ≡ guests_by commands rows.now) }
+{
+    let mut told = vec![in alloc; false; commands]?;
+    mark_guests(&mut told, rows);
+    Ok(told)
 }

@@ -1,10 +1,9 @@
-ghost use Rattle.std.specs.Prelude.{◌≡◌, ◌<◌, MatchBool, MatchOption, length, slice_index_or, take, false};
-ghost use Rattle.hwp_check_rules.specs.GuestFaults.{IsAdmitted, IsGuestLacking, IsMistold, LacksGuest};
+ghost use Rattle.std.specs.Prelude.{◌≡◌, ◌<◌, MatchBool, MatchOption, length, slice_index_or, false};
+ghost use Rattle.hwp_check_rules.specs.GuestFaults.{IsAdmitted, IsMistold};
 ghost use Rattle.hwp_check_rules.specs.hwp_law_commands.Guests.{denial};
-ghost use Rattle.hwp_check_guests.specs.Judging.{AreEnough, AreRight, IsFirstLacking, IsFirstWrong, IsMisadmittedBy, IsWrongBy, answer_behind, answer_by, says_bad, says_denied, says_stopped};
+ghost use Rattle.hwp_check_guests.specs.Judging.{AreEnough, AreRight, AreTold, IsFirstLacking, IsFirstWrong, IsLackingBy, IsMisadmittedBy, IsWrongBy, LacksGuestBy, answer_behind, answer_by, says_bad, says_denied, says_stopped};
 
-use crate::admission::admission;
-use crate::telling::{has_guest, is_due, is_told};
+use crate::telling::{is_due, is_told};
 use hwp_check_rules::{Admit, Answer, Command, CpuLine, GuestLine, Layout};
 
 /// Whether the answer is one by which a guest doesn't admit an access.
@@ -50,35 +49,31 @@ fn flag_at(flags: &[bool], seq: u32) -> bool
     }
 }
 
-/// The pairs before the command with the number.
-fn before(pairs: &[(Command, Answer)], number: usize) -> &[(Command, Answer)]
-    ensures { result.now ≡ take number pairs.now }
+/// Whether the guest admits the command with the number.
+fn admit_at(admits: &[Admit], seq: u32) -> Admit
+    ensures { result ≡ slice_index_or admits.now seq Admit.Yes }
 {
-    if number < pairs.len() {
-        &pairs[..number]
-    } else {
-        pairs
+    match admits.get(seq as usize) {
+        Some(admit) => *admit,
+        None => Admit::Yes,
     }
 }
 
 /// Whether the command with the number has to be answered otherwise, or does something where it has to do nothing.
 #[tactic(auto, using(crate::proofs::JudgeLaws::none_made, crate::proofs::JudgeLaws::answered_there))]
 fn is_misadmitted(
-    layout: &Layout,
     commands: &[Command],
-    pairs: &[(Command, Answer)],
+    admits: &[Admit],
     flags: &[bool],
     seq: u32,
     answer: Answer,
 ) -> bool
-    ensures { MatchBool result (IsMisadmittedBy layout.now commands.now pairs.now flags.now seq answer) (IsMisadmittedBy layout.now commands.now pairs.now flags.now seq answer → ⊥) }
+    ensures { MatchBool result (IsMisadmittedBy commands.now admits.now flags.now seq answer) (IsMisadmittedBy commands.now admits.now flags.now seq answer → ⊥) }
 {
-    let number = seq as usize;
-    let Some(command) = commands.get(number) else {
+    let Some(_) = commands.get(seq as usize) else {
         return false;
     };
-    let admit = admission(layout, before(pairs, number), command);
-    !is_admitted(admit, answer, flag_at(flags, seq))
+    !is_admitted(admit_at(admits, seq), answer, flag_at(flags, seq))
 }
 
 /// The answer, if the line is that of the command with the number.
@@ -132,17 +127,17 @@ fn is_wrong(
     layout: &Layout,
     commands: &[Command],
     rows: &[CpuLine],
-    pairs: &[(Command, Answer)],
+    admits: &[Admit],
     flags: &[bool],
     number: usize,
     row: &CpuLine,
 ) -> bool
     requires { number < length rows.now }
-    ensures { MatchBool result (IsWrongBy layout.now commands.now rows.now pairs.now flags.now number row.now) (IsWrongBy layout.now commands.now rows.now pairs.now flags.now number row.now → ⊥) }
+    ensures { MatchBool result (IsWrongBy layout.now commands.now rows.now admits.now flags.now number row.now) (IsWrongBy layout.now commands.now rows.now admits.now flags.now number row.now → ⊥) }
 {
     match row {
         CpuLine::Answer { seq, answer } => {
-            is_misadmitted(layout, commands, pairs, flags, *seq, *answer)
+            is_misadmitted(commands, admits, flags, *seq, *answer)
         }
         CpuLine::Guest(line) => is_mistold(layout, commands, rows, number, line),
         CpuLine::Event(_) | CpuLine::Offlined(_) => false,
@@ -154,56 +149,58 @@ pub(crate) fn first_wrong(
     layout: &Layout,
     commands: &[Command],
     rows: &[CpuLine],
-    pairs: &[(Command, Answer)],
+    admits: &[Admit],
     flags: &[bool],
 ) -> Option<usize>
-    ensures { MatchOption result (AreRight layout.now commands.now rows.now pairs.now flags.now (length rows.now)) (IsFirstWrong layout.now commands.now rows.now pairs.now flags.now) }
+    ensures { MatchOption result (AreRight layout.now commands.now rows.now admits.now flags.now (length rows.now)) (IsFirstWrong layout.now commands.now rows.now admits.now flags.now) }
 {
     for number in 0..rows.len() {
-        if is_wrong(layout, commands, rows, pairs, flags, number, &rows[number]) {
+        if is_wrong(layout, commands, rows, admits, flags, number, &rows[number]) {
             return Some(number);
         }
     }
     None
 }
 
-/// Whether the answer is one of which a guest has to be told, and the command has no guest's line.
+/// Whether the answer is one of which a guest has to be told, and the command has no guest's line by the flags.
 #[tactic(auto, using(crate::proofs::JudgeLaws::lacks_made, crate::proofs::JudgeLaws::lacks_there))]
 fn lacks_guest(
     layout: &Layout,
     commands: &[Command],
-    rows: &[CpuLine],
+    told: &[bool],
     seq: u32,
     answer: Answer,
 ) -> bool
-    ensures { MatchBool result (LacksGuest layout.now commands.now rows.now seq answer) (LacksGuest layout.now commands.now rows.now seq answer → ⊥) }
+    ensures { MatchBool result (LacksGuestBy layout.now commands.now told.now seq answer) (LacksGuestBy layout.now commands.now told.now seq answer → ⊥) }
 {
     let Some(command) = commands.get(seq as usize) else {
         return false;
     };
-    is_due(layout, command, answer) && !has_guest(rows, seq)
+    is_due(layout, command, answer) && !flag_at(told, seq)
 }
 
-/// Whether the line is an answer whose guest's line lacks.
-fn is_lacking(layout: &Layout, commands: &[Command], rows: &[CpuLine], row: &CpuLine) -> bool
-    ensures { MatchBool result (IsGuestLacking layout.now commands.now rows.now row.now) (IsGuestLacking layout.now commands.now rows.now row.now → ⊥) }
+/// Whether the line is an answer whose guest's line lacks, by the flags.
+fn is_lacking(layout: &Layout, commands: &[Command], told: &[bool], row: &CpuLine) -> bool
+    ensures { MatchBool result (IsLackingBy layout.now commands.now told.now row.now) (IsLackingBy layout.now commands.now told.now row.now → ⊥) }
 {
     match row {
-        CpuLine::Answer { seq, answer } => lacks_guest(layout, commands, rows, *seq, *answer),
+        CpuLine::Answer { seq, answer } => lacks_guest(layout, commands, told, *seq, *answer),
         CpuLine::Event(_) | CpuLine::Offlined(_) | CpuLine::Guest(_) => false,
     }
 }
 
-/// The number of the first line of a processor that is.
+/// The number of the first line of a processor that is, by which commands have a guest's line.
 pub(crate) fn first_lacking(
     layout: &Layout,
     commands: &[Command],
     rows: &[CpuLine],
+    told: &[bool],
 ) -> Option<usize>
+    requires told { AreTold layout.now commands.now rows.now told.now }
     ensures { MatchOption result (AreEnough layout.now commands.now rows.now (length rows.now)) (IsFirstLacking layout.now commands.now rows.now) }
 {
     for number in 0..rows.len() {
-        if is_lacking(layout, commands, rows, &rows[number]) {
+        if is_lacking(layout, commands, told, &rows[number]) {
             return Some(number);
         }
     }

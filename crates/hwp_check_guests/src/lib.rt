@@ -1,4 +1,4 @@
-//! Whether guests' accesses are answered as the guests admit them, and whether guests are told of the bad lines that their accesses met.
+//! Whether guests' accesses are answered as the guests admit them, and whether guests are told of those that SIGBUS answered.
 #![tactic(auto)]
 
 mod accesses;

@@ -6,24 +6,25 @@ ghost use Rattle.hwp_check_rules.specs.Standing.{last_line, row_line};
 ghost use Rattle.hwp_check_guests.specs.Judging.{HasNoFaultOn, IsFirstOn, IsKnown};
 
 use crate::accesses::has_guests;
-use crate::busy::busy;
+use crate::admission::admissions;
+use crate::busy::{busy, with_guests};
 use crate::judging::{first_lacking, first_wrong};
 use hwp_check_rules::{
-    Answer, Command, Cpu, CpuLine, Layout, OutOfMemory, Report, Script, commands_of, cpu_at,
+    Admit, Command, Cpu, CpuLine, Layout, OutOfMemory, Report, Script, commands_of, cpu_at,
     pairs_of, rows_on,
 };
 use std::alloc::Global;
 
-/// What is known of a processor's commands: they with their answers, and which of them do something. Nothing where no process is a
-/// guest.
+/// What is known of a processor's commands: whether guests admit them, which of them do something, and which have a guest's line.
+/// Nothing where no process is a guest.
 #[derive(Drop)]
 struct Known {
-    pairs: Vec<(Command, Answer)>,
+    admits: Vec<Admit>,
     flags: Vec<bool>,
+    told: Vec<bool>,
 }
 
 /// What is known of the commands of a processor with these lines.
-#[tactic(auto, using(crate::proofs::RuleLaws::known_unasked, crate::proofs::RuleLaws::known_asked))]
 fn known_of(
     alloc: Global,
     layout: &Layout,
@@ -33,17 +34,24 @@ fn known_of(
     rows: &[CpuLine],
 ) -> Result<Known, OutOfMemory>
     requires of_report { slice_get report.now.cpus cpu.0 ≡ Some rows.now }
-    ensures { IfOk result (λ known. IsKnown layout.now report.now cpu commands.now rows.now known.pairs.items known.flags.items) }
+    ensures { IfOk result (λ known. IsKnown layout.now report.now cpu commands.now rows.now known.admits.items known.flags.items known.told.items) }
 {
     if !has_guests(layout) {
         return Ok(Known {
-            pairs: Vec::new(alloc),
+            admits: Vec::new(alloc),
             flags: Vec::new(alloc),
+            told: Vec::new(alloc),
         });
     }
     let pairs = pairs_of(alloc, commands, rows)?;
+    let admits = admissions(alloc, layout, commands, pairs.as_slice())?;
     let flags = busy(alloc, report, cpu, commands.len(), rows)?;
-    Ok(Known { pairs, flags })
+    let told = with_guests(alloc, commands.len(), rows)?;
+    Ok(Known {
+        admits,
+        flags,
+        told,
+    })
 }
 
 /// Where a line of a processor stands in the report.
@@ -71,15 +79,15 @@ fn fault_on(
     let layout = &script.layout;
     let commands = commands_of(script, cpu);
     let rows = rows_on(report, cpu);
-    if let Some(_) = first_lacking(layout, commands, rows) {
+    let known = known_of(alloc, layout, report, cpu, commands, rows)?;
+    if let Some(_) = first_lacking(layout, commands, rows, known.told.as_slice()) {
         return Ok(Some(cpu_at(report, usize::from(cpu.0))));
     }
-    let known = known_of(alloc, layout, report, cpu, commands, rows)?;
     match first_wrong(
         layout,
         commands,
         rows,
-        known.pairs.as_slice(),
+        known.admits.as_slice(),
         known.flags.as_slice(),
     ) {
         Some(row) => Ok(Some(row_at(report, cpu, rows, row))),
@@ -87,8 +95,8 @@ fn fault_on(
     }
 }
 
-/// Whether each access of a guest was answered as the guest admits it, and the guest was told of each bad line that one met, by the line
-/// right before the answer; else the first line of a report that breaks this. It takes no memory where no process is a guest.
+/// Whether each access of a guest was answered as the guest admits it, and the guest was told of each that SIGBUS answered, by the
+/// line right before the answer; else the first line of a report that breaks this. It takes no memory where no process is a guest.
 pub fn guests_fault(
     alloc: Global,
     script: &Script,

@@ -1,10 +1,9 @@
 ghost use Rattle.std.specs.Prelude.{◌≡◌, is_some, option_map};
-ghost use Rattle.std.specs.List.{list_any};
 ghost use Rattle.hwp_check_guests.specs.Accesses.{access_in};
-ghost use Rattle.hwp_check_guests.specs.Telling.{due_by, has_event, has_outcome, is_guest_of, is_line, is_told};
+ghost use Rattle.hwp_check_guests.specs.Telling.{due_by, has_event, has_outcome, is_line, is_told};
 
 use crate::accesses::{GuestAccess, guest_access};
-use hwp_check_rules::{Answer, Command, CpuLine, Frame, GuestLine, Layout, Mode};
+use hwp_check_rules::{Answer, Command, Frame, GuestLine, Layout, Mode};
 
 /// Whether the line has the event of the access: the guest has one bank, and a guest frame is the number of a translation.
 fn has_event(access: &GuestAccess, line: &GuestLine) -> bool
@@ -70,21 +69,4 @@ pub(crate) fn is_told(
         Some(access) => is_line(seq, &access, line),
         None => false,
     }
-}
-
-/// Whether the line is a guest's line of the command.
-fn is_guest_of(seq: u32, row: &CpuLine) -> bool
-    ensures { result ≡ is_guest_of seq row.now }
-{
-    match row {
-        CpuLine::Guest(line) => line.seq == seq,
-        CpuLine::Event(_) | CpuLine::Offlined(_) | CpuLine::Answer { .. } => false,
-    }
-}
-
-/// Whether one of the lines is.
-pub(crate) fn has_guest(rows: &[CpuLine], seq: u32) -> bool
-    ensures { result ≡ list_any (is_guest_of seq) rows.now }
-{
-    rows.iter().any(|row| is_guest_of(seq, row))
 }

@@ -10,11 +10,11 @@ returns-then-is_due c =
     let within : c.args.seq < length c.args.commands.now = ltb-true c.args.seq (length c.args.commands.now) (sym c.in-Some.ensures.lookup.0) in
     let made : slice_get c.args.commands.now c.args.seq ≡ Some c.in-Some.command.now = slice_get-get_or c.args.commands.now c.args.seq c.in-Some.command.now within ∙ ap Some (sym c.in-Some.ensures.lookup.1) in
     let due : true ≡ is_some (due_by c.args.layout.now c.in-Some.command.now c.args.answer) = search rules in
-    lacks_there c.args.layout.now c.args.commands.now c.args.rows.now c.args.seq c.args.answer c.in-Some.command.now true c.has_guest.result made due c.has_guest.ensures
+    lacks_there c.args.layout.now c.args.commands.now c.args.told.now c.args.seq c.args.answer c.in-Some.command.now true c.flag_at.result made due c.flag_at.ensures
 
 pub returns-else-is_due : goal.returns-else-is_due
 returns-else-is_due c =
     let within : c.args.seq < length c.args.commands.now = ltb-true c.args.seq (length c.args.commands.now) (sym c.in-Some.ensures.lookup.0) in
     let made : slice_get c.args.commands.now c.args.seq ≡ Some c.in-Some.command.now = slice_get-get_or c.args.commands.now c.args.seq c.in-Some.command.now within ∙ ap Some (sym c.in-Some.ensures.lookup.1) in
     let off : c.is_due.result ≡ false = search rules in
-    lacks_not c.args.layout.now c.args.commands.now c.args.rows.now c.args.seq c.args.answer c.in-Some.command.now c.is_due.result made c.is_due.ensures off
+    lacks_not c.args.layout.now c.args.commands.now c.args.told.now c.args.seq c.args.answer c.in-Some.command.now c.is_due.result made c.is_due.ensures off
