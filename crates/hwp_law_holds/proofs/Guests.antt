@@ -60,7 +60,7 @@ use Rattle.hwp_law_records.proofs.of_hwp_law_served.copied.RunActed.{answered-ar
 use Rattle.hwp_law_records.proofs.of_hwp_law_served.deeds.Made.{command-is}
 use Rattle.hwp_law_holds.proofs.copied.CopyCaused.{is-caused}
 
-then-there : {X Y : Type 0} (f : X → Option Y) (o : Option X) (y : Y) → option_and_then f o ≡ Some y → (x : X) × (o ≡ Some x) × (f x ≡ Some y)
+pub then-there : {X Y : Type 0} (f : X → Option Y) (o : Option X) (y : Y) → option_and_then f o ≡ Some y → (x : X) × (o ≡ Some x) × (f x ≡ Some y)
 then-there f None y is = absurd (none-some y is)
 then-there f (Some x) y is = (x, refl, is)
 

@@ -5,6 +5,7 @@ pub mod StopCauses
 pub mod Caused
 pub mod OfflinedLines
 mod Guests
+pub mod GuestFrames
 pub mod Lawful
 pub mod copied
 pub mod Settled

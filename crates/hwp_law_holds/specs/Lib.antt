@@ -1,3 +1,4 @@
 pub mod Retired
 pub mod Signals
+pub mod GuestFrames
 pub mod Loads
