@@ -56,9 +56,11 @@ use Rattle.hwp_cpu_copy.specs.declared.copying.CopyingAt.{CopyingAt}
 use Rattle.hwp_cpu_copy.specs.declared.copying.CopyingAt.TheVariants as at
 use Rattle.hwp_cpu_copy.specs.Copyings.{Follows, FollowsAt, Shows, ShowsAt, after_access, after_free_by, bare, bare_at, going_on, plan, plan_at, put, put_at, request_by}
 use Rattle.hwp_cpu_copy.specs.Fits.{FitsAt, FitsFrom, HasRun, HasTold, IsAccessing, IsFreeing, IsGoing, IsLastPlace, begun, is_well, task as copy-task}
-use Rattle.hwp_cpu_copy.specs.Runs.{AreRuns, IsBetween, IsFreeRun, IsRun, Run, checks_by, made_by, words_of}
+use Rattle.hwp_cpu_copy.specs.Looks.{HasInView}
+use Rattle.hwp_cpu_copy.specs.Runs.{AreRuns, IsBetween, IsFreeRun, IsRun, LooksLast, Run, checks_by, made_by, words_of}
 use Rattle.hwp_cpu_copy.proofs.AskedSame.{Asked, asked, asked-same}
 use Rattle.hwp_cpu_copy.proofs.CowSteps.{request-who}
+use Rattle.hwp_cpu_copy.proofs.FreeLooks.{looks-on}
 use Rattle.hwp_cpu_copy.proofs.FreeOwes.{evict-owes}
 use Rattle.hwp_cpu_copy.proofs.RunLaws.{checks-more, made-more, runs-more, runs-stay, told-more, words-more}
 use Rattle.hwp_cpu_copy.proofs.WentWell.{stored-well, value-well, went-fits}
@@ -205,7 +207,8 @@ unused slot refusals.Mapped saw = absurd saw.such
 unused slot (refusals.BadLines mask) saw = absurd saw.such
 
 module _ (base : List Made) (layout : Layout) (view : View) (c : Copying) (runs : List Run) (on : IsOnTurn view c.store.who) (unchecked : checks_in base ≡ 0) (has : HasRun layout view c runs) (stored : At) (e : Evict) (fits : evicts.FitsFrom (base ++ made_by runs) layout view e)
-    (evict_is : e ≡ record (evicts.begin c.store.who c.page (evictions.Free c.cow.v)) { at = e.at }) (sub_is : sub_of c.cow ≡ subs.Free c.cow.v) (paid : view.owed.losses ≡ []) (told : HasTold c runs) (going : IsGoing view c.store) (last : IsLastPlace runs stored) where
+    (evict_is : e ≡ record (evicts.begin c.store.who c.page (evictions.Free c.cow.v)) { at = e.at }) (sub_is : sub_of c.cow ≡ subs.Free c.cow.v) (paid : view.owed.losses ≡ []) (told : HasTold c runs) (going : IsGoing view c.store) (last : IsLastPlace runs stored)
+    (looks : HasInView c.page (made_by runs) e.at) where
   caused : {x : EvictAnswer} → evicts.answer e ≡ Some x → (hand_of view ≡ empty) × IsCaused (base ++ made_by runs) layout view c.store.who c.page (evictions.Free c.cow.v) x
   caused {x} is = subst (λ (y : Evict). (hand_of view ≡ empty) × IsCaused (base ++ made_by runs) layout view y.who y.page y.what x) evict_is (subst (evicts.FitsAt (base ++ made_by runs) layout view e.who e.page e.what) (over-evict e is) fits.at)
 
@@ -224,8 +227,8 @@ module _ (base : List Made) (layout : Layout) (view : View) (c : Copying) (runs 
     checks-same : checks_by more ≡ checks_by runs
     checks-same = checks-more runs run ∙ append-nil (checks_by runs)
 
-    freed-fits : IsFreeRun layout view c.store.who c.page c.cow.v run → FitsFrom base layout view (record c { cow = told_by c.cow 0; at = at.Over (answers.Stored stored) })
-    freed-fits is = record {
+    freed-fits : IsFreeRun layout view c.store.who c.page c.cow.v run → LooksLast c.page runs run → FitsFrom base layout view (record c { cow = told_by c.cow 0; at = at.Over (answers.Stored stored) })
+    freed-fits is late = record {
       on_turn = on;
       unchecked = unchecked;
       runs = more;
@@ -258,6 +261,7 @@ module _ (base : List Made) (layout : Layout) (view : View) (c : Copying) (runs 
           accesses = runs;
           freed = run;
           runs_are = refl;
+          looks = late;
           last = last;
         };
       };
@@ -269,7 +273,7 @@ module _ (base : List Made) (layout : Layout) (view : View) (c : Copying) (runs 
     unchecked = unchecked;
     runs = runs;
     has = runs-with c c.instruction (at.Free e stored) runs has refl;
-    at = record { evict = fits; evict_is = evict_is; sub_is = sub_is; unanswered = is; paid = paid; told = told-in (at.Free e stored); going = going; last = last };
+    at = record { evict = fits; evict_is = evict_is; sub_is = sub_is; unanswered = is; looks = looks; paid = paid; told = told-in (at.Free e stored); going = going; last = last };
   }
   frees-fits (Some evict_answers.Stopped) is = let end = caused is in record {
     on_turn = on;
@@ -286,9 +290,10 @@ module _ (base : List Made) (layout : Layout) (view : View) (c : Copying) (runs 
   }
   frees-fits (Some (evict_answers.Done place)) is = let end = caused is in
       freed-fits (end.1.1.last ∷ []) place end.0 paid (end.1.1.all ∙ ap (λ (l : List Made). (base ++ made_by runs) ++ (l ++ end.1.1.last ∷ [])) (none-before end.1.1.before end.1.1.such))
-      (record { made_is = inr (end.1.1.last, refl, end.1.1.at.0, end.1.1.at.2); unused = λ none. absurd (no-cons none); unchecked = refl })
+      (record { made_is = inr (end.1.1.last, refl, end.1.1.at.0, end.1.1.at.2); unused = λ none. absurd (no-cons none); unchecked = refl }) (λ none. absurd (no-cons none))
   frees-fits (Some (evict_answers.Refused refusal place)) is = let end = caused is in
       freed-fits [] place end.0 paid (end.1.0 ∙ sym (append-nil (base ++ made_by runs))) (record { made_is = inl refl; unused = λ none. unused c.cow.v refusal end.1.1.state; unchecked = refl })
+      (λ none. subst (HasInView c.page (made_by runs)) (over-evict e is) looks)
 
 -- ---- each step
 
@@ -350,9 +355,15 @@ module _ {base : List Made} (layout : Layout) (old new : View) (c : Copying) (st
         (frees-fits base layout new (record c { at = at.Free (evicts.bare e) stored }) fits.runs (on-turn-after fits.on_turn made) fits.unchecked (runs-with c c.instruction (at.Free (evicts.bare e) stored) fits.runs (runs-kept c fits.runs fits.has made) refl) stored next.evict
         (moved.1 next.evict turn next.follows).0 (next.follows.0 ∙ ap (λ (x : Evict). record x { at = next.evict.at }) has.evict_is) has.sub_is
         (evict-owes e has.evict is own ∙ has.paid)
-        (record { told_is = has.told.told_is; banks_are = has.told.banks_are }) (saw-stays made has.going) has.last (evicts.answer next.evict) refl),
+        (record { told_is = has.told.told_is; banks_are = has.told.banks_are }) (saw-stays made has.going) has.last
+        (subst (λ (p : Page). HasInView p (made_by fits.runs) next.evict.at) page_is
+        (looks-on base (made_by fits.runs) c.cow.v e (ap (λ (x : Evict). x.what) has.evict_is) has.evict is own (subst (λ (p : Page). HasInView p (made_by fits.runs) e.at) (sym page_is) has.looks) next.evict.at turn next.follows.1))
+        (evicts.answer next.evict) refl),
   )
     where
+      page_is : e.page ≡ c.page
+      page_is = ap (λ (x : Evict). x.page) has.evict_is
+
       own : Steps layout e.who step (logs (evicts.put e)) old new found got
       own = subst (λ (w : Who). Steps layout w step (logs (evicts.put e)) old new found got) (sym (ap (λ (x : Evict). x.who) has.evict_is)) made
 

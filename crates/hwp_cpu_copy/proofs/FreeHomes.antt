@@ -1,5 +1,5 @@
 -- What goes home while a translation is freed: of entries of some sort no one more, where its own entry isn't of that sort.
-use Rattle.std.proofs.Common.{◌≡◌, ℕ, zero, suc, Bool, false, List, [], ◌∷◌, Option, Some, None, refl, sym, subst}
+use Rattle.std.proofs.Common.{◌≡◌, zero, suc, Bool, false, List, [], ◌∷◌, Option, Some, None, sym, subst}
 use Rattle.std.proofs.lemmas.Option.{none-some, same_Some}
 use Rattle.hwp_evict.specs.hwp_geom.declared.Layout.{Layout}
 use Rattle.hwp_evict.specs.hwp_geom.declared.Page.{Page}

@@ -1,21 +1,16 @@
 -- The freeing of a translation owes no loss of a file.
-use Rattle.std.proofs.Common.{◌≡◌, ℕ, zero, suc, true, false, List, [], ◌∷◌, Option, Some, None, refl, sym, subst}
-use Rattle.std.proofs.lemmas.Bool.{both_ways}
+use Rattle.std.proofs.Common.{◌≡◌, ℕ, false, List, Option, Some, None, refl, sym, subst}
 use Rattle.std.proofs.lemmas.Option.{none-some, same_Some}
 use Rattle.hwp_evict.specs.hwp_geom.declared.Layout.{Layout}
 use Rattle.hwp_evict.specs.hwp_geom.declared.Page.{Page}
 use Rattle.hwp_evict.specs.hwp_geom.declared.Who.{Who}
 use Rattle.hwp_evict.specs.hwp_page.declared.At.{At}
-use Rattle.hwp_evict.specs.hwp_page.declared.Entry.{Entry}
 use Rattle.hwp_evict.specs.hwp_page.History.{BodyValue}
 use Rattle.hwp_evict.specs.hwp_core_rule.declared.Made.{Made}
 use Rattle.hwp_evict.specs.hwp_core_rule.declared.SharedWord.TheVariants as places
 use Rattle.hwp_evict.specs.hwp_core_rule.declared.Step.{Step}
 use Rattle.hwp_evict.specs.hwp_core_rule.declared.Step.TheVariants as steps
 use Rattle.hwp_evict.specs.hwp_core_rule.declared.View.{View}
-use Rattle.hwp_evict.specs.hwp_core_rule.Lists.{EachMember}
-use Rattle.hwp_evict.specs.hwp_core_rule.Logs.{log_of}
-use Rattle.hwp_evict.specs.hwp_core_rule.Views.{more_of}
 use Rattle.hwp_evict.specs.hwp_page.Losses.{is_loss}
 use Rattle.hwp_evict.specs.hwp_core_task.Calls.{Steps, logs}
 use Rattle.hwp_evict.specs.hwp_words.declared.Pte.TheVariants as ptes
@@ -36,7 +31,6 @@ use Rattle.hwp_evict.specs.hwp_core.Unholds as unholds
 use Rattle.hwp_evict.specs.hwp_core.Unlocks as unlocks
 use Rattle.hwp_evict.proofs.of_hwp_core.TaskCosts.{hold-lists, release-lists}
 use Rattle.hwp_evict.specs.declared.evict.Evict.{Evict}
-use Rattle.hwp_evict.specs.declared.evict.EvictAnswer.{EvictAnswer}
 use Rattle.hwp_evict.specs.declared.evict.EvictAnswer.TheVariants as answers
 use Rattle.hwp_evict.specs.declared.evict.EvictAt.{EvictAt}
 use Rattle.hwp_evict.specs.declared.evict.EvictAt.TheVariants as at
@@ -46,7 +40,7 @@ use Rattle.hwp_evict.specs.declared.vacate.Vacate.{Vacate}
 use Rattle.hwp_evict.specs.declared.vacate.VacateAt.{VacateAt}
 use Rattle.hwp_evict.specs.declared.vacate.VacateAt.TheVariants as vacate_at
 use Rattle.hwp_evict.specs.Evictions.{entry_of}
-use Rattle.hwp_evict.specs.Evicts.{Comes, FitsAt, FitsFrom, IsAhead, IsVacating, KnowsPut, plan, plan_at, put, put_at}
+use Rattle.hwp_evict.specs.Evicts.{FitsAt, FitsFrom, IsVacating, plan, plan_at, put, put_at}
 use Rattle.hwp_evict.specs.Vacates as vacates
 use Rattle.hwp_evict.proofs.ClearLaws.{clear-lists}
 use Rattle.hwp_cpu_copy.proofs.FreeHomes.{HomeWithout, PutsNone, ahead-home, given-up-home, known-home}

@@ -2,6 +2,8 @@ pub mod AskedSame
 pub mod FreeHomes
 pub mod FreeOwes
 pub mod FreeLists
+pub mod HomePlaces
+pub mod FreeLooks
 pub mod RunLaws
 pub mod CowSteps
 pub mod WentWell

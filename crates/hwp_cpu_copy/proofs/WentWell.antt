@@ -277,6 +277,7 @@ module _ (base : List Made) (layout : Layout) (view : View) (c : Copying) (runs 
       evict_is = refl;
       sub_is = is;
       unanswered = refl;
+      looks = tt;
       paid = paid;
       told = record { told_is = told-is; banks_are = banks-are };
       going = going;

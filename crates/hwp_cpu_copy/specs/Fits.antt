@@ -35,7 +35,8 @@ use Rattle.hwp_cpu_copy.specs.declared.copying.CopyingAt.{CopyingAt}
 use Rattle.hwp_cpu_copy.specs.declared.copying.CopyingAt.TheVariants as at
 use Rattle.hwp_cpu_copy.specs.Copyings.{Follows, Shows, bare, load_of, plan, put, request_by}
 use Rattle.hwp_cpu_copy.specs.Costs.{aborts, claims, class, cost}
-use Rattle.hwp_cpu_copy.specs.Runs.{AreRuns, IsBetween, Run, checks_by, made_by, words_of}
+use Rattle.hwp_cpu_copy.specs.Looks.{HasInView}
+use Rattle.hwp_cpu_copy.specs.Runs.{AreRuns, IsBetween, LooksLast, Run, checks_by, made_by, words_of}
 
 -- the copy at its beginning
 abbrev pub begun : Cow → Cow
@@ -83,12 +84,14 @@ pub record IsAccessing (base : List Made) (layout : Layout) (view : View) (c : C
   pub request_is : request_by c.store c.page (cows.sub_of c.cow) ≡ Some c.instruction.request
   pub unwell : is_well (instructions.answer c.instruction) ≡ false
 
--- all lines are copied, the store is made, and the translation is freed
+-- all lines are copied, the store is made, and the translation is freed; the history that the freeing takes has all that the command made
+-- in the page before
 pub record IsFreeing (base : List Made) (layout : Layout) (view : View) (c : Copying) (runs : List Run) (e : Evict) (stored : At) : Type 0 where
   pub evict : evicts.FitsFrom (base ++ made_by runs) layout view e
   pub evict_is : e ≡ record (evicts.begin c.store.who c.page (evictions.Free c.cow.v)) { at = e.at }
   pub sub_is : cows.sub_of c.cow ≡ subs.Free c.cow.v
   pub unanswered : evicts.answer e ≡ None
+  pub looks : HasInView c.page (made_by runs) e.at
   pub paid : view.owed.losses ≡ []
   pub told : HasTold c runs
   pub going : IsGoing view c.store
@@ -101,6 +104,7 @@ pub record HasCopied (base : List Made) (view : View) (c : Copying) (runs : List
   pub accesses : List Run
   pub freed : Run
   pub runs_are : runs ≡ accesses ++ freed ∷ []
+  pub looks : LooksLast c.page accesses freed
   pub last : IsLastPlace accesses place
 
 -- the freeing found that the machine has stopped

@@ -1,4 +1,5 @@
 pub mod Copyings
+pub mod Looks
 pub mod Runs
 pub mod Fits
 pub mod Costs

@@ -26,6 +26,7 @@ use Rattle.hwp_fork.specs.Cows as cows
 use Rattle.hwp_cpu_access.specs.Checks.{AreChecks}
 use Rattle.hwp_cpu_access.specs.Fits.{checks_in}
 use Rattle.hwp_cpu_copy.specs.Copyings.{load_of, store_of}
+use Rattle.hwp_cpu_copy.specs.Looks.{StandBefore}
 
 -- an access that went well, or the freeing: the word that was told of it, the entries that the command made by it, in their order, its
 -- machine checks, and the place of the entry that answers it, or at which the page was seen
@@ -67,6 +68,10 @@ pub record IsFreeRun (layout : Layout) (view : View) (who : Who) (page : Page) (
   pub made_is : (r.made ≡ []) ⊎ ((m : Made) × (r.made ≡ m ∷ []) × (m.page ≡ page) × (m.entry.what ≡ entries.Free slot))
   pub unused : r.made ≡ [] → SawState layout view who page r.place.entry (IsUnused slot)
   pub unchecked : r.checks ≡ []
+
+-- where it made no entry, that step saw the page behind all that the command had made in it by these accesses
+abbrev pub LooksLast : Page → List Run → Run → Type 0
+LooksLast page runs freed = freed.made ≡ [] → StandBefore page freed.place.entry (made_by runs)
 
 abbrev pub IsRun : Layout → View → Request → Page → Banks → Run → Sub → Type 0
 IsRun layout view store page banks r (subs.Load slot line) = IsAccessRun layout view (load_of store page slot line) banks r

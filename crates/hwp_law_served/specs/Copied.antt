@@ -35,7 +35,7 @@ use Rattle.hwp_cpu_copy.specs.hwp_cpu_access.Checks.{AreChecks}
 use Rattle.hwp_cpu_copy.specs.hwp_cpu_access.Fits.{LetsGoOn, checks_in}
 use Rattle.hwp_cpu_copy.specs.Copyings.{load_of, request_by}
 use Rattle.hwp_cpu_copy.specs.Fits.{IsLastPlace}
-use Rattle.hwp_cpu_copy.specs.Runs.{AreRuns, IsBetween, Run, checks_by, made_by, words_of}
+use Rattle.hwp_cpu_copy.specs.Runs.{AreRuns, IsBetween, LooksLast, Run, checks_by, made_by, words_of}
 
 -- the store of the word through the twin `to`, as its accesses ask for it
 abbrev pub store_by : Who → Thread → VSlot → ℕ → ℕ → Page → Proc → Request
@@ -71,8 +71,8 @@ pub record IsBehind (store : Request) (page : Page) (sub : Sub) (rest : List Mad
   pub such : EachMember (IsBetween access) rest
 
 -- the accesses were all, with no machine check beside theirs, and the place is that of the last one, the store itself; the freeing is
--- behind it
-pub record HasSwitched (sub : Sub) (runs : List Run) (rest : List Made) (told : List EventOutcome) (at : At) : Type 0 where
+-- behind it, and where it made no entry it saw the page behind theirs
+pub record HasSwitched (page : Page) (sub : Sub) (runs : List Run) (rest : List Made) (told : List EventOutcome) (at : At) : Type 0 where
   pub sub_is : sub ≡ subs.Switched
   pub rest_is : rest ≡ []
   pub told_is : told ≡ lines_of (checks_by runs)
@@ -80,6 +80,7 @@ pub record HasSwitched (sub : Sub) (runs : List Run) (rest : List Made) (told : 
   pub freed : Run
   pub runs_are : runs ≡ stores ++ freed ∷ []
   pub last : IsLastPlace stores at
+  pub looks : LooksLast page stores freed
 
 -- the access that comes was answered by SIGBUS, by its entry at the place
 pub record IsRefused (store : Request) (page : Page) (sub : Sub) (rest : List Made) (at : At) : Type 0 where
@@ -123,7 +124,7 @@ pub record WasStopped (view : View) (store : Request) (page : Page) (sub : Sub) 
   pub behind : IsBehind store page sub rest ⊎ IsStoppedFreeing view store sub rest
 
 abbrev pub IsCopyEnded : Layout → View → Request → Page → Sub → List Run → List Made → List EventOutcome → Answer → Type 0
-IsCopyEnded layout view store page sub runs rest told (answers.Stored at) = IsGoing layout view store × HasSwitched sub runs rest told at
+IsCopyEnded layout view store page sub runs rest told (answers.Stored at) = IsGoing layout view store × HasSwitched page sub runs rest told at
 IsCopyEnded layout view store page sub runs rest told (answers.Sigbus at) = IsGoing layout view store × (IsRefused store page sub rest at ⊎ IsSignalled store page sub runs rest told at)
 IsCopyEnded layout view store page sub runs rest told answers.NoFrame = IsGoing layout view store × FoundNone layout view store page sub rest
 IsCopyEnded layout view store page sub runs rest told (answers.Gone ended) = FoundEnded layout view store page sub rest ended

@@ -238,7 +238,7 @@ module _ (layout : Layout) (view : View) (c : Copying) (runs : List Run) (has : 
 
     by-freeing : (y : InstructionAnswer) → x ≡ y → copying_fits.IsEnd [] view c runs y → HasEnd layout view c runs x
     by-freeing (answers.Stored place) is ended = freed-so (ap (request_by c.store c.page) ended.sub_is) ended.all
-        (subst (Ends []) (sym is) (going c.store has.names over.going, record { sub_is = ended.sub_is; rest_is = refl; told_is = over.told.told_is; stores = ended.accesses; freed = ended.freed; runs_are = ended.runs_are; last = ended.last }))
+        (subst (Ends []) (sym is) (going c.store has.names over.going, record { sub_is = ended.sub_is; rest_is = refl; told_is = over.told.told_is; stores = ended.accesses; freed = ended.freed; runs_are = ended.runs_are; last = ended.last; looks = ended.looks }))
     by-freeing answers.Stopped is ended = freed-so (ap (request_by c.store c.page) ended.sub_is) ended.all (subst (Ends []) (sym is) (record { stopped = inl ended.saw; behind = inr (record { slot = c.cow.v; sub_is = ended.sub_is; rest_is = refl; saw = ended.saw }) }))
     by-freeing (answers.Value word place) is ended = absurd ended
     by-freeing (answers.Sigbus place) is ended = absurd ended

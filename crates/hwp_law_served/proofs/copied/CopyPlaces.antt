@@ -46,7 +46,7 @@ module _ (layout : Layout) (view : View) (who : Who) (thread : Thread) (from to 
       → (at : At) → place_named answer ≡ Some at → MadeAt view who at
   copy-place row answer caused account at is = which answer caused.ended is
     where
-      stored : (bt : At) → HasSwitched (sub_next (store_by who thread to line word caused.page caused.process) from word caused.has.runs) caused.has.runs caused.has.rest row.told bt → MadeAt view who bt
+      stored : (bt : At) → HasSwitched caused.has.page (sub_next (store_by who thread to line word caused.page caused.process) from word caused.has.runs) caused.has.runs caused.has.rest row.told bt → MadeAt view who bt
       stored bt switched =
           let last = stored-last layout view (store_by who thread to line word caused.page caused.process) from word before caused.has bt switched in
           made-within view who last.front last.last last.behind bt last.all (last.stands.0 ∙ sym last.page_is) last.stands.1

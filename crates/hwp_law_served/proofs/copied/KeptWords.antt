@@ -68,7 +68,7 @@ of-command script copies seat last report end who command is = which (slice_get 
 module _ (script : Script) (copies : Who → Option VSlot) (seat : Cpu → ℕ) (last : State) (report : Report) (end : IsEnd script copies seat last report) where
   -- of the copy itself
   kept-by : (who : Who) → who.cpu.0 < script.layout.cpus → (from : VSlot) (word line : ℕ) (before : Banks) (store : Request) → store.who ≡ who → (has : HasCopied script.layout (view_of last (seat who.cpu)) store from word before) {told : List EventOutcome} (at : At)
-      → HasSwitched (sub_next store from word has.runs) has.runs has.rest told at → line < line_limit → HasKept script.layout report who from store.slot store.line word line
+      → HasSwitched has.page (sub_next store from word has.runs) has.runs has.rest told at → line < line_limit → HasKept script.layout report who from store.slot store.line word line
   kept-by who inside from word line before store who_is has {told} at switched within = record {
     stored = ends_on line (cows.begin from store.slot store.line word) kept.word;
     last = left;

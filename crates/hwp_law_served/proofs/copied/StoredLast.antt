@@ -75,7 +75,7 @@ pub record IsStoredLast (view : View) (store : Request) (page : Page) (from : VS
   pub stands : IsAt store.page place.entry (entries.Store store.slot store.line (Word (record { 0 = mask }) word)) last
   pub freed : (behind ≡ []) ⊎ ((m : Made) × (behind ≡ m ∷ []) × (m.page ≡ page) × (m.entry.what ≡ entries.Free from))
 
-pub stored-last : (layout : Layout) (view : View) (store : Request) (from : VSlot) (word : ℕ) (before : Banks) (has : HasCopied layout view store from word before) {told : List EventOutcome} (place : At) → HasSwitched (sub_next store from word has.runs) has.runs has.rest told place → IsStoredLast view store has.page from word place
+pub stored-last : (layout : Layout) (view : View) (store : Request) (from : VSlot) (word : ℕ) (before : Banks) (has : HasCopied layout view store from word before) {told : List EventOutcome} (place : At) → HasSwitched has.page (sub_next store from word has.runs) has.runs has.rest told place → IsStoredLast view store has.page from word place
 stored-last layout view store from word before has {told} place is =
     let front : List Run = is.last.0 in
     let last : Run = is.last.1 in
