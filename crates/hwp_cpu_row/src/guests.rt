@@ -1,4 +1,4 @@
-ghost use Rattle.std.specs.Prelude.{◌≡◌, None, Some, replicate, IfOk};
+ghost use Rattle.std.specs.Prelude.{◌≡◌, false, None, Some, replicate, IfOk, IsOk};
 ghost use Rattle.std.specs.Option.{option_map};
 ghost use Rattle.hwp_cpu_check.specs.hwp_guest.GuestState.{admitted};
 ghost use Rattle.hwp_cpu_check.specs.hwp_guest.Guests.{outcome};
@@ -56,7 +56,8 @@ impl Guests {
     /// # Errors
     /// `OutOfMemory` where a process is a guest, and there is no room.
     pub fn new(alloc: Global, layout: &Layout) -> Result<Guests, OutOfMemory>
-        ensures { IfOk result (λ g. g ≡ first_guests layout.now) }
+        ensures first { IfOk result (λ g. g ≡ first_guests layout.now) }
+        ensures unguested { has_guests layout.now ≡ false → IsOk result }
     {
         if !has_guests(layout) {
             return Ok(Guests {
