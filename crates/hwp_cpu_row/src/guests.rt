@@ -2,8 +2,8 @@ ghost use Rattle.std.specs.Prelude.{◌≡◌, false, None, Some, replicate, IfO
 ghost use Rattle.std.specs.Option.{option_map};
 ghost use Rattle.hwp_cpu_check.specs.hwp_guest.GuestState.{admitted};
 ghost use Rattle.hwp_cpu_check.specs.hwp_guest.Guests.{outcome};
-ghost use Rattle.hwp_cpu_check.specs.hwp_law_commands.Guests.{denial, guest_access, guest_line, new_guest, stops};
-ghost use Rattle.hwp_cpu_row.specs.GuestLists.{CanMeet, MayTell, access_by, denied_in, first_guests, guest_in, has_guests, line_in, met_in, told_in};
+ghost use Rattle.hwp_cpu_check.specs.hwp_law_commands.Guests.{guest_access, guest_line, new_guest, stops};
+ghost use Rattle.hwp_cpu_row.specs.GuestLists.{CanMeet, MayTell, access_by, admission_in, first_guests, guest_in, has_guests, line_in, met_in, told_in};
 
 use hwp_cpu_check::{
     Access, Admit, Answer, Command, Guest, GuestLine, Layout, Line, Mode, OutOfMemory, Proc, Taken,
@@ -79,14 +79,14 @@ impl Guests {
         }
     }
 
-    /// The answer of a command whose access its guest doesn't admit.
-    pub fn denied(&self, layout: &Layout, command: &Command) -> Option<Answer>
-        ensures { result ≡ denied_in layout.now self.now command.now }
+    /// Whether its guest admits the access of a command. What is no access of a guest is admitted.
+    pub fn admission(&self, layout: &Layout, command: &Command) -> Admit
+        ensures { result ≡ admission_in layout.now self.now command.now }
     {
         let Some(access) = guest_access(layout, command) else {
-            return None;
+            return Admit::Yes;
         };
-        denial(self.admits(access.process, access.slot))
+        self.admits(access.process, access.slot)
     }
 
     /// The command got this answer: an access of a guest that was answered by SIGBUS is a machine check of the guest, whose line it is.
@@ -155,17 +155,6 @@ fn stops(taken: Taken) -> bool
     match taken {
         Taken::Bad => false,
         Taken::Stop => true,
-    }
-}
-
-/// The answer of an access that its guest doesn't admit.
-fn denial(admit: Admit) -> Option<Answer>
-    ensures { result ≡ denial admit }
-{
-    match admit {
-        Admit::Yes => None,
-        Admit::Bad => Some(Answer::GuestBad),
-        Admit::Stopped => Some(Answer::GuestStopped),
     }
 }
 

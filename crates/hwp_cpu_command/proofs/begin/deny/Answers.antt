@@ -1,5 +1,4 @@
 use Rattle.std.proofs.Common.{sym, ap, ◌∙◌}
-use Rattle.hwp_cpu_control.specs.Denieds.{begin}
 use Rattle.hwp_cpu_command.specs.declared.job.Job.TheVariants as jobs
 use Rattle.hwp_cpu_command.proofs.AccessBegins.{access-is, access-thread}
 use Rattle.hwp_cpu_command.proofs.begin.deny.Goals as goal
@@ -17,5 +16,5 @@ returns-clause-begins c = λ copies can. record {
   process = c.process_of-process.result;
   process_is = c.process_of-process.ensures.process;
   within = c.process_of-process.ensures.within;
-  job_is = c.set.ensures ∙ ap jobs.Denied (c.new.ensures ∙ ap (begin c.args.who c.process_of-process.result) c.denial_by.ensures);
+  job_is = c.set.ensures ∙ ap jobs.Denied c.new.ensures;
 }
