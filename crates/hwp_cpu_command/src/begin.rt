@@ -151,14 +151,14 @@ fn deny(layout: &Layout, who: Who, command: &Command, why: Denial, job: &mut Job
     let Some(at) = access_in(command) else {
         unreachable!();
     };
-    let process = process_of(layout, who, at.thread);
+    let process = process_of(layout, at.thread);
     set(job, Job::Denied(Denied::new(who, process, why)));
 }
 
-/// The process of a thread of the processor.
-fn process_of(layout: &Layout, who: Who, thread: Thread) -> Proc
+/// The process of a thread.
+fn process_of(layout: &Layout, thread: Thread) -> Proc
     requires sound { IsSound layout.now }
-    requires of { IsThreadOf layout.now who.cpu.0 thread }
+    requires declared { thread.0 < length layout.now.threads }
     ensures process { process_of_thread layout.now thread ≡ Some result }
     ensures within { result.0 < layout.now.procs }
 {

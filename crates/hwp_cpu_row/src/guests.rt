@@ -1,7 +1,5 @@
 ghost use Rattle.std.specs.Prelude.{◌≡◌, false, None, Some, replicate, IfOk, IsOk};
-ghost use Rattle.std.specs.Option.{option_map};
 ghost use Rattle.hwp_cpu_check.specs.hwp_guest.GuestState.{admitted};
-ghost use Rattle.hwp_cpu_check.specs.hwp_guest.Guests.{outcome};
 ghost use Rattle.hwp_cpu_check.specs.hwp_law_commands.Guests.{guest_access, guest_line, new_guest, stops};
 ghost use Rattle.hwp_cpu_row.specs.GuestLists.{CanMeet, MayTell, access_by, admission_in, first_guests, guest_in, has_guests, line_in, met_in, told_in};
 
@@ -89,7 +87,8 @@ impl Guests {
         self.admits(access.process, access.slot)
     }
 
-    /// The command got this answer: an access of a guest that was answered by SIGBUS is a machine check of the guest, whose line it is.
+    /// The command got this answer: an access of a guest that was answered by SIGBUS is a machine check of the guest, whose line it is. The
+    /// guest has to admit the access.
     pub fn told(
         &mut self,
         layout: &Layout,

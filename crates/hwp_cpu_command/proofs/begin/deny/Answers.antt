@@ -3,8 +3,8 @@ use Rattle.hwp_cpu_command.specs.declared.job.Job.TheVariants as jobs
 use Rattle.hwp_cpu_command.proofs.AccessBegins.{access-is, access-thread}
 use Rattle.hwp_cpu_command.proofs.begin.deny.Goals as goal
 
-pub process_of-process-requires-clause-of : goal.process_of-process-requires-clause-of
-process_of-process-requires-clause-of c = access-thread c.args.layout.now c.args.who.cpu.0 c.args.command.now c.in-Some.at (sym c.access_in.ensures ∙ c.in-Some.is) c.requires.of
+pub process_of-process-requires-clause-declared : goal.process_of-process-requires-clause-declared
+process_of-process-requires-clause-declared c = access-thread c.args.layout.now c.args.who.cpu.0 c.args.command.now c.in-Some.at (sym c.access_in.ensures ∙ c.in-Some.is) c.requires.of
 
 pub returns-clause-begins : goal.returns-clause-begins
 returns-clause-begins c = λ copies can. record {
