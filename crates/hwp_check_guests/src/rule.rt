@@ -1,8 +1,9 @@
-ghost use Rattle.std.specs.Prelude.{◌≡◌, ℕ, ◌<◌, ◌^◌, Some, IfOk, MatchOption, length, slice_get};
+ghost use Rattle.std.specs.Prelude.{◌≡◌, ℕ, ◌<◌, ◌^◌, false, Some, IfOk, IsOk, MatchOption, length, slice_get};
 ghost use Rattle.hwp_check_rules.specs.hwp_check_acting.Scripts.{IsDeclared};
 ghost use Rattle.hwp_check_rules.specs.Firsts.{IsLeast};
 ghost use Rattle.hwp_check_rules.specs.GuestFaults.{IsGuestFault};
 ghost use Rattle.hwp_check_rules.specs.Standing.{last_line, row_line};
+ghost use Rattle.hwp_check_guests.specs.Accesses.{has_guests};
 ghost use Rattle.hwp_check_guests.specs.Judging.{HasNoFaultOn, IsFirstOn, IsKnown};
 
 use crate::accesses::has_guests;
@@ -34,7 +35,8 @@ fn known_of(
     rows: &[CpuLine],
 ) -> Result<Known, OutOfMemory>
     requires of_report { slice_get report.now.cpus cpu.0 ≡ Some rows.now }
-    ensures { IfOk result (λ known. IsKnown layout.now report.now cpu commands.now rows.now known.admits.items known.flags.items known.told.items) }
+    ensures known { IfOk result (λ known. IsKnown layout.now report.now cpu commands.now rows.now known.admits.items known.flags.items known.told.items) }
+    ensures unguested { has_guests layout.now ≡ false → IsOk result }
 {
     if !has_guests(layout) {
         return Ok(Known {
@@ -74,7 +76,8 @@ fn fault_on(
     requires room { last_line report.now < 2 ^ 64 }
     requires of_script { cpu.0 < length script.now.lists }
     requires of_report { cpu.0 < length report.now.cpus }
-    ensures { IfOk result (λ found. MatchOption found (HasNoFaultOn script.now report.now cpu) (IsFirstOn script.now report.now cpu)) }
+    ensures judged { IfOk result (λ found. MatchOption found (HasNoFaultOn script.now report.now cpu) (IsFirstOn script.now report.now cpu)) }
+    ensures unguested { has_guests script.now.layout ≡ false → IsOk result }
 {
     let layout = &script.layout;
     let commands = commands_of(script, cpu);
@@ -104,7 +107,8 @@ pub fn guests_fault(
 ) -> Result<Option<u64>, OutOfMemory>
     requires valid { IsDeclared script.now }
     requires room { last_line report.now < 2 ^ 64 }
-    ensures { IfOk result (λ found. MatchOption found ((line : ℕ) → IsGuestFault script.now report.now line → ⊥) (IsLeast (IsGuestFault script.now report.now))) }
+    ensures judged { IfOk result (λ found. MatchOption found ((line : ℕ) → IsGuestFault script.now report.now line → ⊥) (IsLeast (IsGuestFault script.now report.now))) }
+    ensures unguested { has_guests script.now.layout ≡ false → IsOk result }
 {
     for number in 0..script.lists.len().min(report.cpus.len()) {
         let found = fault_on(alloc, script, report, Cpu(number as u8))?;

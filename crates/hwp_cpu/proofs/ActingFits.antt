@@ -19,12 +19,13 @@ use Rattle.hwp_cpu_course.specs.hwp_cpu_row.hwp_script_lines.declared.Command.Th
 use Rattle.hwp_cpu_course.specs.hwp_cpu_row.hwp_script_read.Valid.{AreTwinsFit, IsAccess, IsAnon, IsCommandOf}
 use Rattle.hwp_cpu_course.specs.hwp_cpu_row.hwp_law_commands.Cows.{Cow, twin_or}
 use Rattle.hwp_cpu_course.specs.hwp_cpu_row.CowLists.{acting_in, copied_in, cow_in}
-use Rattle.hwp_cpu_course.specs.hwp_cpu_row.GuestLists.{States, denied_in}
+use Rattle.hwp_cpu_course.specs.hwp_cpu_row.GuestLists.{States, admission_in}
 use Rattle.hwp_cpu_course.specs.hwp_cpu_row.hwp_law_commands.Commands as access
 use Rattle.hwp_cpu_course.specs.hwp_cpu_row.hwp_law_commands.Commands.{access_of}
 use Rattle.hwp_cpu_course.specs.hwp_cpu_row.hwp_law_commands.Guests.{GuestAccess, guest_access}
-use Rattle.hwp_cpu_course.specs.hwp_cpu_row.hwp_report_text.declared.Answer.{Answer}
-use Rattle.hwp_cpu_course.proofs.of_hwp_cpu_row.GuestListLaws.{denied-none, of-access}
+use Rattle.hwp_cpu_course.specs.hwp_cpu_row.hwp_cpu_check.hwp_guest.declared.Admit.{Admit}
+use Rattle.hwp_cpu_course.specs.hwp_cpu_row.hwp_cpu_check.hwp_guest.declared.Admit.TheVariants as admissions
+use Rattle.hwp_cpu_course.proofs.of_hwp_cpu_row.GuestListLaws.{admitted-none, of-access}
 use Rattle.hwp_cpu_course.specs.hwp_cpu_command.Begins.{CanCopy, CanDeny}
 use Rattle.hwp_cpu_course.specs.hwp_cpu_command.Runs.{CanFork}
 
@@ -84,16 +85,16 @@ access-stays layout cows (commands.KLoad thread slot line) a is = refl
 access-stays layout cows (commands.Store thread slot line word) a is = refl
 access-stays layout cows command a is = absurd (none-some a is)
 
-pub begins-denied : (layout : Layout) (cows : List Cow) (guests : States) (own acting : Command) (denied : Option Answer) → acting ≡ acting_in layout cows own → denied ≡ denied_in layout guests own → CanDeny acting denied
-begins-denied layout cows guests own acting denied is said = subst (λ (c : Command). CanDeny c denied) (sym is) (subst (CanDeny (acting_in layout cows own)) (sym said) (which (guest_access layout own) refl))
+pub begins-denied : (layout : Layout) (cows : List Cow) (guests : States) (own acting : Command) (admit : Admit) → acting ≡ acting_in layout cows own → admit ≡ admission_in layout guests own → CanDeny acting admit
+begins-denied layout cows guests own acting admit is said = subst (λ (c : Command). CanDeny c admit) (sym is) (subst (CanDeny (acting_in layout cows own)) (sym said) (which (guest_access layout own) refl))
   where
-    which : (o : Option GuestAccess) → guest_access layout own ≡ o → CanDeny (acting_in layout cows own) (denied_in layout guests own)
-    which None none = subst (CanDeny (acting_in layout cows own)) (sym (denied-none layout guests own none)) tt
-    which (Some g) some = let of = of-access layout own g some in by (denied_in layout guests own) (access-stays layout cows own of.0 of.1)
+    which : (o : Option GuestAccess) → guest_access layout own ≡ o → CanDeny (acting_in layout cows own) (admission_in layout guests own)
+    which None none = subst (CanDeny (acting_in layout cows own)) (sym (admitted-none layout guests own none)) tt
+    which (Some g) some = let of = of-access layout own g some in by (admission_in layout guests own) (access-stays layout cows own of.0 of.1)
       where
-        by : (o : Option Answer) → IsSome (access_of (acting_in layout cows own)) → CanDeny (acting_in layout cows own) o
-        by None has = tt
-        by (Some answer) has = has
+        by : (x : Admit) → IsSome (access_of (acting_in layout cows own)) → CanDeny (acting_in layout cows own) x
+        by admissions.Yes has = tt
+        by _ has = has
 
 -- a fork is acted on as it stands
 pub fork-acted : (view : View) (who : Who) (layout : Layout) (cows : List Cow) (own : Command) → CanFork layout view who own → CanFork layout view who (acting_in layout cows own)

@@ -26,6 +26,7 @@ use Rattle.hwp_cpu_course.specs.hwp_cpu_row.hwp_geom.declared.Thread.{Thread}
 use Rattle.hwp_cpu_course.specs.hwp_cpu_row.hwp_geom.declared.Who.{Who}
 use Rattle.hwp_cpu_course.specs.hwp_cpu_row.hwp_geom.Pairs.{Pairs}
 use Rattle.hwp_cpu_course.specs.hwp_cpu_row.hwp_script_lines.declared.Command.{Command}
+use Rattle.hwp_cpu_course.specs.hwp_cpu_row.hwp_cpu_check.hwp_guest.declared.Admit.{Admit}
 use Rattle.hwp_cpu_course.specs.hwp_cpu_row.hwp_report_text.declared.Answer.{Answer}
 use Rattle.hwp_cpu_course.specs.hwp_cpu_row.hwp_report_text.declared.Answer.TheVariants as answers
 use Rattle.hwp_cpu_course.specs.hwp_cpu_row.hwp_law_commands.Settings.{settings}
@@ -86,7 +87,7 @@ use Rattle.hwp_cpu_course.specs.hwp_cpu_row.hwp_cpu_check.Done.{marked_in}
 use Rattle.hwp_cpu_course.specs.hwp_cpu_command.hwp_soft.declared.Soft.{Soft}
 use Rattle.hwp_cpu_course.specs.Courses as courses
 use Rattle.hwp_cpu_course.specs.hwp_cpu_row.hwp_report_text.declared.GuestLine.{GuestLine}
-use Rattle.hwp_cpu_course.specs.hwp_cpu_row.GuestLists.{denied_in, line_in}
+use Rattle.hwp_cpu_course.specs.hwp_cpu_row.GuestLists.{admission_in, line_in}
 
 -- ---- the turn
 
@@ -134,8 +135,8 @@ own-stop layout cpu list rows own command copies j a offlined guest there acts r
     named = sym it.who_is ∙ runs-who layout (at_number cpu (length rows)) command copies j runs
 
 -- a command that begins is the processor's next
-begins-who : (layout : Layout) (by : Who) (command : Command) (copies : Option VSlot) (denied : Option Answer) (banks : Banks) (collecting : Bool) (j : Job) → BeginsWith layout by command copies denied banks collecting j → jobs.who j ≡ by
-begins-who layout by command copies denied banks collecting j begins = runs-who layout by command copies j (begins-runs layout by command copies denied banks collecting j begins)
+begins-who : (layout : Layout) (by : Who) (command : Command) (copies : Option VSlot) (admit : Admit) (banks : Banks) (collecting : Bool) (j : Job) → BeginsWith layout by command copies admit banks collecting j → jobs.who j ≡ by
+begins-who layout by command copies admit banks collecting j begins = runs-who layout by command copies j (begins-runs layout by command copies admit banks collecting j begins)
 
 -- ---- the answer
 
@@ -302,15 +303,15 @@ module _ (layout : Layout) (new : View) (cpu : Cpu) (list : List Command) (rows 
           let at_end : length longer ≡ n + 1 = number in
           omega arith
 
-  module _ (coming : Command) (b : Course) (there : slice_get list (n + 1) ≡ Some coming) (begins : BeginsCourse layout (at_number cpu (n + 1)) (acting_in layout after.cows coming) (copied_in after.cows coming) (denied_in layout after.guests coming) after b) where
+  module _ (coming : Command) (b : Course) (there : slice_get list (n + 1) ≡ Some coming) (begins : BeginsCourse layout (at_number cpu (n + 1)) (acting_in layout after.cows coming) (copied_in after.cows coming) (admission_in layout after.guests coming) after b) where
     abbrev next : Command
     next = acting_in layout after.cows coming
 
     abbrev copied : Option VSlot
     copied = copied_in after.cows coming
 
-    abbrev denied : Option Answer
-    denied = denied_in layout after.guests coming
+    abbrev admit : Admit
+    admit = admission_in layout after.guests coming
 
     comes : IsActedOn layout list longer next copied
     comes = record {
@@ -325,13 +326,13 @@ module _ (layout : Layout) (new : View) (cpu : Cpu) (list : List Command) (rows 
         (can-fork layout cpu list longer are.forks are.once new policies coming (subst (λ (i : ℕ). slice_get list i ≡ Some coming) (sym number) there) (at-least (IsCommandOf layout cpu.0) list (n + 1) coming are.named there)))
 
     start : IsAtStop b.own
-    start = begins-stop layout (at_number cpu (n + 1)) next copied denied after.banks (collects after.watching) b.own begins.begins
+    start = begins-stop layout (at_number cpu (n + 1)) next copied admit after.banks (collects after.watching) b.own begins.begins
 
     within : n + 1 < length list
     within = slice_get_within list (n + 1) coming there
 
     own-fits : jobs.FitsFrom [] layout new b.own
-    own-fits = begins-fits layout new (at_number cpu (n + 1)) next copied denied after.banks (collects after.watching) b.own begins.begins (banks-acted layout [] new cpu 0 empty_banks list longer after.banks serves.rows_are empty-free) (record {
+    own-fits = begins-fits layout new (at_number cpu (n + 1)) next copied admit after.banks (collects after.watching) b.own begins.begins (banks-acted layout [] new cpu 0 empty_banks list longer after.banks serves.rows_are empty-free) (record {
       on_turn = next-turn new cpu n (ap (λ (h : Hand). h.bodies) now.known.hand_is) now.known.on_turn;
       hand_is = now.known.hand_is;
       paid = ap (λ (d : Debts). d.losses) unowing;
@@ -347,9 +348,9 @@ module _ (layout : Layout) (new : View) (cpu : Cpu) (list : List Command) (rows 
 
     way : IsUnderWay layout new cpu list longer (local_left b after) next copied b
     way = record {
-      serves = subst (λ (l : Banks). Serves layout new cpu list longer l after.handles after.cows) (sym (before-begins layout (at_number cpu (n + 1)) next copied denied after.banks (collects after.watching) b.own begins.begins)) serves;
+      serves = subst (λ (l : Banks). Serves layout new cpu list longer l after.handles after.cows) (sym (before-begins layout (at_number cpu (n + 1)) next copied admit after.banks (collects after.watching) b.own begins.begins)) serves;
       next = comes;
-      runs = subst (λ (i : ℕ). Runs layout (at_number cpu i) next copied b.own) (sym number) (begins-runs layout (at_number cpu (n + 1)) next copied denied after.banks (collects after.watching) b.own begins.begins);
+      runs = subst (λ (i : ℕ). Runs layout (at_number cpu i) next copied b.own) (sym number) (begins-runs layout (at_number cpu (n + 1)) next copied admit after.banks (collects after.watching) b.own begins.begins);
       handle = begins.handle;
       policies = counted-starts (λ (thread : Thread). settings layout thread (answers_by list longer)) new b.own start policies;
       stopped = λ some. (inl start, untold-at-start b.own start);
@@ -364,12 +365,12 @@ module _ (layout : Layout) (new : View) (cpu : Cpu) (list : List Command) (rows 
 
     begun : courses.Fits layout new b × (IsRunning layout new cpu list longer (local_left b after) b ⊎ GivesUp layout new cpu list longer b)
     begun = (
-      course-begins layout new (at_number cpu (n + 1)) next copied denied after b begins own-fits (of-machine layout (watched_at layout list longer (length longer)) after.watching watching-now),
+      course-begins layout new (at_number cpu (n + 1)) next copied admit after b begins own-fits (of-machine layout (watched_at layout list longer (length longer)) after.watching watching-now),
       inl (record {
         command = next;
         copies = copied;
         way = way;
-        on = subst (GoesOn layout new cpu list longer (local_left b after) next copied b) (sym (ap (λ (d : Course). d.beside) begins.is)) (own-starts layout new next copied b after.watching begins.is start own-fits (subst (HasMadeNone new) (sym (begins-who layout (at_number cpu (n + 1)) next copied denied after.banks (collects after.watching) b.own begins.begins)) (later-none (n + 1) (omega arith))));
+        on = subst (GoesOn layout new cpu list longer (local_left b after) next copied b) (sym (ap (λ (d : Course). d.beside) begins.is)) (own-starts layout new next copied b after.watching begins.is start own-fits (subst (HasMadeNone new) (sym (begins-who layout (at_number cpu (n + 1)) next copied admit after.banks (collects after.watching) b.own begins.begins)) (later-none (n + 1) (omega arith))));
       }),
     )
 

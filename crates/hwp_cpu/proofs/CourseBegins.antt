@@ -10,12 +10,14 @@ use Rattle.hwp_cpu_course.specs.hwp_cpu_row.declared.Local.{Local}
 use Rattle.hwp_cpu_course.specs.declared.Course.{Course}
 use Rattle.std.proofs.lemmas.Option.{none-some}
 use Rattle.hwp_cpu_course.specs.hwp_cpu_row.Locals.{collects}
+use Rattle.hwp_cpu_course.specs.hwp_cpu_row.hwp_cpu_check.hwp_guest.declared.Admit.{Admit}
 use Rattle.hwp_cpu_course.specs.hwp_cpu_row.hwp_report_text.declared.Answer.{Answer}
 use Rattle.hwp_cpu_course.proofs.of_hwp_cpu_command.JobEnds.{answered-over}
+use Rattle.hwp_cpu_course.specs.hwp_cpu_row.hwp_law_commands.Guests.{denial}
 use Rattle.hwp_cpu_course.specs.hwp_cpu_row.hwp_script_lines.declared.Command.{Command}
 use Rattle.hwp_cpu_course.specs.hwp_cpu_row.hwp_geom.declared.Who.{Who}
 use Rattle.hwp_cpu_course.specs.hwp_cpu_command.Stays.{IsAtStop}
-use Rattle.hwp_cpu_course.proofs.of_hwp_cpu_command_laws.CommandRuns.{HasBegun, has-begun, IsTold, said_by}
+use Rattle.hwp_cpu_course.proofs.of_hwp_cpu_command_laws.CommandRuns.{HasBegun, has-begun, IsTold}
 use Rattle.hwp_cpu_course.specs.hwp_cpu_row.hwp_geom.declared.Layout.{Layout}
 use Rattle.hwp_cpu_course.specs.hwp_cpu_command.Jobs as jobs
 use Rattle.hwp_cpu_course.specs.hwp_cpu_row.hwp_core_rule.declared.Step.TheVariants as steps
@@ -37,8 +39,8 @@ passed-none watching (kinds.Instruction i) told start on = (told ∙ on, λ goes
 passed-none watching (kinds.Copying y) told start on = (told ∙ on, λ goes. sym (ap length (untold-at-start (kinds.Copying y) start)))
 passed-none watching _ told start on = tt
 
-pub course-begins : (layout : Layout) (view : View) (who : Who) (command : Command) (copies : Option VSlot) (denied : Option Answer) (local : Local) (c : Course) → BeginsCourse layout who command copies denied local c → jobs.FitsFrom [] layout view c.own → IsOfMachine layout local.watching → courses.Fits layout view c
-course-begins layout view who command copies denied local c begins fits of = subst (courses.Fits layout view) (sym begins.is) (record {
+pub course-begins : (layout : Layout) (view : View) (who : Who) (command : Command) (copies : Option VSlot) (admit : Admit) (local : Local) (c : Course) → BeginsCourse layout who command copies admit local c → jobs.FitsFrom [] layout view c.own → IsOfMachine layout local.watching → courses.Fits layout view c
+course-begins layout view who command copies admit local c begins fits of = subst (courses.Fits layout view) (sym begins.is) (record {
   frames_are = refl;
   collector = of;
   noted = omega arith;
@@ -53,8 +55,8 @@ course-begins layout view who command copies denied local c begins fits of = sub
   });
 })
   where
-    begun : HasBegun layout who command copies (said_by denied) local.banks (collects local.watching) c.own
-    begun = has-begun layout who command copies denied local.banks (collects local.watching) c.own begins.begins
+    begun : HasBegun layout who command copies (denial admit) local.banks (collects local.watching) c.own
+    begun = has-begun layout who command copies admit local.banks (collects local.watching) c.own begins.begins
 
     start : IsAtStop c.own
     start = begun.start

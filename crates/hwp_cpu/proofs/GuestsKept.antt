@@ -21,13 +21,13 @@ use Rattle.hwp_cpu_course.specs.hwp_cpu_row.declared.Local.{Local}
 use Rattle.hwp_cpu_course.specs.hwp_cpu_row.declared.Row.{Row}
 use Rattle.hwp_cpu_course.specs.hwp_cpu_row.CowLists.{acting_in, copied_in}
 use Rattle.hwp_cpu_course.specs.hwp_cpu_row.GuestLists as lists
-use Rattle.hwp_cpu_course.specs.hwp_cpu_row.GuestLists.{AreGuestsOf, MayTell, States, denied_in, first_guests, line_in}
+use Rattle.hwp_cpu_course.specs.hwp_cpu_row.GuestLists.{AreGuestsOf, MayTell, States, admission_in, first_guests, line_in}
 use Rattle.hwp_cpu_course.specs.hwp_cpu_row.Locals.{IsFirst, collects}
-use Rattle.hwp_cpu_course.proofs.of_hwp_cpu_row.GuestListLaws.{denied-either, denied-known, first-are, first-known, may-meet, may-tell, told-are, told-known}
+use Rattle.hwp_cpu_course.proofs.of_hwp_cpu_row.GuestListLaws.{denied-known, first-are, first-known, may-meet, may-tell, told-are, told-known}
 use Rattle.hwp_cpu_course.specs.hwp_cpu_command.declared.job.Job.{Job}
 use Rattle.hwp_cpu_course.specs.hwp_cpu_command.Jobs as jobs
 use Rattle.hwp_cpu_course.specs.hwp_cpu_command.Jobs.{denial_of}
-use Rattle.hwp_cpu_course.proofs.of_hwp_cpu_command_laws.CommandRuns.{has-begun, said_by}
+use Rattle.hwp_cpu_course.proofs.of_hwp_cpu_command_laws.CommandRuns.{has-begun}
 use Rattle.hwp_cpu_course.proofs.of_hwp_cpu_command_laws.DeniedAnswers.{IsGone, says-denied, says-plain, unsignalled, untold-denied}
 use Rattle.hwp_cpu_course.specs.declared.Course.{Course}
 use Rattle.hwp_cpu_course.specs.Courses as courses
@@ -46,13 +46,10 @@ use Rattle.hwp_cpu.proofs.Within.{course-denial}
 
 -- ---- a command that begins
 
-said-denied : (layout : Layout) (guests : States) (own : Command) → said_by (denied_in layout guests own) ≡ denied_in layout guests own
-said-denied layout guests own = denied-either layout guests own (λ (o : Option Answer). said_by o ≡ o) refl refl refl
-
 asked-at : (layout : Layout) (by : Who) (earlier : List (Command × Answer)) (local : Local) (o : Option Command) (x : Option Course) → lists.KnowsGuests layout earlier local.guests → BeginsAt layout by o local x → IsAsked layout earlier o x
 asked-at layout by earlier local (Some own) (Some c) known begins =
-    (has-begun layout by (acting_in layout local.cows own) (copied_in local.cows own) (denied_in layout local.guests own) local.banks (collects local.watching) c.own begins.begins).denial
-    ∙ said-denied layout local.guests own ∙ denied-known layout earlier local.guests own known
+    (has-begun layout by (acting_in layout local.cows own) (copied_in local.cows own) (admission_in layout local.guests own) local.banks (collects local.watching) c.own begins.begins).denial
+    ∙ denied-known layout earlier local.guests own known
 asked-at layout by earlier local None None known begins = tt
 asked-at layout by earlier local (Some own) None known begins = absurd begins
 asked-at layout by earlier local None (Some c) known begins = absurd begins

@@ -12,6 +12,7 @@ use Rattle.hwp_cpu_course.specs.hwp_cpu_row.hwp_geom.declared.Layout.{Layout}
 use Rattle.hwp_cpu_course.specs.hwp_cpu_row.hwp_geom.declared.Who.{Who}
 use Rattle.hwp_cpu_course.specs.hwp_cpu_row.hwp_geom.Limits.{command_limit}
 use Rattle.hwp_cpu_course.specs.hwp_cpu_row.hwp_script_lines.declared.Command.{Command}
+use Rattle.hwp_cpu_course.specs.hwp_cpu_row.hwp_cpu_check.hwp_guest.declared.Admit.{Admit}
 use Rattle.hwp_cpu_course.specs.hwp_cpu_row.hwp_report_text.declared.Answer.{Answer}
 use Rattle.hwp_cpu_course.specs.hwp_cpu_row.hwp_core_rule.declared.State.{State}
 use Rattle.hwp_cpu_course.specs.hwp_cpu_row.hwp_core_rule.Moves.{Move}
@@ -38,16 +39,16 @@ use Rattle.hwp_cpu_course.specs.hwp_cpu_row.Locals.{collects}
 use Rattle.hwp_cpu_course.specs.declared.Course.{Course}
 use Rattle.hwp_cpu_course.specs.Courses as courses
 use Rattle.hwp_cpu_course.specs.hwp_cpu_command.declared.job.Job.TheVariants as kinds
-use Rattle.hwp_cpu_course.specs.hwp_cpu_row.GuestLists.{denied_in}
+use Rattle.hwp_cpu_course.specs.hwp_cpu_row.GuestLists.{admission_in}
 
 -- ---- one command
 
 -- one that begins has few turns, holds nothing and claims nothing
-begun-cost : (layout : Layout) (a : State) → Holds layout a → (by : Who) (command : Command) (copies : Option VSlot) (denied : Option Answer) (local : Local) (c : Course) → BeginsCourse layout by command copies denied local c → courses.cost c (words_at layout a) < command_weight
-begun-cost layout a rule by command copies denied local c begins = subst (λ (o : Option Soft). courses.cost_of c o (words_at layout a) < command_weight) (sym (ap (λ (d : Course). d.beside) begins.is)) (which (jobs.plan c.own))
+begun-cost : (layout : Layout) (a : State) → Holds layout a → (by : Who) (command : Command) (copies : Option VSlot) (admit : Admit) (local : Local) (c : Course) → BeginsCourse layout by command copies admit local c → courses.cost c (words_at layout a) < command_weight
+begun-cost layout a rule by command copies admit local c begins = subst (λ (o : Option Soft). courses.cost_of c o (words_at layout a) < command_weight) (sym (ap (λ (d : Course). d.beside) begins.is)) (which (jobs.plan c.own))
   where
     few : jobs.cost c.own (words_at layout a) < 131 * failure_weight
-    few = begins-few layout a by command copies denied local.banks (collects local.watching) c.own rule begins.begins
+    few = begins-few layout a by command copies admit local.banks (collects local.watching) c.own rule begins.begins
 
     flat-few : (j : Job) → courses.flat j ≤ courses.soft_weight * courses.due_room
     flat-few (kinds.Raise r) = omega arith
@@ -64,7 +65,7 @@ begun-cost layout a rule by command copies denied local c begins = subst (λ (o 
 
 begun-idle : (layout : Layout) (a : State) → Holds layout a → (by : Who) (o : Option Command) (local : Local) (x : Option Course) → BeginsAt layout by o local x → (cost_of x (words_at layout a) < command_weight) × (class_of x ≡ 4) × (claims_of x ≡ None)
 begun-idle layout a rule by (Some command) local (Some c) begins = (
-  begun-cost layout a rule by (acting_in layout local.cows command) (copied_in local.cows command) (denied_in layout local.guests command) local c begins,
+  begun-cost layout a rule by (acting_in layout local.cows command) (copied_in local.cows command) (admission_in layout local.guests command) local c begins,
   subst (λ (b : Option Soft). jobs.class (part_of b c.own) ≡ 4) (sym alone) idle.0,
   subst (λ (b : Option Soft). jobs.claims (part_of b c.own) ≡ None) (sym alone) idle.1,
 )
@@ -73,7 +74,7 @@ begun-idle layout a rule by (Some command) local (Some c) begins = (
     alone = ap (λ (d : Course). d.beside) begins.is
 
     idle : (jobs.class c.own ≡ 4) × (jobs.claims c.own ≡ None)
-    idle = (has-begun layout by (acting_in layout local.cows command) (copied_in local.cows command) (denied_in layout local.guests command) local.banks (collects local.watching) c.own begins.begins).idle
+    idle = (has-begun layout by (acting_in layout local.cows command) (copied_in local.cows command) (admission_in layout local.guests command) local.banks (collects local.watching) c.own begins.begins).idle
 begun-idle layout a rule by None local None begins = (omega arith, refl, refl)
 begun-idle layout a rule by (Some command) local None begins = absurd begins
 begun-idle layout a rule by None local (Some c) begins = absurd begins

@@ -4,6 +4,7 @@ use Rattle.hwp_cpu_course.specs.hwp_cpu_row.hwp_geom.declared.VSlot.{VSlot}
 use Rattle.hwp_cpu_course.specs.hwp_cpu_row.CowLists.{KnowsCows, acting_in, copied_in, first_cows}
 use Rattle.hwp_cpu_course.proofs.of_hwp_cpu_row.CowListLaws.{acting-known, copied-known, first-are, first-known}
 use Rattle.hwp_cpu_course.specs.hwp_cpu_command.Runs.{CanFork}
+use Rattle.hwp_cpu_course.specs.hwp_cpu_row.hwp_cpu_check.hwp_guest.declared.Admit.{Admit}
 use Rattle.hwp_cpu_course.specs.hwp_cpu_row.hwp_report_text.declared.Answer.{Answer}
 use Rattle.hwp_cpu.proofs.ActingFits.{at-least, fork-acted}
 use Rattle.hwp_cpu.proofs.FreshChildren.{can-fork}
@@ -49,7 +50,7 @@ use Rattle.hwp_cpu_course.specs.hwp_cpu_row.hwp_law_commands.Commands.{is_watch}
 use Rattle.hwp_cpu_course.specs.hwp_cpu_command.hwp_scrub.Visits.{AreBanks}
 use Rattle.hwp_cpu_course.specs.declared.Course.{Course}
 use Rattle.hwp_cpu_course.specs.hwp_cpu_command.Jobs as jobs
-use Rattle.hwp_cpu_course.specs.hwp_cpu_row.GuestLists.{denied_in}
+use Rattle.hwp_cpu_course.specs.hwp_cpu_row.GuestLists.{admission_in}
 
 module _ (layout : Layout) (cpu : Cpu) (list : List Command) (are : AreCommands layout cpu list) (at-first : Local) (is_first : IsFirst layout (list_any is_watch list) at-first) where
   abbrev view : View
@@ -129,15 +130,15 @@ module _ (layout : Layout) (cpu : Cpu) (list : List Command) (are : AreCommands 
       which true None is has = absurd has
       which false w is has = absurd (true≢false (sym is))
 
-  module _ (own : Command) (c : Course) (there : slice_get list 0 ≡ Some own) (begins : BeginsCourse layout (at_number cpu 0) (acting_in layout at-first.cows own) (copied_in at-first.cows own) (denied_in layout at-first.guests own) at-first c) where
+  module _ (own : Command) (c : Course) (there : slice_get list 0 ≡ Some own) (begins : BeginsCourse layout (at_number cpu 0) (acting_in layout at-first.cows own) (copied_in at-first.cows own) (admission_in layout at-first.guests own) at-first c) where
     abbrev command : Command
     command = acting_in layout at-first.cows own
 
     abbrev copies : Option VSlot
     copies = copied_in at-first.cows own
 
-    abbrev denied : Option Answer
-    denied = denied_in layout at-first.guests own
+    abbrev admit : Admit
+    admit = admission_in layout at-first.guests own
 
     next : IsActedOn layout list [] command copies
     next = record { own = own; there = there; acts = acting-known layout (answers_by list []) at-first.cows own remembers.known; copies_are = copied-known layout (answers_by list []) at-first.cows own remembers.known }
@@ -147,10 +148,10 @@ module _ (layout : Layout) (cpu : Cpu) (list : List Command) (are : AreCommands 
     forks-so = fork-acted view (at_number cpu 0) layout at-first.cows own (can-fork layout cpu list [] are.forks are.once view unset own there (at-least (IsCommandOf layout cpu.0) list 0 own are.named there))
 
     start : IsAtStop c.own
-    start = begins-stop layout (at_number cpu 0) command copies denied at-first.banks (collects at-first.watching) c.own begins.begins
+    start = begins-stop layout (at_number cpu 0) command copies admit at-first.banks (collects at-first.watching) c.own begins.begins
 
     own-fits : jobs.FitsFrom [] layout view c.own
-    own-fits = begins-fits layout view (at_number cpu 0) command copies denied at-first.banks (collects at-first.watching) c.own begins.begins (subst AreBanks (sym is_first.banks) empty-free) (record {
+    own-fits = begins-fits layout view (at_number cpu 0) command copies admit at-first.banks (collects at-first.watching) c.own begins.begins (subst AreBanks (sym is_first.banks) empty-free) (record {
       on_turn = first-turn;
       hand_is = refl;
       paid = refl;
@@ -162,9 +163,9 @@ module _ (layout : Layout) (cpu : Cpu) (list : List Command) (are : AreCommands 
 
     way : IsUnderWay layout view cpu list [] (local_left c at-first) command copies c
     way = record {
-      serves = serves (banks_before c.own (left_in c.own at-first.banks)) (before-begins layout (at_number cpu 0) command copies denied at-first.banks (collects at-first.watching) c.own begins.begins ∙ is_first.banks);
+      serves = serves (banks_before c.own (left_in c.own at-first.banks)) (before-begins layout (at_number cpu 0) command copies admit at-first.banks (collects at-first.watching) c.own begins.begins ∙ is_first.banks);
       next = next;
-      runs = begins-runs layout (at_number cpu 0) command copies denied at-first.banks (collects at-first.watching) c.own begins.begins;
+      runs = begins-runs layout (at_number cpu 0) command copies admit at-first.banks (collects at-first.watching) c.own begins.begins;
       handle = begins.handle;
       policies = counted-starts (λ (thread : Thread). settings layout thread (answers_by list [])) view c.own start unset;
       stopped = λ some. absurd (none-some _ some.2);
@@ -179,7 +180,7 @@ module _ (layout : Layout) (cpu : Cpu) (list : List Command) (are : AreCommands 
 
     running : FitsAt layout view cpu list [] (local_left c at-first) (Some c)
     running = (
-      course-begins layout view (at_number cpu 0) command copies denied at-first c begins own-fits (of-machine layout (watched_at layout list [] 0) at-first.watching watching),
+      course-begins layout view (at_number cpu 0) command copies admit at-first c begins own-fits (of-machine layout (watched_at layout list [] 0) at-first.watching watching),
       inl (record {
         command = command;
         copies = copies;

@@ -29,7 +29,7 @@ use Rattle.hwp_cpu_course.specs.Courses.{BeginsCourse, local_after, local_left, 
 use Rattle.hwp_cpu_course.specs.hwp_cpu_row.declared.Local.{Local}
 use Rattle.hwp_cpu_course.specs.hwp_cpu_row.CowLists.{acting_in, copied_in, told_in}
 use Rattle.hwp_cpu_course.specs.hwp_cpu_row.GuestLists as guests
-use Rattle.hwp_cpu_course.specs.hwp_cpu_row.GuestLists.{MayMeet, MayTell, States, denied_in, line_in}
+use Rattle.hwp_cpu_course.specs.hwp_cpu_row.GuestLists.{MayMeet, MayTell, States, admission_in, line_in}
 use Rattle.hwp_cpu_course.specs.hwp_cpu_row.Locals.{IsFirst}
 use Rattle.hwp_cpu_course.specs.hwp_cpu_row.declared.Row.{Row}
 use Rattle.hwp_cpu_course.specs.hwp_cpu_row.hwp_report_text.declared.GuestLine.{GuestLine}
@@ -59,10 +59,11 @@ pub record IsReady (p : Processor) : Type 0 where
   pub room : length p.commands ≤ vec_capacity p.rows
 
 -- the command is at its beginning, of a processor that carries this: it is acted on through the translations that stand for those it names,
--- and copies from one that is frozen; one that its guest doesn't admit is answered by that guest; it begins with what the banks hold, and with the number of its file's handle, knows whether the
--- processor collects, and has the collector while it runs; past the last command none runs
+-- and copies from one that is frozen; one that its guest doesn't admit is answered by that guest; it begins with what the banks hold, and
+-- with the number of its file's handle, knows whether the processor collects, and has the collector while it runs; past the last command
+-- none runs
 abbrev pub BeginsAt : Layout → Who → Option Command → Local → Option Course → Type 0
-BeginsAt layout who (Some command) local (Some c) = BeginsCourse layout who (acting_in layout local.cows command) (copied_in local.cows command) (denied_in layout local.guests command) local c
+BeginsAt layout who (Some command) local (Some c) = BeginsCourse layout who (acting_in layout local.cows command) (copied_in local.cows command) (admission_in layout local.guests command) local c
 BeginsAt layout who None local None = Unit {0}
 BeginsAt layout who _ local _ = ⊥
 

@@ -162,8 +162,8 @@ fn first(
     let who = Who { cpu, seq: 0 };
     let copies = local.cows.copied_from(command);
     let acting = local.cows.acting(layout, command);
-    let denied = local.guests.denied(layout, command);
-    Some(Course::new(alloc, layout, who, acting, copies, denied, local))
+    let admit = local.guests.admission(layout, command);
+    Some(Course::new(alloc, layout, who, acting, copies, admit, local))
 }
 
 /// The command of this number begins in the same way, in place of the one that runs; past the last none runs.
@@ -193,9 +193,9 @@ fn begin_next(
     };
     let copies = local.cows.copied_from(command);
     let acting = local.cows.acting(layout, command);
-    let denied = local.guests.denied(layout, command);
+    let admit = local.guests.admission(layout, command);
     match course {
-        Some(running) => running.begin_next(alloc, layout, who, acting, copies, denied, local),
+        Some(running) => running.begin_next(alloc, layout, who, acting, copies, admit, local),
         None => unreachable!(),
     }
 }

@@ -1,7 +1,7 @@
 -- A command that is an access: what it names is declared, and the task of what it asks for begins it.
-use Rattle.std.proofs.Common.{◌≡◌, ℕ, ◌<◌, Bool, None, Option, Some, slice_get, sym, ap, subst}
+use Rattle.std.proofs.Common.{◌≡◌, ℕ, ◌<◌, Bool, None, Option, Some, length, slice_get, refl, sym, ap, subst}
 use Rattle.std.specs.Prelude.{IsSomeAnd}
-use Rattle.std.proofs.lemmas.Option.{none-some, same_Some}
+use Rattle.std.proofs.lemmas.Option.{none-some, same_Some, slice_get_within}
 use Rattle.hwp_cpu_control.specs.hwp_geom.declared.Layout.{Layout}
 use Rattle.hwp_cpu_control.specs.hwp_geom.declared.ThreadDecl.{ThreadDecl}
 use Rattle.hwp_cpu_control.specs.hwp_geom.declared.TransDecl.{TransDecl}
@@ -10,7 +10,7 @@ use Rattle.hwp_cpu_control.specs.hwp_geom.Limits.{line_limit}
 use Rattle.hwp_cpu_row.specs.hwp_banks.Banks.{Banks}
 use Rattle.hwp_cpu_row.specs.hwp_script_lines.declared.Command.{Command}
 use Rattle.hwp_cpu_row.specs.hwp_script_lines.declared.Command.TheVariants as commands
-use Rattle.hwp_cpu_row.specs.hwp_script_read.Valid.{IsAccess, IsCommandOf, IsThreadOf}
+use Rattle.hwp_cpu_row.specs.hwp_script_read.Valid.{IsAccess, IsCommandOf}
 use Rattle.hwp_cpu_row.specs.hwp_law_commands.Commands.{access, access_of}
 use Rattle.hwp_cpu_command.specs.declared.begin.LineAccess.{LineAccess}
 use Rattle.hwp_cpu_command.specs.declared.job.Job.{Job}
@@ -41,10 +41,10 @@ access-is (commands.KLoad thread slot line) at is = ap (λ (a : LineAccess). Som
 access-is (commands.Store thread slot line word) at is = ap (λ (a : LineAccess). Some (access a.thread a.slot a.line)) (same_Some _ at is)
 access-is command at is = absurd (none-some at is)
 
--- its thread is one of the processor
-pub access-thread : (layout : Layout) (cpu : ℕ) (command : Command) (at : LineAccess) → access_in command ≡ Some at → IsCommandOf layout cpu command → IsThreadOf layout cpu at.thread
-access-thread layout cpu command at is of = which (slice_get layout.threads at.thread.0) (access-declared layout cpu command at is of).0
+-- its thread is declared
+pub access-thread : (layout : Layout) (cpu : ℕ) (command : Command) (at : LineAccess) → access_in command ≡ Some at → IsCommandOf layout cpu command → at.thread.0 < length layout.threads
+access-thread layout cpu command at is of = which (slice_get layout.threads at.thread.0) refl (access-declared layout cpu command at is of).0
   where
-    which : (o : Option ThreadDecl) → IsSomeAnd o (λ (t : ThreadDecl). (t.cpu.0 ≡ cpu) × IsSomeAnd (slice_get layout.trans at.slot.0) (λ (v : TransDecl). v.process ≡ t.process)) → IsSomeAnd o (λ (t : ThreadDecl). t.cpu.0 ≡ cpu)
-    which None has = absurd has
-    which (Some t) has = has.0
+    which : (o : Option ThreadDecl) → slice_get layout.threads at.thread.0 ≡ o → IsSomeAnd o (λ (t : ThreadDecl). (t.cpu.0 ≡ cpu) × IsSomeAnd (slice_get layout.trans at.slot.0) (λ (v : TransDecl). v.process ≡ t.process)) → at.thread.0 < length layout.threads
+    which None there has = absurd has
+    which (Some t) there has = slice_get_within layout.threads at.thread.0 t there

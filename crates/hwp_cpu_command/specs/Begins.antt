@@ -26,8 +26,8 @@ use Rattle.hwp_cpu_row.specs.hwp_script_lines.declared.PrctlArgs.{PrctlArgs}
 use Rattle.hwp_cpu_row.specs.hwp_script_read.Valid.{IsAccess, IsCommandOf}
 use Rattle.hwp_cpu_row.specs.hwp_banks.Banks.{Banks}
 use Rattle.hwp_cpu_row.specs.hwp_law_commands.Commands.{Access, access_of, arrival_of, process_of_thread}
-use Rattle.hwp_cpu_row.specs.hwp_report_text.declared.Answer.{Answer}
-use Rattle.hwp_cpu_row.specs.hwp_report_text.declared.Answer.TheVariants as answers
+use Rattle.hwp_cpu_row.specs.hwp_cpu_check.hwp_guest.declared.Admit.{Admit}
+use Rattle.hwp_cpu_row.specs.hwp_cpu_check.hwp_guest.declared.Admit.TheVariants as admissions
 use Rattle.hwp_cpu_row.specs.hwp_banks.Banks.{raw_event}
 use Rattle.hwp_cpu_row.specs.hwp_law_commands.Settings.{arguments}
 use Rattle.hwp_cpu_control.specs.declared.Denial.{Denial}
@@ -260,11 +260,6 @@ abbrev pub CanCopy : Layout → ℕ → Command → Option VSlot → Type 0
 CanCopy layout cpu command None = Unit {0}
 CanCopy layout cpu command (Some from) = CanCopyFrom layout cpu command from
 
--- why a guest doesn't admit an access that it answers so
-abbrev pub denial_by : Answer → Denial
-denial_by answers.GuestStopped = denials.Stopped
-denial_by answer = denials.BadFrame
-
 -- an access that its guest doesn't admit, for this reason, by a thread of the processor; it would have copied from the translation, where there
 -- is one
 pub record IsDenied (layout : Layout) (who : Who) (command : Command) (copies : Option VSlot) (why : Denial) (j : Job) : Type 0 where
@@ -278,19 +273,17 @@ pub record IsDenied (layout : Layout) (who : Who) (command : Command) (copies : 
   pub within : process.0 < layout.procs
   pub job_is : j ≡ jobs.Denied (denieds.begin who process why)
 
-abbrev pub BeginsDenied : Layout → Who → Command → Option VSlot → Answer → Job → Type 0
-BeginsDenied layout who command copies answer j = IsDenied layout who command copies (denial_by answer) j
-
 -- from wherever it would have copied
-abbrev pub IsDeniedAnyhow : Layout → Who → Command → Answer → Job → Type 0
-IsDeniedAnyhow layout who command answer j = (copies : Option VSlot) → CanCopy layout who.cpu.0 command copies → BeginsDenied layout who command copies answer j
+abbrev pub IsDeniedAnyhow : Layout → Who → Command → Denial → Job → Type 0
+IsDeniedAnyhow layout who command why j = (copies : Option VSlot) → CanCopy layout who.cpu.0 command copies → IsDenied layout who command copies why j
 
--- and of one that is answered so by a guest, where there is such an answer
-abbrev pub BeginsWith : Layout → Who → Command → Option VSlot → Option Answer → Banks → Bool → Job → Type 0
-BeginsWith layout who command copies None banks collects j = BeginsAs layout who command copies banks collects j
-BeginsWith layout who command copies (Some answer) banks collects j = BeginsDenied layout who command copies answer j
+-- and of one that its guest admits so, or doesn't
+abbrev pub BeginsWith : Layout → Who → Command → Option VSlot → Admit → Banks → Bool → Job → Type 0
+BeginsWith layout who command copies admissions.Yes banks collects j = BeginsAs layout who command copies banks collects j
+BeginsWith layout who command copies admissions.Bad banks collects j = IsDenied layout who command copies denials.BadFrame j
+BeginsWith layout who command copies admissions.Stopped banks collects j = IsDenied layout who command copies denials.Stopped j
 
 -- only an access can be denied
-abbrev pub CanDeny : Command → Option Answer → Type 0
-CanDeny command None = Unit {0}
-CanDeny command (Some answer) = IsSome (access_of command)
+abbrev pub CanDeny : Command → Admit → Type 0
+CanDeny command admissions.Yes = Unit {0}
+CanDeny command _ = IsSome (access_of command)

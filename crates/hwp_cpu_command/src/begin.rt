@@ -19,7 +19,7 @@ ghost use Rattle.hwp_evict.specs.Fsyncs as fsyncs;
 ghost use Rattle.hwp_cpu_raise.specs.declared.LocalChange.TheVariants as changes;
 ghost use Rattle.hwp_cpu_raise.specs.Logs as logs;
 ghost use Rattle.hwp_cpu_raise.specs.Raises as raises;
-ghost use Rattle.hwp_cpu_command.specs.Begins.{Begins, BeginsAs, BeginsCopy, BeginsFork, BeginsLine, BeginsPrctl, BeginsRaiseUser, BeginsWith, CanCopy, CanCopyFrom, CanDeny, IsDeniedAnyhow, access_in, begun_access, denial_by, is_raise, line_access, request_of};
+ghost use Rattle.hwp_cpu_command.specs.Begins.{Begins, BeginsAs, BeginsCopy, BeginsFork, BeginsLine, BeginsPrctl, BeginsRaiseUser, BeginsWith, CanCopy, CanCopyFrom, CanDeny, IsDeniedAnyhow, access_in, begun_access, is_raise, line_access, request_of};
 ghost use Rattle.hwp_cpu_command.specs.FileHandles.{HasHandle, local_left};
 ghost use Rattle.hwp_cpu_command.specs.Jobs.{left_in};
 ghost use Rattle.hwp_cpu_command.specs.declared.job.Job.TheVariants as jobs;
@@ -29,8 +29,8 @@ use hwp_cpu_control::{Denial, Denied, Fork, Nested, Prctl, Spoil, Targets};
 use hwp_cpu_copy::{AccessKind, Copying, Instruction, Request};
 use hwp_cpu_raise::{LocalChange, Log, Raise, Raiser};
 use hwp_cpu_row::{
-    Answer, BANKS, Bank, Command, Event, Handles, Inject, Local, McgBits, Origin, PrctlArgs,
-    Status, Watching, no_events,
+    Admit, BANKS, Bank, Command, Event, Handles, Inject, Local, McgBits, Origin, PrctlArgs, Status,
+    Watching, no_events,
 };
 use hwp_evict::{
     Damage, Evict, FileNo, Frame, Fsync, Layout, Line, Mode, Page, Proc, Thread, VSlot, Who,
@@ -43,26 +43,26 @@ use std::mem;
 impl Job {
     /// The command at its beginning. One that can log or raise an event takes what the banks of its processor hold, and an `fsync`
     /// or an `open` gets the number of the processor's handle of the file. A store copies the page of the translation `copies` first, where
-    /// there is one. An access that its guest doesn't admit is answered by `denied`, where that is an answer.
+    /// there is one. An access that its guest doesn't admit does nothing, and is answered so.
     pub fn new(
         alloc: Global,
         layout: &Layout,
         who: Who,
         command: Command,
         copies: Option<VSlot>,
-        denied: Option<Answer>,
+        admit: Admit,
         local: &mut Local,
     ) -> Job
         requires sound { IsSound layout.now }
         requires of { IsCommandOf layout.now who.cpu.0 command }
         requires copies { CanCopy layout.now who.cpu.0 command copies }
-        requires denied { CanDeny command denied }
-        ensures begins { BeginsWith layout.now who command copies denied local.old.banks (collects local.old.watching) result }
+        requires denied { CanDeny command admit }
+        ensures begins { BeginsWith layout.now who command copies admit local.old.banks (collects local.old.watching) result }
         ensures handle { HasHandle local.old.handles result }
         ensures local { local.new ≡ local_left result local.old }
     {
         let mut job = Job::Nested(Nested::new(who));
-        job.begin_next(alloc, layout, who, command, copies, denied, local);
+        job.begin_next(alloc, layout, who, command, copies, admit, local);
         job
     }
 
@@ -74,20 +74,21 @@ impl Job {
         who: Who,
         command: Command,
         copies: Option<VSlot>,
-        denied: Option<Answer>,
+        admit: Admit,
         local: &mut Local,
     )
         requires sound { IsSound layout.now }
         requires of { IsCommandOf layout.now who.cpu.0 command }
         requires copies { CanCopy layout.now who.cpu.0 command copies }
-        requires denied { CanDeny command denied }
-        ensures begins { BeginsWith layout.now who command copies denied local.old.banks (collects local.old.watching) self.new }
+        requires denied { CanDeny command admit }
+        ensures begins { BeginsWith layout.now who command copies admit local.old.banks (collects local.old.watching) self.new }
         ensures handle { HasHandle local.old.handles self.new }
         ensures local { local.new ≡ local_left self.new local.old }
     {
-        match denied {
-            Some(answer) => deny(layout, who, &command, answer, self),
-            None => self.begin_own(alloc, layout, who, command, copies, local),
+        match admit {
+            Admit::Yes => self.begin_own(alloc, layout, who, command, copies, local),
+            Admit::Bad => deny(layout, who, &command, Denial::BadFrame, self),
+            Admit::Stopped => deny(layout, who, &command, Denial::Stopped, self),
         }
     }
 
@@ -139,42 +140,29 @@ fn collects(watching: &Option<Watching>) -> bool
 }
 
 /// An access that its guest doesn't admit, at its beginning, which leaves the banks as they are.
-fn deny(layout: &Layout, who: Who, command: &Command, answer: Answer, job: &mut Job)
+fn deny(layout: &Layout, who: Who, command: &Command, why: Denial, job: &mut Job)
     requires sound { IsSound layout.now }
     requires of { IsCommandOf layout.now who.cpu.0 command.now }
     requires access { IsSome (access_of command.now) }
-    ensures begins { IsDeniedAnyhow layout.now who command.now answer job.new }
+    ensures begins { IsDeniedAnyhow layout.now who command.now why job.new }
     ensures handle { (handles : List ℕ) → HasHandle handles job.new }
     ensures banks { (banks : Banks) → left_in job.new banks ≡ banks }
 {
     let Some(at) = access_in(command) else {
         unreachable!();
     };
-    let process = process_of(layout, who, at.thread);
-    set(
-        job,
-        Job::Denied(Denied::new(who, process, denial_by(answer))),
-    );
+    let process = process_of(layout, at.thread);
+    set(job, Job::Denied(Denied::new(who, process, why)));
 }
 
-/// The process of a thread of the processor.
-fn process_of(layout: &Layout, who: Who, thread: Thread) -> Proc
+/// The process of a thread.
+fn process_of(layout: &Layout, thread: Thread) -> Proc
     requires sound { IsSound layout.now }
-    requires of { IsThreadOf layout.now who.cpu.0 thread }
+    requires declared { thread.0 < length layout.now.threads }
     ensures process { process_of_thread layout.now thread ≡ Some result }
     ensures within { result.0 < layout.now.procs }
 {
     layout.threads.as_slice()[usize::from(thread.0)].process
-}
-
-/// Why a guest doesn't admit an access that it answers so.
-fn denial_by(answer: Answer) -> Denial
-    ensures { result ≡ denial_by answer }
-{
-    match answer {
-        Answer::GuestStopped => Denial::Stopped,
-        _ => Denial::BadFrame,
-    }
 }
 
 /// A store that copies the page of a translation first, at its beginning, which takes what the banks hold.

@@ -7,7 +7,10 @@ use Rattle.hwp_cpu_command.specs.hwp_geom.declared.VSlot.{VSlot}
 use Rattle.hwp_cpu_command.specs.hwp_geom.declared.Who.{Who}
 use Rattle.hwp_cpu_command.specs.hwp_banks.declared.Origin.{Origin}
 use Rattle.hwp_cpu_command.specs.hwp_banks.Events.{bank_count}
-use Rattle.hwp_cpu_command.specs.hwp_report_text.declared.Answer.{Answer}
+use Rattle.hwp_cpu_command.specs.hwp_cpu_check.hwp_guest.declared.Admit.{Admit}
+use Rattle.hwp_cpu_command.specs.hwp_cpu_check.hwp_guest.declared.Admit.TheVariants as admissions
+use Rattle.hwp_cpu_command.specs.hwp_cpu_control.declared.Denial.{Denial}
+use Rattle.hwp_cpu_command.specs.hwp_cpu_control.declared.Denial.TheVariants as denials
 use Rattle.hwp_cpu_command.specs.hwp_script_lines.declared.Command.{Command}
 use Rattle.hwp_cpu_command.specs.hwp_script_lines.declared.Command.TheVariants as commands
 use Rattle.hwp_cpu_command.specs.hwp_core_rule.declared.State.{State}
@@ -58,7 +61,7 @@ use Rattle.hwp_cpu_command.specs.hwp_soft_unpoison.Unpoisons as unpoisons
 use Rattle.hwp_cpu_command.proofs.of_hwp_soft_unpoison.UnpoisonCosts.{small as unpoison-small}
 use Rattle.hwp_cpu_command.specs.declared.job.Job.{Job}
 use Rattle.hwp_cpu_command.specs.declared.job.Job.TheVariants as jobs
-use Rattle.hwp_cpu_command.specs.Begins.{Begins, BeginsAccess, BeginsCopy, BeginsDenied, BeginsWith, request_of}
+use Rattle.hwp_cpu_command.specs.Begins.{Begins, BeginsAccess, BeginsCopy, BeginsWith, IsDenied, request_of}
 use Rattle.hwp_cpu_command.specs.Jobs.{Fits, cost}
 use Rattle.hwp_cpu_command.specs.hwp_geom.Limits.{frame_limit}
 
@@ -166,10 +169,11 @@ copy-few layout a by (commands.Store thread slot line word) from banks collects 
 copy-few layout a by command from banks collects j rule b = absurd b
 
 -- one that its guest doesn't admit looks twice
-denied-few : (layout : Layout) (a : State) (by : Who) (command : Command) (copies : Option VSlot) (answer : Answer) (j : Job) → BeginsDenied layout by command copies answer j → cost j (words_at layout a) < 131 * failure_weight
-denied-few layout a by command copies answer j b = subst (λ (x : Job). cost x (words_at layout a) < 131 * failure_weight) (sym b.job_is) (omega arith)
+denied-few : (layout : Layout) (a : State) (by : Who) (command : Command) (copies : Option VSlot) (why : Denial) (j : Job) → IsDenied layout by command copies why j → cost j (words_at layout a) < 131 * failure_weight
+denied-few layout a by command copies why j b = subst (λ (x : Job). cost x (words_at layout a) < 131 * failure_weight) (sym b.job_is) (omega arith)
 
-pub begins-few : (layout : Layout) (a : State) (by : Who) (command : Command) (copies : Option VSlot) (denied : Option Answer) (banks : Banks) (collects : Bool) (j : Job) → Holds layout a → BeginsWith layout by command copies denied banks collects j → cost j (words_at layout a) < 131 * failure_weight
-begins-few layout a by command copies (Some answer) banks collects j rule begun = denied-few layout a by command copies answer j begun
-begins-few layout a by command None None banks collects j rule begun = plain-few layout a by command banks collects j rule begun
-begins-few layout a by command (Some from) None banks collects j rule begun = copy-few layout a by command from banks collects j rule begun
+pub begins-few : (layout : Layout) (a : State) (by : Who) (command : Command) (copies : Option VSlot) (admit : Admit) (banks : Banks) (collects : Bool) (j : Job) → Holds layout a → BeginsWith layout by command copies admit banks collects j → cost j (words_at layout a) < 131 * failure_weight
+begins-few layout a by command copies admissions.Bad banks collects j rule begun = denied-few layout a by command copies denials.BadFrame j begun
+begins-few layout a by command copies admissions.Stopped banks collects j rule begun = denied-few layout a by command copies denials.Stopped j begun
+begins-few layout a by command None admissions.Yes banks collects j rule begun = plain-few layout a by command banks collects j rule begun
+begins-few layout a by command (Some from) admissions.Yes banks collects j rule begun = copy-few layout a by command from banks collects j rule begun

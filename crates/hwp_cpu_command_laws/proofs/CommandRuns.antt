@@ -1,5 +1,5 @@
 -- A task stays one of its command, from the beginning on; and a command that may begin fits.
-use Rattle.std.proofs.Common.{◌≡◌, inl, inr, ℕ, Bool, true, false, [], Option, Some, None, option_map, refl, sym, ap, ◌∙◌, subst}
+use Rattle.std.proofs.Common.{◌≡◌, inl, inr, ℕ, Bool, true, false, [], Option, Some, None, refl, sym, ap, ◌∙◌, subst}
 use Rattle.std.specs.declared.alloc.Global.{Global}
 use Rattle.hwp_cpu_command.specs.hwp_geom.declared.Damage.{Damage}
 use Rattle.hwp_cpu_command.specs.hwp_geom.declared.FileNo.{FileNo}
@@ -24,7 +24,11 @@ use Rattle.hwp_cpu_command.specs.hwp_core_rule.declared.View.{View}
 use Rattle.hwp_cpu_command.specs.hwp_core_task.declared.Turn.{Turn}
 use Rattle.hwp_cpu_command.specs.hwp_banks.Banks.{Banks}
 use Rattle.hwp_cpu_command.specs.hwp_report_text.declared.Answer.{Answer}
+use Rattle.hwp_cpu_command.specs.hwp_cpu_check.hwp_guest.declared.Admit.{Admit}
+use Rattle.hwp_cpu_command.specs.hwp_cpu_check.hwp_guest.declared.Admit.TheVariants as admissions
+use Rattle.hwp_cpu_command.specs.hwp_law_commands.Guests as guests
 use Rattle.hwp_cpu_command.specs.hwp_cpu_control.declared.Denial.{Denial}
+use Rattle.hwp_cpu_command.specs.hwp_cpu_control.declared.Denial.TheVariants as denials
 use Rattle.hwp_cpu_command.specs.hwp_cpu_control.declared.ReadStopAnswer.{ReadStopAnswer}
 use Rattle.hwp_cpu_command.specs.hwp_evict.declared.Evict.{Evict}
 use Rattle.hwp_cpu_command.specs.hwp_evict.declared.EvictAnswer.{EvictAnswer}
@@ -74,7 +78,7 @@ use Rattle.hwp_cpu_command.proofs.of_hwp_scrub.ScrubLaws as scrubbing
 use Rattle.hwp_cpu_command.specs.hwp_soft.declared.Soft.{Soft}
 use Rattle.hwp_cpu_command.specs.declared.job.Job.{Job}
 use Rattle.hwp_cpu_command.specs.declared.job.Job.TheVariants as jobs
-use Rattle.hwp_cpu_command.specs.Begins.{Begins, BeginsAccess, BeginsAs, BeginsCopy, BeginsCopying, BeginsFork, BeginsWith, IsDenied, denial_by, BeginsEviction, BeginsFsync, BeginsInject, BeginsLog, BeginsPrctl, BeginsRaiseKernel, BeginsRaiseUser, BeginsScrub, BeginsSoft, BeginsSpoil, BeginsUnpoison, request_of}
+use Rattle.hwp_cpu_command.specs.Begins.{Begins, BeginsAccess, BeginsAs, BeginsCopy, BeginsCopying, BeginsFork, BeginsWith, IsDenied, BeginsEviction, BeginsFsync, BeginsInject, BeginsLog, BeginsPrctl, BeginsRaiseKernel, BeginsRaiseUser, BeginsScrub, BeginsSoft, BeginsSpoil, BeginsUnpoison, request_of}
 use Rattle.hwp_cpu_command.specs.Answers.{denial_answer}
 use Rattle.hwp_cpu_command.specs.Done.{can_fail}
 use Rattle.hwp_cpu_command.specs.Jobs.{FitsFrom, Next, banks_before, bare, claims, class, denial_of, left_in, who}
@@ -397,21 +401,19 @@ denied-begun layout by command copies why banks collects j begun = subst (HasBeg
 pub runs-admitted : (layout : Layout) (by : Who) (command : Command) (copies : Option VSlot) (j : Job) → RunsAs layout by command copies j → denial_of j ≡ None
 runs-admitted layout by command copies j runs = sym (denial-anew j) ∙ (as-begun layout by command copies (banks_before j []) (collects_now j) (anew j) runs).denial
 
--- what a guest says that doesn't admit it, by the answer that it was asked for
-abbrev pub said_by : Option Answer → Option Answer
-said_by denied = option_map (λ (a : Answer). denial_answer (denial_by a)) denied
-
-pub has-begun : (layout : Layout) (by : Who) (command : Command) (copies : Option VSlot) (denied : Option Answer) (banks : Banks) (collects : Bool) (j : Job) → BeginsWith layout by command copies denied banks collects j → HasBegun layout by command copies (said_by denied) banks collects j
-has-begun layout by command copies None banks collects j begun = as-begun layout by command copies banks collects j begun
-has-begun layout by command copies (Some answer) banks collects j begun = denied-begun layout by command copies (denial_by answer) banks collects j begun
+-- a guest that doesn't admit it says so
+pub has-begun : (layout : Layout) (by : Who) (command : Command) (copies : Option VSlot) (admit : Admit) (banks : Banks) (collects : Bool) (j : Job) → BeginsWith layout by command copies admit banks collects j → HasBegun layout by command copies (guests.denial admit) banks collects j
+has-begun layout by command copies admissions.Yes banks collects j begun = as-begun layout by command copies banks collects j begun
+has-begun layout by command copies admissions.Bad banks collects j begun = denied-begun layout by command copies denials.BadFrame banks collects j begun
+has-begun layout by command copies admissions.Stopped banks collects j begun = denied-begun layout by command copies denials.Stopped banks collects j begun
 
 -- so is the task that it runs as, begun anew
 runs-begun : (layout : Layout) (by : Who) (command : Command) (copies : Option VSlot) (j : Job) → Runs layout by command copies j → (said : Option Answer) × HasBegun layout by command copies said (banks_before j []) (collects_now j) (anew j)
 runs-begun layout by command copies j (inl denied) = (Some (denial_answer denied.0), denied-begun layout by command copies denied.0 (banks_before j []) (collects_now j) (anew j) denied.1)
 runs-begun layout by command copies j (inr runs) = (None, as-begun layout by command copies (banks_before j []) (collects_now j) (anew j) runs)
 
-pub begins-runs : (layout : Layout) (who : Who) (command : Command) (copies : Option VSlot) (denied : Option Answer) (banks : Banks) (collects : Bool) (j : Job) → BeginsWith layout who command copies denied banks collects j → Runs layout who command copies j
-begins-runs layout by command copies denied banks collects j begun = (has-begun layout by command copies denied banks collects j begun).runs
+pub begins-runs : (layout : Layout) (who : Who) (command : Command) (copies : Option VSlot) (admit : Admit) (banks : Banks) (collects : Bool) (j : Job) → BeginsWith layout who command copies admit banks collects j → Runs layout who command copies j
+begins-runs layout by command copies admit banks collects j begun = (has-begun layout by command copies admit banks collects j begun).runs
 
 anew-within : (j : Job) → HasChangeWithin (anew j) → HasChangeWithin j
 anew-within (jobs.Log l) within = within
@@ -421,8 +423,8 @@ anew-within _ within = tt
 pub runs-within : (layout : Layout) (by : Who) (command : Command) (copies : Option VSlot) (j : Job) → Runs layout by command copies j → HasChangeWithin j
 runs-within layout by command copies j runs = anew-within j (runs-begun layout by command copies j runs).1.within
 
-pub before-begins : (layout : Layout) (who : Who) (command : Command) (copies : Option VSlot) (denied : Option Answer) (banks : Banks) (collects : Bool) (j : Job) → BeginsWith layout who command copies denied banks collects j → banks_before j (left_in j banks) ≡ banks
-before-begins layout by command copies denied banks collects j begun = (has-begun layout by command copies denied banks collects j begun).before
+pub before-begins : (layout : Layout) (who : Who) (command : Command) (copies : Option VSlot) (admit : Admit) (banks : Banks) (collects : Bool) (j : Job) → BeginsWith layout who command copies admit banks collects j → banks_before j (left_in j banks) ≡ banks
+before-begins layout by command copies admit banks collects j begun = (has-begun layout by command copies admit banks collects j begun).before
 
 -- the command is the one that is its turn
 anew-who : (j : Job) → who (anew j) ≡ who j
@@ -576,7 +578,8 @@ copying-fits : (layout : Layout) (view : View) (who : Who) (command : Command) (
 copying-fits layout view by (commands.Store thread slot line word) from banks collects j begun rest = copy-fits rest begun
 copying-fits layout view by command from banks collects j begun rest = absurd begun
 
-pub begins-fits : (layout : Layout) (view : View) (who : Who) (command : Command) (copies : Option VSlot) (denied : Option Answer) (banks : Banks) (collects : Bool) (j : Job) → BeginsWith layout who command copies denied banks collects j → AreBanks banks → AtRest view who → KnowsHandle view j → CanFork layout view who command → FitsFrom [] layout view j
-begins-fits layout view by command copies (Some answer) banks collects j begun free rest known fresh = denied-fits rest begun
-begins-fits layout view by command None None banks collects j begun free rest known fresh = plain-fits layout view by command banks collects j begun free rest known fresh
-begins-fits layout view by command (Some from) None banks collects j begun free rest known fresh = copying-fits layout view by command from banks collects j begun rest
+pub begins-fits : (layout : Layout) (view : View) (who : Who) (command : Command) (copies : Option VSlot) (admit : Admit) (banks : Banks) (collects : Bool) (j : Job) → BeginsWith layout who command copies admit banks collects j → AreBanks banks → AtRest view who → KnowsHandle view j → CanFork layout view who command → FitsFrom [] layout view j
+begins-fits layout view by command copies admissions.Bad banks collects j begun free rest known fresh = denied-fits rest begun
+begins-fits layout view by command copies admissions.Stopped banks collects j begun free rest known fresh = denied-fits rest begun
+begins-fits layout view by command None admissions.Yes banks collects j begun free rest known fresh = plain-fits layout view by command banks collects j begun free rest known fresh
+begins-fits layout view by command (Some from) admissions.Yes banks collects j begun free rest known fresh = copying-fits layout view by command from banks collects j begun rest

@@ -47,6 +47,7 @@ use Rattle.hwp_cpu_command.specs.hwp_cpu_copy.declared.copying.CopyingAt.TheVari
 use Rattle.hwp_cpu_command.specs.hwp_cpu_copy.Copyings as copyings
 use Rattle.hwp_cpu_command.specs.hwp_cpu_copy.Fits as copying_fits
 use Rattle.hwp_cpu_command.specs.hwp_cpu_copy.Runs.{Run, checks_by, made_by}
+use Rattle.hwp_cpu_command.specs.hwp_cpu_check.hwp_guest.declared.Admit.{Admit}
 use Rattle.hwp_cpu_command.specs.hwp_cpu_control.declared.Denial.{Denial}
 use Rattle.hwp_cpu_command.specs.hwp_cpu_control.declared.Denial.TheVariants as denials
 use Rattle.hwp_cpu_command.specs.hwp_cpu_control.declared.Denied.{Denied}
@@ -474,8 +475,8 @@ looks-first {new = new} {j = j} {after = after} s start = which (is_stopped s.fo
 
 -- ---- the beginning and the end of a command
 
-pub begins-stop : (layout : Layout) (by : Who) (command : Command) (copies : Option VSlot) (denied : Option Answer) (banks : Banks) (collects : Bool) (j : Job) → BeginsWith layout by command copies denied banks collects j → IsAtStop j
-begins-stop layout by command copies denied banks collects j begins = (has-begun layout by command copies denied banks collects j begins).start
+pub begins-stop : (layout : Layout) (by : Who) (command : Command) (copies : Option VSlot) (admit : Admit) (banks : Banks) (collects : Bool) (j : Job) → BeginsWith layout by command copies admit banks collects j → IsAtStop j
+begins-stop layout by command copies admit banks collects j begins = (has-begun layout by command copies admit banks collects j begins).start
 
 -- what a command saw of the stop word
 halts : {view : View} {by : Who} → SawStop view by → IsHalted view

@@ -58,6 +58,7 @@ use Rattle.hwp_cpu_command_laws.specs.hwp_cpu_command.hwp_soft.declared.soft.Sof
 use Rattle.hwp_cpu_command_laws.specs.hwp_cpu_command.hwp_soft.declared.soft.SoftAt.TheVariants as soft_at
 use Rattle.hwp_cpu_command_laws.specs.hwp_cpu_command.hwp_soft.Offline as offline
 use Rattle.hwp_cpu_command_laws.specs.hwp_cpu_command.hwp_soft.Softs as softs
+use Rattle.hwp_cpu_row.specs.hwp_cpu_check.hwp_guest.declared.Admit.{Admit}
 use Rattle.hwp_cpu_course.specs.declared.course.Course.{Course}
 use Rattle.hwp_cpu_course.specs.Dues.{DueValue, HasCollected, next_due, no_due, with_offlining}
 
@@ -67,10 +68,10 @@ use Rattle.hwp_cpu_course.specs.Dues.{DueValue, HasCollected, next_due, no_due, 
 abbrev pub begin : Job → Option Watching → ℕ → Course
 begin own watching frames = record { own = own; beside = None; watching = watching; noted = 0; due = no_due; frames = frames }
 
--- its own task begins as the command does that copies from this translation, if any, and that is denied with this answer, if with one, of a
--- processor that carries this, and the collector is the processor's
-pub record BeginsCourse (layout : Layout) (who : Who) (command : Command) (copies : Option VSlot) (denied : Option Answer) (local : Local) (c : Course) : Type 0 where
-  pub begins : BeginsWith layout who command copies denied local.banks (collects local.watching) c.own
+-- its own task begins as the command does that copies from this translation, if any, and that its guest admits so or doesn't, of a processor
+-- that carries this, and the collector is the processor's
+pub record BeginsCourse (layout : Layout) (who : Who) (command : Command) (copies : Option VSlot) (admit : Admit) (local : Local) (c : Course) : Type 0 where
+  pub begins : BeginsWith layout who command copies admit local.banks (collects local.watching) c.own
   pub handle : handles.HasHandle local.handles c.own
   pub is : c ≡ begin c.own local.watching layout.frames
 

@@ -10,8 +10,8 @@ ghost use Rattle.hwp_cpu_course.specs.Courses.{AfterCollecting, AfterOwnBy, Afte
 use crate::due::DueFrames;
 use hwp_cpu_command_laws::{Job, offlined_by};
 use hwp_cpu_row::{
-    Answer, Body, Command, Frame, Layout, Local, OfflineResult, Offlining, OutOfMemory, Ranked,
-    Row, Scheduled, Step, Task, Turn, VSlot, Watching, Who,
+    Admit, Answer, Body, Command, Frame, Layout, Local, OfflineResult, Offlining, OutOfMemory,
+    Ranked, Row, Scheduled, Step, Task, Turn, VSlot, Watching, Who,
 };
 use hwp_soft::{Soft, SoftAnswer};
 use std::alloc::Global;
@@ -37,25 +37,25 @@ pub struct Course {
 
 impl Course {
     /// The command at its beginning. It takes what its processor's banks hold, where it can add to that, and its collector. A store copies
-    /// the page of the translation `copies` first, where there is one. An access that its guest doesn't admit is answered by `denied`, where
-    /// that is an answer.
+    /// the page of the translation `copies` first, where there is one. An access that its guest doesn't admit does
+    /// nothing, and is answered so.
     pub fn new(
         alloc: Global,
         layout: &Layout,
         who: Who,
         command: Command,
         copies: Option<VSlot>,
-        denied: Option<Answer>,
+        admit: Admit,
         local: &mut Local,
     ) -> Course
         requires sound { IsSound layout.now }
         requires of { IsCommandOf layout.now who.cpu.0 command }
         requires copies { CanCopy layout.now who.cpu.0 command copies }
-        requires denied { CanDeny command denied }
-        ensures begins { BeginsCourse layout.now who command copies denied local.old result }
+        requires denied { CanDeny command admit }
+        ensures begins { BeginsCourse layout.now who command copies admit local.old result }
         ensures local { local.new ≡ local_left result local.old }
     {
-        let own = Job::new(alloc, layout, who, command, copies, denied, local);
+        let own = Job::new(alloc, layout, who, command, copies, admit, local);
         Course {
             own,
             beside: None,
@@ -74,18 +74,18 @@ impl Course {
         who: Who,
         command: Command,
         copies: Option<VSlot>,
-        denied: Option<Answer>,
+        admit: Admit,
         local: &mut Local,
     )
         requires sound { IsSound layout.now }
         requires of { IsCommandOf layout.now who.cpu.0 command }
         requires copies { CanCopy layout.now who.cpu.0 command copies }
-        requires denied { CanDeny command denied }
-        ensures begins { BeginsCourse layout.now who command copies denied local.old self.new }
+        requires denied { CanDeny command admit }
+        ensures begins { BeginsCourse layout.now who command copies admit local.old self.new }
         ensures local { local.new ≡ local_left self.new local.old }
     {
         self.own
-            .begin_next(alloc, layout, who, command, copies, denied, local);
+            .begin_next(alloc, layout, who, command, copies, admit, local);
         set(&mut self.beside, None);
         set(&mut self.watching, local.watching.take());
         self.noted = 0;

@@ -28,7 +28,7 @@ use Rattle.hwp_cpu_check.specs.hwp_guest.GuestState.{GuestState, admitted, after
 use Rattle.hwp_cpu_check.specs.hwp_law_commands.Commands as access
 use Rattle.hwp_cpu_check.specs.hwp_law_commands.Commands.{access_of, arrival_of, process_of_thread}
 use Rattle.hwp_cpu_check.specs.hwp_law_commands.Guests.{GuestAccess, denial, denied, guest_access, guest_after, guest_met, guest_of, kind_of, new_guest}
-use Rattle.hwp_cpu_row.specs.GuestLists.{AreGuestsOf, KnowsGuests, MayMeet, MayTell, denied_in, first_guests, guest_in, has_guests, met_in, told_in}
+use Rattle.hwp_cpu_row.specs.GuestLists.{AreGuestsOf, KnowsGuests, MayMeet, MayTell, admission_in, first_guests, guest_in, has_guests, met_in, told_in}
 
 -- ---- at first
 
@@ -86,11 +86,11 @@ of-guest layout command g is = which (access_of command) is
     which None e = absurd (none-some g e)
     which (Some a) e = by-guest layout a command (process_of_thread layout a.thread) g e
 
-pub denied-known : (layout : Layout) (earlier : List (Command × Answer)) (guests : List GuestState) (command : Command) → KnowsGuests layout earlier guests → denied_in layout guests command ≡ denied layout earlier command
+pub denied-known : (layout : Layout) (earlier : List (Command × Answer)) (guests : List GuestState) (command : Command) → KnowsGuests layout earlier guests → denial (admission_in layout guests command) ≡ denied layout earlier command
 denied-known layout earlier guests command known = which (guest_access layout command) refl
   where
     which : (o : Option GuestAccess) → guest_access layout command ≡ o
-        → option_and_then (λ (a : GuestAccess). denial (admitted (guest_in guests a.process) a.slot.0)) o ≡ option_and_then (λ (a : GuestAccess). denial (admitted (guest_of layout earlier a.process) a.slot.0)) o
+        → denial (option_map_or (λ (a : GuestAccess). admitted (guest_in guests a.process) a.slot.0) o admissions.Yes) ≡ option_and_then (λ (a : GuestAccess). denial (admitted (guest_of layout earlier a.process) a.slot.0)) o
     which None is = refl
     which (Some a) is = ap (λ (g : GuestState). denial (admitted g a.slot.0)) (known a.process (of-guest layout command a is))
 
@@ -139,19 +139,6 @@ told-known layout earlier command answer guests are known = λ process is.
 
 -- ---- an access that is admitted
 
--- only two answers deny an access
-pub denied-either : (layout : Layout) (guests : List GuestState) (command : Command) (P : Option Answer → Type 0) → P None → P (Some answers.GuestBad) → P (Some answers.GuestStopped) → P (denied_in layout guests command)
-denied-either layout guests command P none bad stopped = which (guest_access layout command)
-  where
-    by : (x : Admit) → P (denial x)
-    by admissions.Yes = none
-    by admissions.Bad = bad
-    by admissions.Stopped = stopped
-
-    which : (o : Option GuestAccess) → P (option_and_then (λ (a : GuestAccess). denial (admitted (guest_in guests a.process) a.slot.0)) o)
-    which None = none
-    which (Some a) = by (admitted (guest_in guests a.process) a.slot.0)
-
 -- the guest access is that of the command
 slot-by : (layout : Layout) (a : access.Access) (command : Command) (o : Option Proc) (g : GuestAccess)
     → option_and_then (λ (process : Proc). if is_guest layout process then Some (record { process = process; slot = a.slot; line = a.line; kind = kind_of command; mode = (arrival_of command).mode }) else None) o ≡ Some g
@@ -193,15 +180,15 @@ admits admissions.Yes none = refl
 admits admissions.Bad none = absurd (none-some _ (sym none))
 admits admissions.Stopped none = absurd (none-some _ (sym none))
 
--- what is no access of a guest isn't denied
-pub denied-none : (layout : Layout) (guests : List GuestState) (command : Command) → guest_access layout command ≡ None → denied_in layout guests command ≡ None
-denied-none layout guests command none = ap (option_and_then (λ (a : GuestAccess). denial (admitted (guest_in guests a.process) a.slot.0))) none
+-- what is no access of a guest is admitted
+pub admitted-none : (layout : Layout) (guests : List GuestState) (command : Command) → guest_access layout command ≡ None → admission_in layout guests command ≡ admissions.Yes
+admitted-none layout guests command none = ap (λ (o : Option GuestAccess). option_map_or (λ (a : GuestAccess). admitted (guest_in guests a.process) a.slot.0) o admissions.Yes) none
 
 -- one that isn't denied can meet a bad line
-pub may-meet : (layout : Layout) (cpu : ℕ) (guests : List GuestState) (command : Command) → length layout.trans ≤ translation_limit → AreGuestsOf layout guests → IsCommandOf layout cpu command → denied_in layout guests command ≡ None → MayMeet layout guests command
+pub may-meet : (layout : Layout) (cpu : ℕ) (guests : List GuestState) (command : Command) → length layout.trans ≤ translation_limit → AreGuestsOf layout guests → IsCommandOf layout cpu command → denial (admission_in layout guests command) ≡ None → MayMeet layout guests command
 may-meet layout cpu guests command few are of none a is = record {
   there = are a.process (of-guest layout command a is);
-  admitted_is = admits (admitted (guest_in guests a.process) a.slot.0) (sym (ap (option_and_then (λ (x : GuestAccess). denial (admitted (guest_in guests x.process) x.slot.0))) is) ∙ none);
+  admitted_is = admits (admitted (guest_in guests a.process) a.slot.0) (sym (ap (λ (o : Option GuestAccess). denial (option_map_or (λ (x : GuestAccess). admitted (guest_in guests x.process) x.slot.0) o admissions.Yes)) is) ∙ none);
   within =
       let own = of-access layout command a is in
       let there : own.0.slot.0 < length layout.trans = slot-within layout cpu command own.0 of own.1 in

@@ -15,10 +15,11 @@ use Rattle.hwp_cpu_check.specs.hwp_report_text.declared.Answer.{Answer}
 use Rattle.hwp_cpu_check.specs.hwp_report_text.declared.Answer.TheVariants as answers
 use Rattle.hwp_cpu_check.specs.hwp_report_text.declared.GuestLine.{GuestLine}
 use Rattle.hwp_cpu_check.specs.hwp_guest.declared.Access.{Access}
+use Rattle.hwp_cpu_check.specs.hwp_guest.declared.Admit.{Admit}
 use Rattle.hwp_cpu_check.specs.hwp_guest.declared.Admit.TheVariants as admissions
 use Rattle.hwp_cpu_check.specs.hwp_guest.GuestState.{GuestState, admitted, after}
 use Rattle.hwp_cpu_check.specs.hwp_law_commands.Commands.{process_of_thread}
-use Rattle.hwp_cpu_check.specs.hwp_law_commands.Guests.{GuestAccess, denial, guest_access, guest_line, guest_of, new_guest}
+use Rattle.hwp_cpu_check.specs.hwp_law_commands.Guests.{GuestAccess, guest_access, guest_line, guest_of, new_guest}
 
 -- what each process is as a guest
 abbrev pub States : Type 0
@@ -51,9 +52,9 @@ access_by layout thread slot line kind mode =
     option_and_then (λ (process : Proc). if is_guest layout process then Some (record { process = process; slot = slot; line = line; kind = kind; mode = mode }) else None)
     (process_of_thread layout thread)
 
--- the answer of a command whose access its guest doesn't admit
-abbrev pub denied_in : Layout → List GuestState → Command → Option Answer
-denied_in layout guests command = option_and_then (λ (a : GuestAccess). denial (admitted (guest_in guests a.process) a.slot.0)) (guest_access layout command)
+-- whether its guest admits the access of a command; what is no access of a guest is admitted
+abbrev pub admission_in : Layout → List GuestState → Command → Admit
+admission_in layout guests command = option_map_or (λ (a : GuestAccess). admitted (guest_in guests a.process) a.slot.0) (guest_access layout command) admissions.Yes
 
 -- a guest meets a bad line by this access: the list holds it, it admits the access, and the guest frame is one that there can be
 pub record CanMeet (guests : List GuestState) (a : GuestAccess) : Type 0 where

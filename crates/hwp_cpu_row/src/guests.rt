@@ -1,9 +1,7 @@
-ghost use Rattle.std.specs.Prelude.{◌≡◌, None, Some, replicate, IfOk};
-ghost use Rattle.std.specs.Option.{option_map};
+ghost use Rattle.std.specs.Prelude.{◌≡◌, false, None, Some, replicate, IfOk, IsOk};
 ghost use Rattle.hwp_cpu_check.specs.hwp_guest.GuestState.{admitted};
-ghost use Rattle.hwp_cpu_check.specs.hwp_guest.Guests.{outcome};
-ghost use Rattle.hwp_cpu_check.specs.hwp_law_commands.Guests.{denial, guest_access, guest_line, new_guest, stops};
-ghost use Rattle.hwp_cpu_row.specs.GuestLists.{CanMeet, MayTell, access_by, denied_in, first_guests, guest_in, has_guests, line_in, met_in, told_in};
+ghost use Rattle.hwp_cpu_check.specs.hwp_law_commands.Guests.{guest_access, guest_line, new_guest, stops};
+ghost use Rattle.hwp_cpu_row.specs.GuestLists.{CanMeet, MayTell, access_by, admission_in, first_guests, guest_in, has_guests, line_in, met_in, told_in};
 
 use hwp_cpu_check::{
     Access, Admit, Answer, Command, Guest, GuestLine, Layout, Line, Mode, OutOfMemory, Proc, Taken,
@@ -56,7 +54,8 @@ impl Guests {
     /// # Errors
     /// `OutOfMemory` where a process is a guest, and there is no room.
     pub fn new(alloc: Global, layout: &Layout) -> Result<Guests, OutOfMemory>
-        ensures { IfOk result (λ g. g ≡ first_guests layout.now) }
+        ensures first { IfOk result (λ g. g ≡ first_guests layout.now) }
+        ensures unguested { has_guests layout.now ≡ false → IsOk result }
     {
         if !has_guests(layout) {
             return Ok(Guests {
@@ -78,17 +77,18 @@ impl Guests {
         }
     }
 
-    /// The answer of a command whose access its guest doesn't admit.
-    pub fn denied(&self, layout: &Layout, command: &Command) -> Option<Answer>
-        ensures { result ≡ denied_in layout.now self.now command.now }
+    /// Whether its guest admits the access of a command. What is no access of a guest is admitted.
+    pub fn admission(&self, layout: &Layout, command: &Command) -> Admit
+        ensures { result ≡ admission_in layout.now self.now command.now }
     {
         let Some(access) = guest_access(layout, command) else {
-            return None;
+            return Admit::Yes;
         };
-        denial(self.admits(access.process, access.slot))
+        self.admits(access.process, access.slot)
     }
 
-    /// The command got this answer: an access of a guest that was answered by SIGBUS is a machine check of the guest, whose line it is.
+    /// The command got this answer: an access of a guest that was answered by SIGBUS is a machine check of the guest, whose line it is. The
+    /// guest has to admit the access.
     pub fn told(
         &mut self,
         layout: &Layout,
@@ -154,17 +154,6 @@ fn stops(taken: Taken) -> bool
     match taken {
         Taken::Bad => false,
         Taken::Stop => true,
-    }
-}
-
-/// The answer of an access that its guest doesn't admit.
-fn denial(admit: Admit) -> Option<Answer>
-    ensures { result ≡ denial admit }
-{
-    match admit {
-        Admit::Yes => None,
-        Admit::Bad => Some(Answer::GuestBad),
-        Admit::Stopped => Some(Answer::GuestStopped),
     }
 }
 

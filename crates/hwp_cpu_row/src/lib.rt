@@ -10,11 +10,11 @@ mod row;
 pub use cows::{Cow, Cows};
 pub use guests::Guests;
 pub use hwp_cpu_check::{
-    Acted, Answer, BANKS, Bank, Board, Body, CacheWord, Collector, Command, CounterWord, Cpu,
-    CpuLine, Decision, Entry, Event, EventLine, EventOutcome, FailAnswer, FileNo, Found, Frame,
-    FrameLine, FrameWord, GuestLine, Held, How, Inject, Kind, Layout, List, MAX_SCRIPT, MarkLine,
-    Mask, McgBits, Mode, Noted, OfflineResult, OfflinedLine, Ops, Origin, OutOfMemory, Page,
-    PageWord, PolicyWord, PrctlArgs, ProcessWord, Pte, Ranked, Report, Scheduled, Script,
+    Acted, Admit, Answer, BANKS, Bank, Board, Body, CacheWord, Collector, Command, CounterWord,
+    Cpu, CpuLine, Decision, Entry, Event, EventLine, EventOutcome, FailAnswer, FileNo, Found,
+    Frame, FrameLine, FrameWord, GuestLine, Held, How, Inject, Kind, Layout, List, MAX_SCRIPT,
+    MarkLine, Mask, McgBits, Mode, Noted, OfflineResult, OfflinedLine, Ops, Origin, OutOfMemory,
+    Page, PageWord, PolicyWord, PrctlArgs, ProcessWord, Pte, Ranked, Report, Scheduled, Script,
     SharedWord, Status, Step, Stop, StopCause, StopWord, Task, Text, Turn, VSlot, Version,
     Whereabouts, Who, handle, index, is_text, kind_name, no_events, policy_word, print,
     read_number,

@@ -87,8 +87,8 @@ pub struct Local {
 }
 
 impl Local {
-    /// Nothing is in the banks, the handle of each file of the layout has the number 0, no translation is frozen, and no guest has a bad frame. If the processor
-    /// watches, there is room for a collector of the layout's frames, which doesn't collect yet.
+    /// Nothing is in the banks, the handle of each file of the layout has the number 0, no translation is frozen, and no guest has a bad
+    /// frame. If the processor watches, there is room for a collector of the layout's frames, which doesn't collect yet.
     pub fn new(alloc: Global, layout: &Layout, watches: bool) -> Result<Local, OutOfMemory>
         ensures { IfOk result (λ l. IsFirst layout.now watches l) }
     {

@@ -1,16 +1,16 @@
 use Rattle.hwp_check_guests.proofs.RuleLaws.{judged-first, judged-none, read-at}
 use Rattle.hwp_check_guests.proofs.rule.fault_on.Goals as goal
 
-pub returns-in-Some-first_wrong : goal.returns-in-Some-first_wrong
-returns-in-Some-first_wrong c =
+pub returns-in-Some-first_wrong-clause-judged : goal.returns-in-Some-first_wrong-clause-judged
+returns-in-Some-first_wrong-clause-judged c =
     judged-first c.args.script.now c.args.report.now c.args.cpu c.commands_of-commands.result.now c.rows_on-rows.result.now c.in_ok-known.known.admits.items c.as_slice-2.result.now c.in_ok-known.known.flags.items c.as_slice-3.result.now c.in_ok-known.known.told.items
     (read-at c.args.script.now.lists c.args.cpu.0 c.commands_of-commands.result.now c.requires.of_script c.commands_of-commands.ensures)
-    (read-at c.args.report.now.cpus c.args.cpu.0 c.rows_on-rows.result.now c.requires.of_report c.rows_on-rows.ensures) c.in_ok-known.ensures c.as_slice-2.ensures.value c.as_slice-3.ensures.value
+    (read-at c.args.report.now.cpus c.args.cpu.0 c.rows_on-rows.result.now c.requires.of_report c.rows_on-rows.ensures) c.in_ok-known.ensures.known c.as_slice-2.ensures.value c.as_slice-3.ensures.value
     (rw c.in_default.is at c.first_lacking.ensures) c.in-Some-first_wrong.row c.row_at.result (rw c.in-Some-first_wrong.is at c.first_wrong.ensures) c.row_at.ensures
 
-pub returns : goal.returns
-returns c =
+pub returns-clause-judged : goal.returns-clause-judged
+returns-clause-judged c =
     judged-none c.args.script.now c.args.report.now c.args.cpu c.commands_of-commands.result.now c.rows_on-rows.result.now c.in_ok-known.known.admits.items c.as_slice-2.result.now c.in_ok-known.known.flags.items c.as_slice-3.result.now c.in_ok-known.known.told.items
     (read-at c.args.script.now.lists c.args.cpu.0 c.commands_of-commands.result.now c.requires.of_script c.commands_of-commands.ensures)
-    (read-at c.args.report.now.cpus c.args.cpu.0 c.rows_on-rows.result.now c.requires.of_report c.rows_on-rows.ensures) c.in_ok-known.ensures c.as_slice-2.ensures.value c.as_slice-3.ensures.value
+    (read-at c.args.report.now.cpus c.args.cpu.0 c.rows_on-rows.result.now c.requires.of_report c.rows_on-rows.ensures) c.in_ok-known.ensures.known c.as_slice-2.ensures.value c.as_slice-3.ensures.value
     (rw c.in_default.is at c.first_lacking.ensures) (rw c.in-None.is at c.first_wrong.ensures)

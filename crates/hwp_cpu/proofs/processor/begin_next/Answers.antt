@@ -17,4 +17,4 @@ begin_next-requires-clause-copies c =
     begins-copies c.args.layout.now c.args.cpu c.args.commands.now c.args.local.now.cows c.args.number c.in-Some.command.now c.acting-acting.result c.copied_from-copies.result c.requires.commands there c.acting-acting.ensures c.copied_from-copies.ensures
 
 pub begin_next-requires-clause-denied : goal.begin_next-requires-clause-denied
-begin_next-requires-clause-denied c = begins-denied c.args.layout.now c.args.local.now.cows c.args.local.now.guests c.in-Some.command.now c.acting-acting.result c.denied-denied.result c.acting-acting.ensures c.denied-denied.ensures
+begin_next-requires-clause-denied c = begins-denied c.args.layout.now c.args.local.now.cows c.args.local.now.guests c.in-Some.command.now c.acting-acting.result c.admission-admit.result c.acting-acting.ensures c.admission-admit.ensures

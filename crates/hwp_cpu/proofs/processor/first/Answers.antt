@@ -17,4 +17,4 @@ new-requires-clause-copies c =
     begins-copies c.args.layout.now c.args.cpu c.args.commands.now c.args.local.now.cows 0 c.in-Some.command.now c.acting-acting.result c.copied_from-copies.result c.requires.commands there c.acting-acting.ensures c.copied_from-copies.ensures
 
 pub new-requires-clause-denied : goal.new-requires-clause-denied
-new-requires-clause-denied c = begins-denied c.args.layout.now c.args.local.now.cows c.args.local.now.guests c.in-Some.command.now c.acting-acting.result c.denied-denied.result c.acting-acting.ensures c.denied-denied.ensures
+new-requires-clause-denied c = begins-denied c.args.layout.now c.args.local.now.cows c.args.local.now.guests c.in-Some.command.now c.acting-acting.result c.admission-admit.result c.acting-acting.ensures c.admission-admit.ensures

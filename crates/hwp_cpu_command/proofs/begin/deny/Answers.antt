@@ -1,11 +1,10 @@
 use Rattle.std.proofs.Common.{sym, ap, ◌∙◌}
-use Rattle.hwp_cpu_control.specs.Denieds.{begin}
 use Rattle.hwp_cpu_command.specs.declared.job.Job.TheVariants as jobs
 use Rattle.hwp_cpu_command.proofs.AccessBegins.{access-is, access-thread}
 use Rattle.hwp_cpu_command.proofs.begin.deny.Goals as goal
 
-pub process_of-process-requires-clause-of : goal.process_of-process-requires-clause-of
-process_of-process-requires-clause-of c = access-thread c.args.layout.now c.args.who.cpu.0 c.args.command.now c.in-Some.at (sym c.access_in.ensures ∙ c.in-Some.is) c.requires.of
+pub process_of-process-requires-clause-declared : goal.process_of-process-requires-clause-declared
+process_of-process-requires-clause-declared c = access-thread c.args.layout.now c.args.who.cpu.0 c.args.command.now c.in-Some.at (sym c.access_in.ensures ∙ c.in-Some.is) c.requires.of
 
 pub returns-clause-begins : goal.returns-clause-begins
 returns-clause-begins c = λ copies can. record {
@@ -17,5 +16,5 @@ returns-clause-begins c = λ copies can. record {
   process = c.process_of-process.result;
   process_is = c.process_of-process.ensures.process;
   within = c.process_of-process.ensures.within;
-  job_is = c.set.ensures ∙ ap jobs.Denied (c.new.ensures ∙ ap (begin c.args.who c.process_of-process.result) c.denial_by.ensures);
+  job_is = c.set.ensures ∙ ap jobs.Denied c.new.ensures;
 }
