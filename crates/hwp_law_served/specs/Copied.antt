@@ -71,7 +71,7 @@ pub record IsBehind (store : Request) (page : Page) (sub : Sub) (rest : List Mad
   pub such : EachMember (IsBetween access) rest
 
 -- the accesses were all, with no machine check beside theirs, and the place is that of the last one, the store itself; the freeing is
--- behind it, and where it made no entry it saw the page behind theirs
+-- behind it, and if it made no entry it saw the page behind all of their entries there
 pub record HasSwitched (page : Page) (sub : Sub) (runs : List Run) (rest : List Made) (told : List EventOutcome) (at : At) : Type 0 where
   pub sub_is : sub ≡ subs.Switched
   pub rest_is : rest ≡ []
