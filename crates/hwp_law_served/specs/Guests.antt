@@ -20,20 +20,20 @@ SaysGone (answers.Gone page) = Unit {0}
 SaysGone answer = ⊥
 
 -- the guest didn't admit the access: the answer is the one that is due, or one of the machine, and the command made no entry and told nothing
-pub record IsDenied (view : View) (who : Who) (due : Answer) (row : Row) : Type 0 where
+pub record IsDenialServed (view : View) (who : Who) (due : Answer) (row : Row) : Type 0 where
   pub answered : (row.answer ≡ due) ⊎ ((row.answer ≡ answers.Stopped) ⊎ SaysGone row.answer)
   pub made : HasMadeNone view who
   pub untold : row.told ≡ []
 
 -- no other row has an answer of a guest
-pub record IsAdmitted (row : Row) : Type 0 where
+pub record IsAdmissionServed (row : Row) : Type 0 where
   pub not_bad : row.answer ≢ answers.GuestBad
   pub not_stopped : row.answer ≢ answers.GuestStopped
 
 -- by the answer that is due where a guest doesn't admit the access
 abbrev pub IsDeniedRow : View → Who → Option Answer → Row → Type 0
-IsDeniedRow view who (Some due) row = IsDenied view who due row
-IsDeniedRow view who None row = IsAdmitted row
+IsDeniedRow view who (Some due) row = IsDenialServed view who due row
+IsDeniedRow view who None row = IsAdmissionServed row
 
 -- the row of a command, behind these with their answers
 pub record IsGuestRow (layout : Layout) (earlier : List (Command × Answer)) (view : View) (who : Who) (command : Command) (row : Row) : Type 0 where

@@ -35,10 +35,11 @@ offlined_at seq o = record { seq = seq; frame = o.frame; result = o.result }
 abbrev pub offlined_line : ℕ → Offlining → CpuLine
 offlined_line seq o = lines.Offlined (offlined_at seq o)
 
--- the line of a guest's machine check, if there was one, and then the answer
+-- the line of a guest's machine check, as one of the command with this number
 abbrev pub guest_at : ℕ → GuestLine → GuestLine
 guest_at seq line = record line { seq = seq }
 
+-- that line, if there was one, and then the answer
 abbrev pub end_lines : ℕ → Option GuestLine → Answer → List CpuLine
 end_lines seq None answer = lines.Answer seq answer ∷ []
 end_lines seq (Some line) answer = lines.Guest (guest_at seq line) ∷ lines.Answer seq answer ∷ []
