@@ -104,6 +104,30 @@ impl Instruction {
         }
     }
 
+    /// The instruction of another command begins as `new` says in place of this one: what a field carries lies where it lay before.
+    pub fn begin_next(
+        &mut self,
+        alloc: Global,
+        request: Request,
+        origin: Origin,
+        mode: Mode,
+        banks: [Bank; BANKS],
+        collects: bool,
+    )
+        ensures { self.new ≡ begin alloc request origin mode banks collects }
+    {
+        self.alloc = alloc;
+        self.request = request;
+        self.origin = origin;
+        self.mode = mode;
+        self.collects = collects;
+        self.before = Snapshot::of(&banks);
+        self.banks = banks;
+        self.lines = ToldLines::new(alloc);
+        let at = first(&request);
+        self.set(at);
+    }
+
     /// Another access of the same command begins where this one lies: with what the banks hold by now, and behind what was told so far.
     pub fn again_with(&mut self, request: Request)
         ensures { self.new ≡ again_with self.old request }

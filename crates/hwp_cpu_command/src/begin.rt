@@ -501,7 +501,8 @@ fn access(
     );
 }
 
-/// The instruction of a request at its beginning, which takes what the banks hold.
+/// The instruction of a request at its beginning, which takes what the banks hold. Where an instruction ran before, it begins where that one
+/// lies: to let go of that one whole, and to copy a whole job, costs nearly as much as a turn.
 fn instruction(
     alloc: Global,
     request: Request,
@@ -515,10 +516,15 @@ fn instruction(
     ensures banks { banks.new ≡ empty_banks }
 {
     let banks = taken(banks);
-    set(
-        job,
-        Job::Instruction(Instruction::new(alloc, request, origin, mode, banks, collects)),
-    );
+    match job {
+        Job::Instruction(before) => {
+            before.begin_next(alloc, request, origin, mode, banks, collects)
+        }
+        _ => set(
+            job,
+            Job::Instruction(Instruction::new(alloc, request, origin, mode, banks, collects)),
+        ),
+    }
 }
 
 /// A line of the frame is damaged.

@@ -57,9 +57,24 @@ impl Job {
     ghost use Rattle.hwp_cpu_command.specs.FileHandles.{HasChangeWithin, StandsOn, handles_after, local_after, watching_after};
     ghost use Rattle.hwp_cpu_command.specs.Jobs.{answer, banks_after, give_up, own_of, pauses, resume, row_of, told_of};
 
-    /// What the command answers; `None` until it is over, and where it gave up because memory ran out.
+    /// What the command answers; `None` until it is over, and where it gave up because memory ran out. Most turns are of an access: what any
+    /// other kind needs room for stands in a function of its own.
     #[inline(always)]
     pub fn answer(&self) -> Option<Answer>
+        ensures { result ≡ answer self.now }
+    {
+        match self {
+            Job::Instruction(instruction) => match instruction.answer() {
+                Some(answer) => Some(instruction_answer(answer)),
+                None => None,
+            },
+            _ => self.answer_of_kind(),
+        }
+    }
+
+    /// The same of a command of any kind.
+    #[inline(never)]
+    fn answer_of_kind(&self) -> Option<Answer>
         ensures { result ≡ answer self.now }
     {
         match self {

@@ -1,4 +1,4 @@
-ghost use Rattle.std.specs.Prelude.{◌≡◌, ◌<◌, ◌≤◌, true, length, OnOk, OnErr};
+ghost use Rattle.std.specs.Prelude.{◌≡◌, ◌<◌, ◌≤◌, true, None, length, OnOk, OnErr};
 ghost use Rattle.hwp_cpu_row.specs.hwp_geom.Layout.{IsSound};
 ghost use Rattle.hwp_cpu_row.specs.hwp_script_read.Valid.{IsCommandOf};
 ghost use Rattle.hwp_cpu_row.specs.Locals.{collects};
@@ -86,7 +86,7 @@ impl Course {
     {
         self.own
             .begin_next(alloc, layout, who, command, copies, admit, local);
-        set(&mut self.beside, None);
+        clear(&mut self.beside);
         set(&mut self.watching, local.watching.take());
         self.noted = 0;
         set(&mut self.due, DueFrames::new(alloc));
@@ -238,6 +238,16 @@ fn set<T: Drop>(place: &mut T, value: T)
     ensures { place.new ≡ value }
 {
     *place = value;
+}
+
+/// Nothing is there. To find that out costs less than to let go of what isn't there.
+#[inline(always)]
+fn clear<T: Drop>(place: &mut Option<T>)
+    ensures { place.new ≡ None }
+{
+    if place.is_some() {
+        set(place, None);
+    }
 }
 
 /// Whether the processor collects corrected errors.
