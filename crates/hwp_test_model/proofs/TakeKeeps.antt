@@ -1,8 +1,7 @@
--- What a processor that held nothing holds while it takes a frame, turn by turn on a board, and that it can let the frame go.
-use Rattle.std.proofs.Common.{◌≡◌, ℕ, ◌/◌, ◌<◌, ◌==◌, Bool, true, false, cond, List, [], ◌∷◌, ◌++◌, Option, Some, None, is_none, slice_get, refl, sym, ap, ◌∙◌, subst}
+-- What a processor that held nothing holds while it takes a frame, turn by turn on a board.
+use Rattle.std.proofs.Common.{◌≡◌, ℕ, ◌/◌, ◌==◌, Bool, true, false, cond, List, [], ◌∷◌, Option, Some, None, is_none, slice_get, refl, sym, ap, ◌∙◌, subst}
 use Rattle.std.proofs.lemmas.Bool.{false≢true}
-use Rattle.std.proofs.lemmas.Option.{get_or_from_slice_get, none-some}
-use Rattle.hwp_page.specs.hwp_geom.declared.Frame.{Frame}
+use Rattle.std.proofs.lemmas.Option.{get_or_from_slice_get}
 use Rattle.hwp_page.specs.hwp_geom.declared.Kind.{Kind}
 use Rattle.hwp_page.specs.hwp_geom.declared.Layout.{Layout}
 use Rattle.hwp_core.specs.hwp_core_rule.declared.Rec.{Rec}
@@ -20,10 +19,7 @@ use Rattle.hwp_core.specs.hwp_core_task.Calls.{Steps, rec_of}
 use Rattle.hwp_core.specs.hwp_core_task.Hands.{empty, hand_of}
 use Rattle.hwp_core.specs.Holds.{one_ref}
 use Rattle.hwp_core.specs.Releases.{adopted_lock}
-use Rattle.hwp_core.specs.Unlocks as unlocks
 use Rattle.hwp_fault_fill.specs.declared.take.Take.{Take}
-use Rattle.hwp_fault_fill.specs.declared.take.TakeAnswer.{TakeAnswer}
-use Rattle.hwp_fault_fill.specs.declared.take.TakeAnswer.TheVariants as answers
 use Rattle.hwp_fault_fill.specs.declared.take.TakeAt.{TakeAt}
 use Rattle.hwp_fault_fill.specs.declared.take.TakeAt.TheVariants as at
 use Rattle.hwp_fault_fill.specs.Takes as takes
@@ -102,25 +98,3 @@ module _ (layout : Layout) (a b : State) (was now : List Played) (before after :
       by : (p : Option Step) → takes.plan before ≡ p → TakesTurnBy takes.task layout 0 p a b was now before after result → hand_of (view_of b 0) ≡ taken after.at
       by None over t = ap (λ (s : State). hand_of (view_of s 0)) t.board ∙ hand ∙ ap (λ (x : Take). taken x.at) (sym t.task)
       by (Some step) planned t = made-on step planned t
-
-abbrev taken_in : Frame → Option TakeAnswer → Frame
-taken_in none (Some (answers.Taken frame)) = frame
-taken_in none _ = none
-
-abbrev is_taken : Option TakeAnswer → Bool
-is_taken (Some (answers.Taken frame)) = true
-is_taken _ = false
-
--- a frame that was taken can be let go
-pub taken-unlocks : (layout : Layout) (view : View) (t : Take) (frame : Frame) → takes.answer t ≡ Some (answers.Taken frame) → takes.Fits layout view t → hand_of view ≡ taken t.at → unlocks.Fits layout view (unlocks.begin t.who frame None)
-taken-unlocks layout view t frame answered fits hand = record { on_turn = fits.on_turn; at = which t.at answered fits.at hand }
-  where
-    which : (x : TakeAt) → takes.answer_at x ≡ Some (answers.Taken frame) → takes.FitsAt layout view t.who x → hand_of view ≡ taken x → unlocks.HoldsEmptyFrame layout view frame
-    which (at.Over (Some f)) is inside held = subst (unlocks.HoldsEmptyFrame layout view) (ap (taken_in f) is) (record { handled = false; poisoned = false; hand_is = held; within = inside })
-    which (at.Over None) is inside held = absurd (false≢true (ap is_taken is))
-    which at.LoadAvailable is inside held = absurd (none-some (answers.Taken frame) is)
-    which (at.Reserve seen) is inside held = absurd (none-some (answers.Taken frame) is)
-    which (at.LoadFree number) is inside held = absurd (none-some (answers.Taken frame) is)
-    which (at.TakeBit f) is inside held = absurd (none-some (answers.Taken frame) is)
-    which (at.Adopt f) is inside held = absurd (none-some (answers.Taken frame) is)
-    which (at.Retire f) is inside held = absurd (none-some (answers.Taken frame) is)

@@ -1,5 +1,5 @@
 -- A processor at opening can begin a task.
-use Rattle.std.proofs.Common.{◌≡◌, ℕ, zero, suc, ◌<◌, ◌≤◌, Some, map, slice_get, refl, ap, arith}
+use Rattle.std.proofs.Common.{◌≡◌, ℕ, zero, suc, ◌<◌, ◌≤◌, Some, length, map, slice_get, refl, ap, arith}
 use Rattle.std.proofs.lemmas.Option.{none-some, same_Some, get_or_from_slice_get}
 use Rattle.hwp_page.specs.hwp_geom.declared.Layout.{Layout}
 use Rattle.hwp_page.specs.hwp_geom.declared.Who.{Who}
@@ -9,6 +9,7 @@ use Rattle.hwp_core.proofs.of_hwp_core_rule.Lists.{at_map}
 use Rattle.hwp_core.proofs.of_hwp_core_rule.WordsOpen.{below-at}
 use Rattle.hwp_core.specs.hwp_core_task.Boards.{view_of}
 use Rattle.hwp_core.specs.hwp_core_task.Calls.{IsOnTurn}
+use Rattle.hwp_core.specs.Holds as holds
 use Rattle.hwp_fault_fill.specs.Takes as takes
 
 pub view-open : (layout : Layout) (c : ℕ) → c < layout.cpus → view_of (opening layout) c ≡ opening_view c
@@ -28,3 +29,7 @@ on-turn-open who = record {
 -- a frame can be taken
 pub take-open : (layout : Layout) (who : Who) → takes.Fits layout (opening_view who.cpu.0) (takes.begin who)
 take-open layout who = record { on_turn = on-turn-open who; at = (omega arith, omega arith) }
+
+-- a page can be held
+pub hold-open : (layout : Layout) (who : Who) → 0 < length layout.pages → holds.Fits layout (opening_view who.cpu.0) (holds.begin who (record { 0 = 0 }))
+hold-open layout who page = record { on_turn = on-turn-open who; page = page; at = refl }

@@ -1,5 +1,5 @@
 -- What a processor that held nothing holds while it takes a frame.
-use Rattle.std.specs.Prelude.{true, false, [], ◌∷◌, Some, None}
+use Rattle.std.specs.Prelude.{true, false, [], ◌∷◌, Some}
 use Rattle.hwp_core.specs.hwp_core_rule.Views.{unpoisoned}
 use Rattle.hwp_core.specs.hwp_core_task.Hands.{Hand, empty}
 use Rattle.hwp_core.specs.Holds.{one_ref}

@@ -1,4 +1,4 @@
-use Rattle.std.proofs.Common.{◌<◌, sym, ap, ◌∙◌, arith}
+use Rattle.std.proofs.Common.{ap, ◌∙◌}
 use Rattle.hwp_core.specs.hwp_core_rule.declared.State.{State}
 use Rattle.hwp_core.specs.hwp_core_task.Boards.{view_of}
 use Rattle.hwp_test_model.proofs.TaskBegins.{view-open}

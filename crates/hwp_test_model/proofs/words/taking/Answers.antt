@@ -1,4 +1,4 @@
-use Rattle.std.proofs.Common.{◌≡◌, ap, sym, ◌∙◌, refl, subst}
+use Rattle.std.proofs.Common.{ap, sym, ◌∙◌, subst}
 use Rattle.hwp_page.specs.hwp_geom.declared.Who.{Who}
 use Rattle.hwp_core.specs.hwp_core_rule.declared.View.{View}
 use Rattle.hwp_core.specs.hwp_core_task.Boards.{view_of}
