@@ -1,12 +1,12 @@
 """Tests of hwp-lint: typical mistakes, each with its line, column and reason, worked out from the reasons in docs/FORMATS.md."""
 from __future__ import annotations
 
-import ast
-import re
 import shutil
 import subprocess
 import tempfile
 import unittest
+from importlib.machinery import SourceFileLoader
+from importlib.util import module_from_spec, spec_from_loader
 from pathlib import Path
 from typing import Optional
 
@@ -243,12 +243,8 @@ GUEST_MISTAKES: list[tuple[int, Optional[str], int, int, str, str]] = [
     (8, "thread 2 0 1 handler", 9, 7, "WrongPlace", "threads 0 and 2 of process 0 run on two processors"),
     (9, "page 0 anon\nguest 0", 10, 1, "WrongPlace", "stands below `page` (line 9)"),
 ]
-# The tables of refused scripts in the tests of the program's reader: what is put in place of what, or which line is another, the line
-# that is named, and the reason.
-READER_TESTS = HOME / "crates" / "hwp_test_texts" / "src" / "scripts.rt"
-CHANGE = re.compile(r'\(\s*"((?:[^"\\]|\\.)*)",\s*"((?:[^"\\]|\\.)*)",\s*(\d+),\s*Why::(\w+),?\s*\)')
-SWAP = re.compile(r'\(\s*(\d+),\s*b("(?:[^"\\]|\\.)*"),\s*Some\(\((\d+), Why::(\w+)\)\),?\s*\)')
-CONSTANT = re.compile(r'const (\w+): &str =\s*("(?:[^"\\]|\\.)*");')
+# The check that tries the program on the tables of refused scripts, which reads them.
+REFUSALS = SourceFileLoader("refusals", str(HOME / ".ci" / "refusals"))
 
 
 def changed(number: int, text: Optional[str], base: str = BASE) -> bytes:
@@ -294,25 +290,19 @@ class Lint(unittest.TestCase):
                 self.assertEqual((fault.line, fault.why), (line, why), fault.text)
 
     def test_scripts_of_the_repository_are_told_as_it_says(self) -> None:
-        text = READER_TESTS.read_text(encoding="utf-8")
-        bases = {name: ast.literal_eval(script) for name, script in CONSTANT.findall(text)}
-        tried = 0
-        for name, table in re.findall(r"refused\(\s*&rt,\s*rt\.alloc\(\),\s*(\w+),\s*&\[(.*?)\n        \],", text, re.S):
-            for old, new, line, why in CHANGE.findall(table):
-                old, new = (ast.literal_eval(f'"{part}"') for part in (old, new))
-                tried += self.told(bases[name].replace(old, new).encode(), int(line), why)
-        for number, line_text, line, why in SWAP.findall(text):
-            lines = bases["ONE"].encode().splitlines()
-            lines[int(number) - 1] = ast.literal_eval("b" + line_text)
-            tried += self.told(b"".join(part + b"\n" for part in lines), int(line), why)
-        self.assertGreaterEqual(tried, 80)
+        spec = spec_from_loader("refusals", REFUSALS)
+        assert spec is not None
+        refusals = module_from_spec(spec)
+        REFUSALS.exec_module(refusals)
+        tables = sorted((HOME / "tests" / "refused").glob("*.txt"))
+        tried = sum(self.told(row.text, row.said) for table in tables for row in refusals.rows(table.name))
+        self.assertGreaterEqual(tried, 380)
 
-    def told(self, data: bytes, line: int, why: str) -> int:
-        """Whether the script is refused so."""
+    def told(self, data: bytes, said: str) -> int:
+        """Whether the script is refused as the program says, or has no fault where it says nothing."""
         with self.subTest(data=data):
             fault = fault_of(data)
-            assert fault is not None
-            self.assertEqual((fault.line, fault.why), (line, why), fault.text)
+            self.assertEqual(f"script line {fault.line}: {fault.why}" if fault else "", said, fault and fault.text)
         return 1
 
     def test_scripts_that_run_have_no_fault(self) -> None:

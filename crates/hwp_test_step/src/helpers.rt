@@ -84,16 +84,3 @@ pub fn leaves(rt: &impl Abort, left: Left, reported: bool, status: u8, out: &str
     assert!(rt; (left.reported, left.status) == (reported, status));
     drop(left);
 }
-
-/// `step` on a script, with nothing that fails.
-pub fn step(rt: &impl Abort, alloc: Global, script: &[u8]) -> Left {
-    call(rt, alloc, &["step"], script, &[], (4096, &[]))
-}
-
-/// `step` refuses each script, and tells what stands beside it.
-pub fn refuses(rt: &impl Abort, alloc: Global, rows: &[(&str, &str)]) {
-    for (script, told) in rows {
-        let left = step(rt, alloc, script.as_bytes());
-        leaves(rt, left, false, 3, "", told);
-    }
-}

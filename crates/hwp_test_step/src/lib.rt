@@ -1,13 +1,9 @@
-//! Tests of the top call: refusals, faults of the source and the sink, reports that are judged, and scripts made from a seed.
+//! Tests of the top call: faults of the source and the sink, and scripts made from a seed.
 #![tactic(auto)]
 
 #[cfg(test)]
-mod calls;
-#[cfg(test)]
-mod checking;
+mod faults;
 #[cfg(test)]
 mod helpers;
-#[cfg(test)]
-mod many;
 #[cfg(test)]
 mod seeds;

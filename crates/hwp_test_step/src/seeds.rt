@@ -1,6 +1,6 @@
 //! `gen` and `sum`: the script that a seed gives, its report, and the summary of that.
 
-use crate::helpers::{Left, call, leaves, step};
+use crate::helpers::{Left, call, leaves};
 use hwp_script::{Script, generate, print, read};
 use std::alloc::Global;
 use std::process::Abort;
@@ -78,27 +78,4 @@ fn sum_tells_of_the_run_of_its_seed(rt: HostRuntime) {
     assert!(&rt; first.out.bytes() == second.out.bytes());
     drop(second);
     drop(first);
-}
-
-/// The script of the seed is run to its end, and its report is legal.
-fn runs(rt: &impl Abort, alloc: Global, word: &str) {
-    let script = unread(rt, alloc, &["gen", word]);
-    let report = step(rt, alloc, script.out.bytes());
-    assert!(rt; (script.status, report.status) == (0, 0));
-    let mut input = script.out.bytes().to_vec(alloc).expect(rt, "memory");
-    input
-        .extend_from_slice(report.out.bytes())
-        .expect(rt, "memory");
-    drop(report);
-    drop(script);
-    let verdict = call(rt, alloc, &["check"], input.as_slice(), &[], (4096, &[]));
-    leaves(rt, verdict, false, 0, "legal\n", "");
-}
-
-#[test]
-fn the_report_of_a_seed_is_legal(rt: HostRuntime) {
-    runs(&rt, rt.alloc(), "0");
-    runs(&rt, rt.alloc(), "1");
-    runs(&rt, rt.alloc(), "2");
-    runs(&rt, rt.alloc(), "3");
 }
