@@ -1,0 +1,221 @@
+//! Two commands on one frame, or on one file, under every order of twelve turns: the reports that they can come to.
+
+use crate::judging::{are_legal, scheduled};
+use crate::stepping::report_of;
+use std::alloc::Global;
+use std::process::Abort;
+
+/// A script of two processors up to its schedule's words that go through all orders, and the reports that these come to.
+pub struct Meeting {
+    pub front: &'static str,
+    pub ends: &'static [&'static str],
+}
+
+/// Page 0 is in frame 0 and was stored to. The frame is to be taken out of use, and fails.
+const OFFLINED: Meeting = Meeting {
+    front: "hwp 1\ncpus 2\nframes 2\nproc 0\nthread 0 0 0 handler\npage 0 anon\ntrans 0 0 0\ncpu 0\nstore 0 0 0 5\nsoft 0\n\
+cpu 1\ninject 0\nschedule 0.",
+    ends: &[
+        // the page was moved before
+        MOVED_BY_0,
+        // the page is lost
+        "hwp-report 1\nstop none\ncount 1\nframe 0 handled bad 0 weak 0\npoisoned 0 1 0 sw anononly recovered\n\
+frame 1 free bad 0 weak 0\npage 0 4\nin 0 0\nmap 0 0 0\nstore 0 0 0 0 0 5\nfail 1 0 anononly opt - 1 0\nseen 0 default 0\n\
+cpu 0 2\n0 stored 0 2\n1 already\ncpu 1 1\n0 recovered\nend\n",
+    ],
+};
+
+/// Processor 0 has moved the page, and the other one finds the frame poisoned.
+const MOVED_BY_0: &str = "\
+hwp-report 1\nstop none\ncount 1\nframe 0 handled bad 0 weak 0\npoisoned 0 0 1 soft moved recovered\n\
+frame 1 page 0 bad 0 weak 0\npage 0 4\nin 0 0\nmap 0 0 0\nstore 0 0 0 0 0 5\nsoft 0 1\ncpu 0 2\n0 stored 0 2\n1 moved 1 0 3\n\
+cpu 1 1\n0 already\nend\n";
+
+/// Both take it out of use.
+const OFFLINED_BY_BOTH: Meeting = Meeting {
+    front: "hwp 1\ncpus 2\nframes 2\nproc 0\nthread 0 0 0 handler\npage 0 anon\ntrans 0 0 0\ncpu 0\nstore 0 0 0 5\nsoft 0\n\
+cpu 1\nsoft 0\nschedule 0.",
+    ends: &[
+        MOVED_BY_0,
+        // processor 1 has moved the page
+        "hwp-report 1\nstop none\ncount 1\nframe 0 handled bad 0 weak 0\npoisoned 0 1 0 soft moved recovered\n\
+frame 1 page 0 bad 0 weak 0\npage 0 4\nin 0 0\nmap 0 0 0\nstore 0 0 0 0 0 5\nsoft 1 0\ncpu 0 2\n0 stored 0 2\n1 already\n\
+cpu 1 1\n0 moved 1 0 3\nend\n",
+    ],
+};
+
+/// It fails while its page is swapped out.
+const LEFT: Meeting = Meeting {
+    front: "hwp 1\ncpus 2\nframes 2\nproc 0\nthread 0 0 0 handler\npage 0 anon\ntrans 0 0 0\ncpu 0\nstore 0 0 0 5\ninject 0\n\
+cpu 1\nout 0\nschedule 0.",
+    ends: &[
+        // the page is lost
+        "hwp-report 1\nstop none\ncount 1\nframe 0 handled bad 0 weak 0\npoisoned 0 0 1 sw anononly recovered\n\
+frame 1 free bad 0 weak 0\npage 0 4\nin 0 0\nmap 0 0 0\nstore 0 0 0 0 0 5\nfail 0 1 anononly opt - 1 0\nseen 0 default 0\n\
+cpu 0 2\n0 stored 0 2\n1 recovered\ncpu 1 1\n0 notresident 0 4\nend\n",
+        // the page is in swap, and the frame fails as one without a page
+        "hwp-report 1\nstop none\ncount 1\nframe 0 handled bad 0 weak 0\npoisoned 0 0 1 sw free recovered\n\
+frame 1 free bad 0 weak 0\npage 0 4\nin 0 0\nmap 0 0 0\nstore 0 0 0 0 0 5\nout 1 0\ncpu 0 2\n0 stored 0 2\n1 recovered\n\
+cpu 1 1\n0 done 0 3\nend\n",
+    ],
+};
+
+/// It fails while the translation that leads to it is freed.
+const FREED: Meeting = Meeting {
+    front: "hwp 1\ncpus 2\nframes 2\nproc 0\nthread 0 0 0 handler\npage 0 anon\ntrans 0 0 0\ncpu 0\nstore 0 0 0 5\nfree 0\n\
+cpu 1\ninject 0\nschedule 0.",
+    ends: &[
+        // nobody uses the page any more
+        "hwp-report 1\nstop none\ncount 1\nframe 0 handled bad 0 weak 0\npoisoned 0 1 0 sw anononly recovered\n\
+frame 1 free bad 0 weak 0\npage 0 5\nin 0 0\nmap 0 0 0\nstore 0 0 0 0 0 5\nfree 0 1 0\nfail 1 0 anononly opt - 0 0\n\
+cpu 0 2\n0 stored 0 2\n1 done 0 3\ncpu 1 1\n0 recovered\nend\n",
+        // the failure has taken the translation away
+        "hwp-report 1\nstop none\ncount 1\nframe 0 handled bad 0 weak 0\npoisoned 0 1 0 sw anononly recovered\n\
+frame 1 free bad 0 weak 0\npage 0 4\nin 0 0\nmap 0 0 0\nstore 0 0 0 0 0 5\nfail 1 0 anononly opt - 1 0\nseen 0 default 0\n\
+cpu 0 2\n0 stored 0 2\n1 notmapped 0 4\ncpu 1 1\n0 recovered\nend\n",
+    ],
+};
+
+/// It has failed, and is taken back while it fails again.
+const TAKEN_BACK: Meeting = Meeting {
+    front: "hwp 1\ncpus 2\nframes 2\ncpu 0\ninject 0\nunpoison 0\ncpu 1\ninject 0\nschedule 0.",
+    ends: &[
+        // it is taken back afterwards
+        "hwp-report 1\nstop none\ncount 0\nframe 0 free bad 0 weak 0\npoisoned 0 0 0 sw free recovered\nunpoisoned 0 0 1\n\
+frame 1 free bad 0 weak 0\ncpu 0 2\n0 recovered\n1 done\ncpu 1 1\n0 already\nend\n",
+        // it was taken back before
+        "hwp-report 1\nstop none\ncount 1\nframe 0 handled bad 0 weak 0\npoisoned 0 0 0 sw free recovered\nunpoisoned 0 0 1\n\
+poisoned 1 1 0 sw free recovered\nframe 1 free bad 0 weak 0\ncpu 0 2\n0 recovered\n1 done\ncpu 1 1\n0 recovered\nend\n",
+    ],
+};
+
+/// It fails under its page, and is to be taken back.
+const FAILED_IN_USE: Meeting = Meeting {
+    front: "hwp 1\ncpus 2\nframes 2\nproc 0\nthread 0 0 0 handler\npage 0 anon\ntrans 0 0 0\ncpu 0\nstore 0 0 0 5\ninject 0\n\
+cpu 1\nunpoison 0\nschedule 0.",
+    ends: &[
+        // it has not failed yet
+        "hwp-report 1\nstop none\ncount 1\nframe 0 handled bad 0 weak 0\npoisoned 0 0 1 sw anononly recovered\n\
+frame 1 free bad 0 weak 0\npage 0 4\nin 0 0\nmap 0 0 0\nstore 0 0 0 0 0 5\nfail 0 1 anononly opt - 1 0\nseen 0 default 0\n\
+cpu 0 2\n0 stored 0 2\n1 recovered\ncpu 1 1\n0 notpoisoned\nend\n",
+        // its page and the page's translation refer to it
+        "hwp-report 1\nstop none\ncount 1\nframe 0 handled bad 0 weak 0\npoisoned 0 0 1 sw anononly recovered\n\
+frame 1 free bad 0 weak 0\npage 0 4\nin 0 0\nmap 0 0 0\nstore 0 0 0 0 0 5\nfail 0 1 anononly opt - 1 0\nseen 0 default 0\n\
+cpu 0 2\n0 stored 0 2\n1 recovered\ncpu 1 1\n0 inuse 2\nend\n",
+        // the failure does too
+        "hwp-report 1\nstop none\ncount 1\nframe 0 handled bad 0 weak 0\npoisoned 0 0 1 sw anononly recovered\n\
+frame 1 free bad 0 weak 0\npage 0 4\nin 0 0\nmap 0 0 0\nstore 0 0 0 0 0 5\nfail 0 1 anononly opt - 1 0\nseen 0 default 0\n\
+cpu 0 2\n0 stored 0 2\n1 recovered\ncpu 1 1\n0 inuse 3\nend\n",
+        // its failure is over
+        "hwp-report 1\nstop none\ncount 0\nframe 0 free bad 0 weak 0\npoisoned 0 0 1 sw anononly recovered\nunpoisoned 0 1 0\n\
+frame 1 free bad 0 weak 0\npage 0 4\nin 0 0\nmap 0 0 0\nstore 0 0 0 0 0 5\nfail 0 1 anononly opt - 1 0\nseen 0 default 0\n\
+cpu 0 2\n0 stored 0 2\n1 recovered\ncpu 1 1\n0 done\nend\n",
+    ],
+};
+
+/// Its page is a dirty one of a file, which both ask for losses, twice. The failure has still to take the page out.
+const ASKED: Meeting = Meeting {
+    front: "hwp 1\ncpus 2\nframes 2\nfile 0\nproc 0\nthread 0 0 0 handler\npage 0 file 0 fill 9\ntrans 0 0 0\ncpu 0\nstore 0 0 0 5\n\
+inject 0\nfsync 0\nfsync 0\ncpu 1\nfsync 0\nfsync 0\nschedule 0. 0@set_pte",
+    ends: &[
+        // processor 1 asks twice before the loss is counted
+        "hwp-report 1\nstop none\ncount 1\nfile 0 lost 1\nframe 0 handled bad 0 weak 0\npoisoned 0 0 1 sw filedirty recovered\n\
+frame 1 free bad 0 weak 0\npage 0 4\nin 0 0\nmap 0 0 0\nstore 0 0 0 0 0 5\nfail 0 1 filedirty opt - 1 0\nseen 0 default 0\n\
+cpu 0 4\n0 stored 0 2\n1 recovered\n2 eio 1\n3 done\ncpu 1 2\n0 done\n1 done\nend\n",
+        // once before, and once behind it
+        "hwp-report 1\nstop none\ncount 1\nfile 0 lost 1\nframe 0 handled bad 0 weak 0\npoisoned 0 0 1 sw filedirty recovered\n\
+frame 1 free bad 0 weak 0\npage 0 4\nin 0 0\nmap 0 0 0\nstore 0 0 0 0 0 5\nfail 0 1 filedirty opt - 1 0\nseen 0 default 0\n\
+cpu 0 4\n0 stored 0 2\n1 recovered\n2 eio 1\n3 done\ncpu 1 2\n0 done\n1 eio 1\nend\n",
+        // twice behind it
+        "hwp-report 1\nstop none\ncount 1\nfile 0 lost 1\nframe 0 handled bad 0 weak 0\npoisoned 0 0 1 sw filedirty recovered\n\
+frame 1 free bad 0 weak 0\npage 0 4\nin 0 0\nmap 0 0 0\nstore 0 0 0 0 0 5\nfail 0 1 filedirty opt - 1 0\nseen 0 default 0\n\
+cpu 0 4\n0 stored 0 2\n1 recovered\n2 eio 1\n3 done\ncpu 1 2\n0 eio 1\n1 done\nend\n",
+    ],
+};
+
+/// Its page is a locked one of a file, dirty, which is dropped while the frame fails.
+const DROPPED: Meeting = Meeting {
+    front: "hwp 2\ncpus 2\nframes 2\nfile 0\nproc 0\nthread 0 0 0 handler\npage 0 file 0 fill 9 locked\ntrans 0 0 0\ncpu 0\n\
+store 0 0 0 5\ndrop 0\ncpu 1\ninject 0\nschedule 0.",
+    ends: &[
+        // the drop is refused before
+        "hwp-report 2\nstop none\ncount 1\nfile 0 lost 1\nframe 0 handled bad 0 weak 0\npoisoned 0 1 0 sw lockedfile recovered\n\
+frame 1 free bad 0 weak 0\npage 0 4\nin 0 0\nmap 0 0 0\nstore 0 0 0 0 0 5\nfail 1 0 lockedfile opt - 1 1\nseen 0 default 0\n\
+signal 0 0 ao 0\ncpu 0 2\n0 stored 0 2\n1 locked 0 3\ncpu 1 1\n0 recovered\nend\n",
+        // the failure has taken the page out of its frame
+        "hwp-report 2\nstop none\ncount 1\nfile 0 lost 1\nframe 0 handled bad 0 weak 0\npoisoned 0 1 0 sw lockedfile recovered\n\
+frame 1 free bad 0 weak 0\npage 0 4\nin 0 0\nmap 0 0 0\nstore 0 0 0 0 0 5\nfail 1 0 lockedfile opt - 1 1\nseen 0 default 0\n\
+signal 0 0 ao 0\ncpu 0 2\n0 stored 0 2\n1 notresident 0 4\ncpu 1 1\n0 recovered\nend\n",
+    ],
+};
+
+/// The texts that are other ones than the report.
+fn others(
+    rt: &impl Abort,
+    alloc: Global,
+    texts: &[&'static str],
+    report: &[u8],
+) -> Vec<&'static str> {
+    let mut rest = Vec::new(alloc);
+    for text in texts {
+        if text.as_bytes() != report {
+            rest.push(*text).expect(rt, "memory");
+        }
+    }
+    rest
+}
+
+/// Each order of twelve turns comes to one of the reports, which is legal, and each of the reports comes.
+pub fn comes_to_its_ends(rt: &impl Abort, alloc: Global, meeting: &Meeting) {
+    let mut rest = others(rt, alloc, meeting.ends, b"");
+    for number in 0..4096 {
+        let script = scheduled(rt, alloc, meeting.front, 12, number);
+        let out = report_of(rt, alloc, script.as_str());
+        let report = out.bytes();
+        let missed = others(rt, alloc, meeting.ends, report);
+        assert!(rt; missed.len() < meeting.ends.len());
+        are_legal(rt, alloc, script.as_str(), report);
+        rest = others(rt, alloc, rest.as_slice(), report);
+    }
+    assert!(rt; rest.is_empty());
+}
+
+#[test]
+fn a_soft_offline_and_a_failure_come_to_a_page_moved_or_lost(rt: HostRuntime) {
+    comes_to_its_ends(&rt, rt.alloc(), &OFFLINED);
+}
+
+#[test]
+fn of_two_soft_offlines_one_moves_the_page(rt: HostRuntime) {
+    comes_to_its_ends(&rt, rt.alloc(), &OFFLINED_BY_BOTH);
+}
+
+#[test]
+fn a_swap_out_and_a_failure_come_to_a_page_in_swap_or_lost(rt: HostRuntime) {
+    comes_to_its_ends(&rt, rt.alloc(), &LEFT);
+}
+
+#[test]
+fn a_freed_translation_is_out_of_use_before_a_failure_or_by_it(rt: HostRuntime) {
+    comes_to_its_ends(&rt, rt.alloc(), &FREED);
+}
+
+#[test]
+fn a_frame_is_taken_back_before_it_fails_again_or_after(rt: HostRuntime) {
+    comes_to_its_ends(&rt, rt.alloc(), &TAKEN_BACK);
+}
+
+#[test]
+fn a_frame_is_taken_back_once_its_failure_is_over(rt: HostRuntime) {
+    comes_to_its_ends(&rt, rt.alloc(), &FAILED_IN_USE);
+}
+
+#[test]
+fn each_processor_is_told_of_a_loss_once(rt: HostRuntime) {
+    comes_to_its_ends(&rt, rt.alloc(), &ASKED);
+}
+
+#[test]
+fn a_locked_page_is_refused_to_a_drop_or_lost_before(rt: HostRuntime) {
+    comes_to_its_ends(&rt, rt.alloc(), &DROPPED);
+}
