@@ -1,42 +1,19 @@
 -- The counters stand for one event more after a note and after a round, and what is so of them at any time stays so.
 use Rattle.std.proofs.Common.{◌≡◌, ◌≢◌, ℕ, zero, suc, ◌+◌, ◌-◌, ◌<◌, ◌≤◌, ◌==◌, Bool, true, false, List, [], ◌∷◌, ◌++◌, length, get_or, set, take, drop, replicate, map, sum, count_by, if◌then◌else◌, refl, sym, ap, subst, ◌∙◌, inl, inr, eq-eqb, arith}
-use Rattle.std.proofs.lemmas.Bool.{cases_eq, ne_eqb, both_ways}
+use Rattle.std.proofs.lemmas.Bool.{cases_eq, ne_eqb}
 use Rattle.std.proofs.lemmas.Bool.Decides.{nat_tests}
 use Rattle.std.proofs.lemmas.List.{get_or-replicate, get_or-set_same, get_or-set_other, get_or-take, length-set, length-map, length-replicate, length-take-le, get_or-append_right, get_or-drop, drop_more, drop_all, take_more, take_all, set_at, append-nil, append_assoc, map-append, replicate-append-replicate, with_items_is}
 use Rattle.std.specs.Vec.{with_items}
 use Rattle.std.specs.Prelude.{Vec}
-use Rattle.std.proofs.lemmas.List.Elements.{All-replicate, All-get_or, All-set, All-map, All-weaker}
-use Rattle.std.proofs.lemmas.List.Sums.{sum_by-cons, sum_by-set, sum_by-take-le}
+use Rattle.std.proofs.lemmas.List.Elements.{All-get_or, All-map, All-weaker}
+use Rattle.std.proofs.lemmas.List.Sums.{sum_by-cons, sum_by-take-le}
 use Rattle.hwp_geom.specs.declared.Frame.{Frame}
-use Rattle.hwp_cec.specs.Limits.{threshold_limit, window_limit}
 use Rattle.hwp_cec.specs.Ages.{CecEvent, Note, Round, young, aged, ages_after, live}
 use Rattle.hwp_cec.specs.Counting.{counted}
-use Rattle.hwp_cec.specs.Counters.{Counters, row_of, counter, StandsFor, begun, noted_row, noted_in, next_row, rounded, answer, IsRow, IsCounted}
+use Rattle.hwp_cec.specs.Counters.{Counters, row_of, counter, StandsFor, noted_row, noted_in, next_row, rounded, answer, IsRow, IsCounted}
 use Rattle.hwp_cec.proofs.Counts.{one, count-push, count-map, count-same, count-none}
 use Rattle.hwp_cec.proofs.AgeLaws.{ages-append, sum-young}
 use Rattle.hwp_cec.proofs.CountingLaws.{counted-live}
-
--- without a note
-
-sum-zeros : (n : ℕ) → sum (replicate n 0) ≡ 0
-sum-zeros zero = refl
-sum-zeros (suc n) = sum_by-cons (λ x. x) 0 (replicate n 0) ∙ (ap (λ (m : ℕ). 0 + m) (sum-zeros n) ∙ omega arith)
-
-zeros : (t w : ℕ) → 1 ≤ t → IsRow t w (replicate w 0)
-zeros t w some = record { whole = length-replicate w 0; below = omega (arith, some, sum-zeros w) }
-
-pub begun-counted : (t w frames : ℕ) → 1 ≤ t → t ≤ threshold_limit → 1 ≤ w → w ≤ window_limit → IsCounted (begun t w frames)
-begun-counted t w frames some low some_rounds within =
-    record { low = low; some_rounds = some_rounds; rounds_within = within; rows = All-replicate (IsRow t w) frames (replicate w 0) (zeros t w some) }
-
-pub begun-stands : (t w frames : ℕ) → StandsFor [] (begun t w frames)
-begun-stands t w frames =
-    record {
-      each = λ frame k in_frames in_window.
-          let zero_row : List ℕ = replicate w 0 in
-          ap (λ (cells : List ℕ). get_or cells k 0) (get_or-replicate frames frame zero_row [] (omega (arith, in_frames, length-replicate frames zero_row)))
-          ∙ get_or-replicate w k 0 0 in_window;
-    }
 
 -- a note
 
@@ -113,27 +90,6 @@ pub answer-counted : (c : Counters) (events : List CecEvent) (frame : Frame) →
     → answer c.threshold (sum (row_of c frame.0) + 1) ≡ answer c.threshold (counted c.threshold c.window events frame)
 answer-counted c events frame some in_frames cells stands =
     answer-live c events frame in_frames cells stands ∙ sym (ap (answer c.threshold) (counted-live c.threshold c.window events frame some))
-
-noted_row-counted : (t w : ℕ) (cells : List ℕ) (b : Bool) → (sum cells + 1 == t) ≡ b → 1 ≤ w → IsRow t w cells
-    → IsRow t w (if b then replicate (length cells) 0 else set cells 0 (get_or cells 0 0 + 1))
-noted_row-counted t w cells true is some has =
-    record { whole = length-replicate (length cells) 0 ∙ has.whole; below = omega (arith, sum-zeros (length cells), has.below) }
-noted_row-counted t w cells false is some has =
-    let more : sum (set cells 0 (get_or cells 0 0 + 1)) + get_or cells 0 0 ≡ sum cells + (get_or cells 0 0 + 1) =
-    sum_by-set (λ x. x) cells 0 (get_or cells 0 0 + 1) 0 (omega (arith, some, has.whole)) in
-    let less : sum cells + 1 ≢ t = λ h. both_ways (sum cells + 1 == t) is (eq-eqb (sum cells + 1) t h) in
-    record { whole = length-set cells 0 (get_or cells 0 0 + 1) ∙ has.whole; below = omega (arith, more, less, has.below) }
-
-pub noted-counted : (c : Counters) (f : ℕ) → f < length c.counts → IsCounted c → IsCounted (noted_in c f)
-noted-counted c f within is =
-    let cells : IsRow c.threshold c.window (row_of c f) = All-get_or (IsRow c.threshold c.window) c.counts f [] within is.rows in
-    record {
-      low = is.low;
-      some_rounds = is.some_rounds;
-      rounds_within = is.rounds_within;
-      rows = All-set (IsRow c.threshold c.window) c.counts f (noted_row c.threshold (row_of c f))
-          (noted_row-counted c.threshold c.window (row_of c f) (sum (row_of c f) + 1 == c.threshold) refl is.some_rounds cells) is.rows;
-    }
 
 -- a round
 

@@ -1,16 +1,12 @@
 -- The walk over the lines of an input.
-use Rattle.std.proofs.Common.{◌≡◌, ◌≢◌, ℕ, ◌+◌, ◌-◌, ◌≤◌, List, [], ◌∷◌, ◌++◌, length, take, refl, sym, ap, ◌∙◌, append_assoc, append-nil, arith}
+use Rattle.std.proofs.Common.{◌≡◌, ◌≢◌, ℕ, ◌-◌, List, [], ◌∷◌, ◌++◌, length, take, refl, sym, ap, ◌∙◌, append_assoc, append-nil, arith}
 use Rattle.std.specs.Prelude.{All}
 use Rattle.std.specs.List.{flat_map}
 use Rattle.std.proofs.lemmas.List.{length-append}
-use Rattle.std.proofs.lemmas.List.Elements.{All-nil, All-push}
+use Rattle.std.proofs.lemmas.List.Elements.{All-push}
 use Rattle.std.proofs.lemmas.Grind.{flat_map-append}
 use Rattle.hwp_report.specs.Cutting.{IsCut}
 use Rattle.hwp_check.specs.Parting.{EndsWith, GoesOn, IsEnd, fed}
-
--- at the beginning all is left
-pub begun : (input : List ℕ) → GoesOn input input
-begun input = record { lines = []; feedless = All-nil (λ (line : List ℕ). All (λ b. b ≢ 10) line); none = All-nil (λ (line : List ℕ). IsEnd line → ⊥); same = refl }
 
 -- a line that doesn't end the script
 pub one-line : (input rest line behind : List ℕ) → GoesOn input rest → IsCut rest line behind → (IsEnd line → ⊥) → GoesOn input behind
@@ -26,14 +22,6 @@ one-line input rest line behind h cut not_end = record {
 
     lines-more : flat_map fed (h.lines ++ line ∷ []) ≡ flat_map fed h.lines ++ fed line
     lines-more = flat_map-append fed h.lines (line ∷ []) ∙ ap (λ t. flat_map fed h.lines ++ t) (append-nil (fed line))
-
--- what is left is no longer than the input
-pub within : (input rest : List ℕ) → GoesOn input rest → length rest ≤ length input
-within input rest h = omega (arith, ap length h.same, length-append (flat_map fed h.lines) rest)
-
--- a line is cut off
-pub shorter : (rest line behind : List ℕ) → IsCut rest line behind → length behind + 1 ≤ length rest
-shorter rest line behind c = omega (arith, ap length c.same, length-append line (10 ∷ behind))
 
 take-front : (xs ys : List ℕ) → take (length xs) (xs ++ ys) ≡ xs
 take-front [] ys = refl

@@ -1,5 +1,5 @@
 -- The walk over a processor's commands: what is known before each.
-use Rattle.std.proofs.Common.{◌≡◌, ℕ, ◌+◌, ◌*◌, ◌<◌, ◌≤◌, ◌^◌, ◌&&◌, false, List, [], ◌∷◌, Option, Some, None, get_or, length, slice_get, sum_by, take, unwrap_or, refl, sym, ap, ◌∙◌, subst, arith}
+use Rattle.std.proofs.Common.{◌≡◌, ℕ, ◌+◌, ◌*◌, ◌<◌, ◌≤◌, ◌^◌, ◌&&◌, List, [], Option, Some, None, get_or, length, slice_get, sum_by, take, unwrap_or, sym, ap, ◌∙◌, subst, arith}
 use Rattle.std.proofs.lemmas.List.Sums.{count_by-le-length, get_or-le-sum_by, sum_by-le-sum_by}
 use Rattle.std.proofs.lemmas.Option.{get_or_from_slice_get, slice_get-get_or, slice_get_within}
 use Rattle.hwp_banks.specs.hwp_geom.declared.Cpu.{Cpu}
@@ -19,7 +19,7 @@ use Rattle.hwp_law.specs.Lines.{answer_among, answer_of, events_among, events_of
 use Rattle.hwp_law.specs.hwp_law_commands.Commands.{is_check}
 use Rattle.hwp_law.specs.Pairings.{entries_of}
 use Rattle.hwp_check_events.specs.Indexed.{AreChecks, AreFirst, AreShown, checks_in, shown_from}
-use Rattle.hwp_check_events.specs.Judged.{IsJudged, IsTable}
+use Rattle.hwp_check_events.specs.Judged.{IsJudged}
 use Rattle.hwp_check_events.specs.Misfits.{IsFit, found_by, leaves, left_by}
 use Rattle.hwp_check_scrub.specs.hwp_check_event_line.Firsts.{shown_lines}
 use Rattle.hwp_check_events.specs.Walked.{HasPlace, IsTableOf, IsWalked, joined, with_mark}
@@ -29,7 +29,7 @@ use Rattle.hwp_check_scrub.specs.hwp_check_event_line.declared.Shown.{Shown}
 use Rattle.hwp_check_events.proofs.IndexLaws.{told-is}
 use Rattle.hwp_check_events.proofs.TableLaws.{table-next, table-size}
 use Rattle.hwp_check_events.proofs.ValidLaws.{command-of, fits}
-use Rattle.hwp_check_events.proofs.WalkLaws.{left-next, walked-first, walked-next}
+use Rattle.hwp_check_events.proofs.WalkLaws.{left-next, walked-next}
 use Rattle.hwp_banks.specs.hwp_geom.declared.VSlot.{VSlot}
 
 -- before the command with number n
@@ -43,19 +43,9 @@ module _ (script : Script) (copies : Who → Option VSlot) (report : Report) (cp
   abbrev at : ℕ → Who
   at n = record { cpu = cpu; seq = n }
 
-  pub so-first : (table : List ℕ) → length table ≡ 2 * script.layout.frames → IsTableOf [] table → SoFar script copies report cpu list rows 0 None table (record { lacks = false; wrong = None })
-  so-first table size empty = record { raw_is = ap (λ (l : List Command). left_by script copies report cpu 0 l None) (sym (take-none list)); lows = subst (λ (l : List Command). IsTableOf l table) (sym (take-none list)) empty; size = size; walked = walked-first script copies report cpu list rows }
-    where
-      take-none : (xs : List Command) → take 0 xs ≡ []
-      take-none [] = refl
-      take-none (x ∷ xs) = refl
-
   -- what the command finds in bank 1, and the table for it
   found-is : (n : ℕ) → found_by script copies report (at n) ≡ left_by script copies report cpu 0 (take n list) None
   found-is n = ap (λ (o : Option (List Command)). left_by script copies report cpu 0 (take n (unwrap_or o [])) None) of_script
-
-  pub table-is : (n : ℕ) (raw : Option Event) (table : List ℕ) (found : Misfits) → SoFar script copies report cpu list rows n raw table found → IsTable script (at n) table
-  table-is n raw table found so = subst (λ (o : Option (List Command)). IsTableOf (take n (unwrap_or o [])) table) (sym of_script) so.lows
 
   -- its number is small
   pub few-commands : length list ≤ 4096

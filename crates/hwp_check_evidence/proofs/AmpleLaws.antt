@@ -27,9 +27,6 @@ list-many watches [] flags = refl
 list-many watches (c ∷ rest) flags = list-many watches rest (noted_in watches flags c) ∙ noted-many flags (frame_named watches c)
 
 module _ (watches : Bool) (f : ℕ) where
-  is_f : ℕ → Bool
-  is_f n = n == f
-
   set-at : (flags : List Bool) (n : ℕ) → f < length flags → get_or (set flags n true) f false ≡ (get_or flags f false || (n == f))
   set-at flags n inside = elim (cases_eq f n) [
     | inl here ↦

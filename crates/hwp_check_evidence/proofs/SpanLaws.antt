@@ -101,10 +101,6 @@ module _ (cpu : Cpu) where
   start-next (x ∷ es) zero e is = ap (starts_with cpu (start_of cpu es)) (same_Some _ _ is)
   start-next (x ∷ es) (suc n) e is = start-next es n e is ∙ ap (λ (m : ℕ). starts_with cpu (start_of cpu (drop m (x ∷ es))) e) (let z : suc (n + 1) ≡ suc n + 1 = omega arith in z)
 
-  pub start-none : (es : List Entry) → start_of cpu (drop (length es) es) ≡ none_number
-  start-none [] = refl
-  start-none (x ∷ es) = start-none es
-
   pub starts-more : (es : List Entry) (list : List ℕ) (back start : ℕ) → length list ≡ back → back ≤ length es → start ≡ start_of cpu (drop (length es - back) es) → AreStarts cpu es list → AreStarts cpu es (list ++ start ∷ [])
   starts-more es list back start many few is are = record {
     each = λ k n x there sum. elim (item_of_push list start k x there) [

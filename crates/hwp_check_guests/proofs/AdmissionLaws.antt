@@ -101,9 +101,6 @@ module _ (layout : Layout) (process : Proc) where
   stopped-of earlier = stops-from new_guest earlier
 
   module _ (slot : VSlot) where
-    has : GuestState → Bool
-    has g = set.contains g.bad slot.0
-
     none-more : (b : Bool) → b ≡ b || false
     none-more true = refl
     none-more false = refl

@@ -1,8 +1,8 @@
 -- A command is flagged exactly where it does something, or where it has a guest's line.
-use Rattle.std.proofs.Common.{◌≡◌, ◌≢◌, inl, inr, ℕ, zero, suc, ◌+◌, ◌<◌, ◌≤◌, ◌==◌, ◌||◌, Bool, true, false, cond, if◌then◌else◌, List, [], ◌∷◌, Option, Some, None, drop, fold, get_or, length, option_and_then, replicate, slice_get, slice_set, unwrap_or, refl, sym, ap, ◌∙◌, subst, true≢false}
+use Rattle.std.proofs.Common.{◌≡◌, ◌≢◌, inl, inr, ℕ, zero, suc, ◌<◌, ◌==◌, ◌||◌, Bool, true, false, cond, if◌then◌else◌, List, [], ◌∷◌, Option, Some, None, fold, get_or, length, option_and_then, replicate, slice_get, slice_set, unwrap_or, refl, sym, ap, ◌∙◌, subst, true≢false}
 use Rattle.std.specs.List.{list_any}
 use Rattle.std.proofs.lemmas.Bool.{cases_eq, eq-eqb, eqb-true, ne_eqb}
-use Rattle.std.proofs.lemmas.List.{drop_all, drop_more, get_or-replicate, get_or-set_other, get_or-set_same, length-replicate, length-set}
+use Rattle.std.proofs.lemmas.List.{get_or-replicate, get_or-set_other, get_or-set_same, length-replicate, length-set}
 use Rattle.std.proofs.lemmas.Option.{none-some, same_Some}
 use Rattle.hwp_check_rules.specs.hwp_geom.declared.Cpu.{Cpu}
 use Rattle.hwp_check_rules.specs.hwp_geom.declared.Who.{Who}
@@ -16,15 +16,6 @@ use Rattle.hwp_check_rules.specs.hwp_law.Guests.{DoesNothing}
 use Rattle.hwp_check_rules.specs.hwp_law.Lines.{events_among, events_of}
 use Rattle.hwp_check_guests.specs.Busy.{busy_by, guest_by, guests_by, marked_by, marked_in, told_by}
 use Rattle.hwp_check_guests.specs.Telling.{is_guest_of}
-
--- ---- loops over a list
-
--- what is left of the list makes of the value what the whole makes of the first
-pub fold-more : {A B : Type 0} (f : A → B → A) (xs : List B) (n : ℕ) (d : B) (first last next : A) → n < length xs → next ≡ f last (get_or xs n d) → fold f last (drop n xs) ≡ fold f first xs → fold f next (drop (n + 1) xs) ≡ fold f first xs
-fold-more f xs n d first last next within is so = ap (λ (a : _). fold f a (drop (n + 1) xs)) is ∙ sym (ap (fold f last) (drop_more xs n d within)) ∙ so
-
-pub fold-all : {A B : Type 0} (f : A → B → A) (xs : List B) (n : ℕ) (first last : A) → length xs ≤ n → fold f last (drop n xs) ≡ fold f first xs → last ≡ fold f first xs
-fold-all f xs n first last past so = sym (ap (fold f last) (drop_all n xs past)) ∙ so
 
 -- ---- what is flagged
 

@@ -91,10 +91,6 @@ module _ (commands : List Command) (admits : List Admit) (flags : List Bool) (se
 
 -- ---- a guest's line
 
-answer_in : CpuLine → Answer
-answer_in (lines.Answer seq answer) = answer
-answer_in line = answers.Done
-
 by-line : (seq : ℕ) (line : CpuLine) (answer : Answer) → answer_by seq line ≡ Some answer → line ≡ lines.Answer seq answer
 by-line seq (lines.Answer number given) answer is = by (number == seq) refl is
   where

@@ -1,25 +1,19 @@
 -- What a collector makes of notes, one by one, and of a command.
-use Rattle.std.proofs.Common.{◌≡◌, ℕ, ◌+◌, ◌<◌, ◌==◌, Bool, true, false, true≢false, ◌&&◌, List, [], ◌∷◌, ◌++◌, Option, Some, None, MatchBool, MatchOption, get_or, length, map, option_map, replicate, take, if◌then◌else◌, refl, sym, ap, ◌∙◌, subst}
-use Rattle.std.proofs.lemmas.List.{length-map, length-replicate, length-set, map-append, take_more}
+use Rattle.std.proofs.Common.{◌≡◌, ℕ, ◌+◌, ◌<◌, ◌==◌, Bool, true, false, true≢false, ◌&&◌, List, [], ◌∷◌, ◌++◌, Option, Some, None, MatchBool, MatchOption, get_or, length, map, option_map, take, if◌then◌else◌, refl, sym, ap, ◌∙◌, subst}
+use Rattle.std.proofs.lemmas.List.{length-set, map-append, take_more}
 use Rattle.hwp_check_rules.specs.hwp_geom.declared.Frame.{Frame}
 use Rattle.hwp_check_rules.specs.hwp_script_read.declared.Command.{Command}
 use Rattle.hwp_check_rules.specs.hwp_script_read.declared.Command.TheVariants as commands
 use Rattle.hwp_check_rules.specs.hwp_report_text.declared.Answer.{Answer}
 use Rattle.hwp_check_rules.specs.hwp_report_text.declared.Answer.TheVariants as answers
 use Rattle.hwp_check_rules.specs.hwp_law_commands.Watched.{Watched, due, offlining, told, watched_after}
-use Rattle.hwp_law_commands.proofs.NoteLaws.{offlining-append, told-more, told-none}
+use Rattle.hwp_law_commands.proofs.NoteLaws.{offlining-append, told-more}
 use Rattle.hwp_cec.specs.Ages.{CecEvent, Note, Round, live}
-use Rattle.hwp_cec.specs.Counters.{Counters, StandsFor, answer, begun, next_row, noted_in, noted_row, row_of, rounded}
+use Rattle.hwp_cec.specs.Counters.{Counters, StandsFor, answer, noted_in, noted_row, row_of}
 use Rattle.hwp_cec.specs.declared.collector.Noted.{Noted}
 use Rattle.hwp_cec.specs.declared.collector.Noted.TheVariants as noted
 use Rattle.hwp_check_offlined.specs.Collecting.{AreDue, AreTaken, IsBegun, IsGoneOn, IsNoted, IsRounded, IsWatching, Stands, begun_by, ends_round, fresh, if_goes, is_offline}
 use Rattle.hwp_check_offlined.specs.declared.collecting.Limits.{Limits}
-
-length-rows : (old : Counters) → length (rounded old).counts ≡ length old.counts
-length-rows old = length-map old.counts next_row
-
-length-begun : (threshold window frames : ℕ) → length (begun threshold window frames).counts ≡ frames
-length-begun threshold window frames = length-replicate frames (replicate window 0)
 
 offline-where : (threshold count : ℕ) → is_offline (answer threshold count) ≡ (count == threshold)
 offline-where threshold count = by (count == threshold)
@@ -44,17 +38,6 @@ noted-once old new frame told_so goes counts stands live_is goes_is = record {
 }
 
 -- some notes were taken, and one more
-pub taken-none : (old : Counters) (notes frames : List Frame) → frames ≡ [] → AreTaken old old (take 0 notes) frames
-taken-none old notes frames none = record {
-  many = refl;
-  frames_are = λ v s. none ∙ sym (ap (offlining v) (nothing notes));
-  stands = λ v s. subst (λ (w : Watched). Stands w old) (sym (ap (λ (l : List Frame). told (map Note l) v) (nothing notes) ∙ told-none v)) s;
-}
-  where
-    nothing : (xs : List Frame) → take 0 xs ≡ []
-    nothing [] = refl
-    nothing (x ∷ xs) = refl
-
 pub taken-more : (old now new : Counters) (notes frames more : List Frame) (i : ℕ) (d : Frame) (goes : Bool) → i < length notes → AreTaken old now (take i notes) frames → IsNoted now new (get_or notes i d) goes → more ≡ frames ++ if_goes goes (get_or notes i d)
     → AreTaken old new (take (i + 1) notes) more
 taken-more old now new notes frames more i d goes within so next more_is = record {

@@ -81,16 +81,6 @@ pub record AreDueSoFar (layout : Layout) (list : List Command) (rows : List CpuL
   pub dues_are : AreDues layout list rows n dues
   pub watching : IsWatching layout.frames (watched_at layout list rows n) on c
 
-pub none-yet : (layout : Layout) (list : List Command) (rows : List CpuLine) (c : Counters) → length c.counts ≡ layout.frames → AreDueSoFar layout list rows 0 [] false c
-none-yet layout list rows c many = record {
-  dues_are = record { many = refl; each = λ seq frames is. absurd (none-some frames is) };
-  watching = subst (λ (w : Option Watched). IsWatching layout.frames w false c) (sym (ap (λ (l : List (Command × Answer)). watched_from layout rows 0 l None) (nothing (answered list rows)))) (record { many = many; is = refl });
-}
-  where
-    nothing : (xs : List (Command × Answer)) → take 0 xs ≡ []
-    nothing [] = refl
-    nothing (x ∷ xs) = refl
-
 module _ (layout : Layout) (list : List Command) (rows : List CpuLine) (n : ℕ) (command : Command) (given : Answer) (made : slice_get list n ≡ Some command) (told : slice_get (answers_to list rows) n ≡ Some given) where
   pub one-more : (dues more : List (List Frame)) (on after : Bool) (old now new : Counters) (noted frames : List Frame) → noted ≡ notes layout (events_among rows n) → AreDueSoFar layout list rows n dues on old
       → AreDue on old now noted frames → more ≡ dues ++ frames ∷ [] → IsGoneOn command given on after now new → AreDueSoFar layout list rows (n + 1) more after new

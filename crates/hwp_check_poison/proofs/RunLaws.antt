@@ -61,12 +61,6 @@ ends-split b (m ∷ ms) (suc first) (suc k) up =
     let e : k - first ≡ suc k - suc first = omega arith in
     ends-split (is_poisoning m) ms first k (omega (arith, up)) ∙ ap (λ (n : ℕ). ends_from (ends_from (is_poisoning m) (take first ms)) (take n (drop first ms))) e
 
--- the record behind a mark ends as the mark says
-pub ends-at : (b : Bool) (list : List MarkLine) (i : ℕ) (m : MarkLine) → slice_get list i ≡ Some m → ends_from b (take (suc i) list) ≡ is_poisoning m
-ends-at b [] i m there = absurd (none-some m there)
-ends-at b (x ∷ xs) zero m there = ap is_poisoning (same_Some _ _ there)
-ends-at b (x ∷ xs) (suc i) m there = ends-at (is_poisoning x) xs i m there
-
 -- the number kept of a mark is that of the marks from it on that say the same
 pub runs-at : (list : List MarkLine) (i : ℕ) (m : MarkLine) (x : ℕ) → slice_get list i ≡ Some m → slice_get (runs list) i ≡ Some x → x ≡ run (is_poisoning m) (drop i list)
 runs-at [] i m x there slot = absurd (none-some m there)

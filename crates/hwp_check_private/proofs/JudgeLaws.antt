@@ -49,10 +49,6 @@ module _ (layout : Layout) (report : Report) (cpu : Cpu) (list : List Command) (
   word_in (answers.Value word at) = word
   word_in answer = 0
 
-  abbrev place_in : Answer → At → At
-  place_in (answers.Value word at) d = at
-  place_in answer d = d
-
   pub value_wrong : (seq word : ℕ) (at : At) (a b : Bool) → MatchBool a (IsWordWrong layout report cpu list pairs seq word) (IsWordWrong layout report cpu list pairs seq word → ⊥)
       → (IsTrue b ↔ (answer_among rows seq ≡ Some (answers.Value word at))) → MatchBool (cond a b false) (WrongRow (lines.Answer seq (answers.Value word at))) (WrongRow (lines.Answer seq (answers.Value word at)) → ⊥)
   value_wrong seq word at true true wrong tells = record { seq = seq; word = word; at = at; line_is = refl; answered = tells.0 refl; wrong = wrong }

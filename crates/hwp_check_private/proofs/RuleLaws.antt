@@ -247,13 +247,6 @@ module _ (script : Script) (report : Report) where
 
   -- ---- as the processors are judged one after another
 
-  pub kept-on : (cpu : Cpu) (list : List Command) (rows : List CpuLine) (pairs : List (Command × Answer)) → slice_get script.lists cpu.0 ≡ Some list → slice_get report.cpus cpu.0 ≡ Some rows → pairs ≡ answered list rows
-      → AreKept script.layout report cpu list rows pairs (length rows) → AreKeptOn script report cpu
-  kept-on cpu list rows pairs of_script of_report are kept = λ cs rs one other.
-      let lists : list ≡ cs = same_Some _ _ (sym of_script ∙ one) in
-      let rows_are : rows ≡ rs = same_Some _ _ (sym of_report ∙ other) in
-      subst (λ (l : List Command). Kept cpu l rs) lists (subst (Kept cpu list) rows_are (subst (λ (p : List (Command × Answer)). AreKept script.layout report cpu list rows p (length rows)) are kept))
-
   pub first-on : (cpu : Cpu) (list : List Command) (rows : List CpuLine) (pairs : List (Command × Answer)) (row line : ℕ) → slice_get script.lists cpu.0 ≡ Some list → slice_get report.cpus cpu.0 ≡ Some rows → pairs ≡ answered list rows
       → IsFirstWrong script.layout report cpu list rows pairs row → line ≡ row_line report cpu.0 row → IsFirstOn script report cpu line
   first-on cpu list rows pairs row line of_script of_report are wrong line_is = record {

@@ -41,9 +41,6 @@ count-next rows i d answered n b within was is one =
 events-more : (row seq : ℕ) (line : CpuLine) (rows : List CpuLine) → events_before (line ∷ rows) (suc row) seq ≡ flag (is_event line && (seq_of line == seq)) + events_before rows row seq
 events-more row seq line rows = sum_by-cons (λ (l : CpuLine). cond (is_event l && (seq_of l == seq)) 1 0) line (take row rows)
 
-events-first : (line : CpuLine) (rows : List CpuLine) (seq : ℕ) → events_before (line ∷ rows) 0 seq ≡ 0
-events-first line rows seq = refl
-
 plain : (n : ℕ) → n ≡ 0 + n
 plain n = omega arith
 

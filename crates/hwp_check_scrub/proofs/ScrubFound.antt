@@ -1,5 +1,5 @@
 -- What the law says of a frame that a scrub goes over, in lines.
-use Rattle.std.proofs.Common.{◌≡◌, ℕ, ◌||◌, Bool, true, false, List, [], ◌∷◌, ◌++◌, Option, Some, None, refl, sym, ap, subst}
+use Rattle.std.proofs.Common.{◌≡◌, ℕ, ◌||◌, Bool, true, false, List, [], ◌∷◌, Option, Some, None, refl, sym, ap, subst}
 use Rattle.std.proofs.lemmas.Option.{same_Some}
 use Rattle.hwp_banks.specs.hwp_geom.declared.Frame.{Frame}
 use Rattle.hwp_banks.specs.hwp_geom.declared.Who.{Who}
@@ -10,17 +10,13 @@ use Rattle.hwp_check_event_line.specs.hwp_law.hwp_script_read.declared.Script.{S
 use Rattle.hwp_check_event_line.specs.hwp_law.hwp_report_text.declared.Report.{Report}
 use Rattle.hwp_check_event_line.specs.hwp_law.Checks.{AreLinesOf, IsLineOf}
 use Rattle.hwp_check_event_line.specs.hwp_law.hwp_report_text.Acts.{is_panic}
-use Rattle.hwp_banks.specs.Banks.{Banks, held_from}
+use Rattle.hwp_banks.specs.Banks.{Banks}
 use Rattle.hwp_check_event_line.specs.hwp_law.hwp_severity.Handling.{has_stop}
 use Rattle.hwp_check_event_line.specs.hwp_law.hwp_severity.declared.Arrival.{Arrival}
 use Rattle.hwp_check_event_line.specs.hwp_law.Events.{IsBadFound, IsDamaged, IsWeakFound}
 use Rattle.hwp_check_event_line.specs.hwp_law.hwp_report_text.declared.EventLine.{EventLine}
 use Rattle.hwp_check_event_line.specs.Found.{has_stopper, resting, stops}
-use Rattle.hwp_check_event_line.proofs.FoundLaws.{banks_at, held_raw, one-line, two-lines}
-
-held-bad : (raw : Option Event) (frame : Frame) (at : ℕ) → held_from 0 (banks_at origins.BadLine raw frame at) ≡ held_raw raw ++ (2, own_event origins.BadLine frame at) ∷ []
-held-bad None frame at = refl
-held-bad (Some event) frame at = refl
+use Rattle.hwp_check_event_line.proofs.FoundLaws.{banks_at, one-line, two-lines}
 
 or-turned : (a b : Bool) → (a || (b || false)) ≡ (b || a)
 or-turned true true = refl

@@ -45,12 +45,6 @@ not-second false b c d p = refl
 not-second true false c d p = refl
 not-second true true c d p = absurd (true≢false p)
 
-not-third : (a b c d : Bool) → c ≡ false → (a && b && c && d) ≡ false
-not-third false b c d p = refl
-not-third true false c d p = refl
-not-third true true false d p = refl
-not-third true true true d p = absurd (true≢false p)
-
 all-five : (a b c d e : Bool) → a ≡ true → b ≡ true → c ≡ true → d ≡ true → e ≡ true → (a && b && c && d && e) ≡ true
 all-five true true true true true p q r s t = refl
 all-five false b c d e p q r s t = absurd (true≢false (sym p))

@@ -167,9 +167,6 @@ module _ (script : Script) (report : Report) (shape : ShapeFits script report) w
   differs-first file true is = record { at = (eqb-false (said file) (had file) (not-true (said file == had file) is), refl); first = λ l d. let same : l ≡ 4 + file = d.1 in omega (arith, same) }
   differs-first file false is = λ l d. d.0 (eqb-true (said file) (had file) (not-false (said file == had file) is))
 
-  pub lost-none : IsFirst (IsLostWrong script report 0) None
-  lost-none line w = let less : w.file.0 < 0 = w.before in omega (arith, less)
-
   pub lost-next : (file : ℕ) (found : Option ℕ) → file < length report.files → IsFirst (IsLostWrong script report file) found
       → IsFirst (IsLostWrong script report (file + 1)) (sooner_if (not (get_or report.files file 0 == losses_such is_lost script report (record { 0 = file }))) found (4 + file))
   lost-next file found inside first =
@@ -208,9 +205,6 @@ module _ (script : Script) (report : Report) (shape : ShapeFits script report) w
       from line w = record { file = w.file; lost = w.lost; before = (let less : w.file.0 < script.layout.files = w.before in omega (arith, less, all)); there = w.there; other = w.other; line_is = w.line_is }
 
   -- ---- one processor more
-
-  pub told-none : IsFirst (IsToldWrongBy script report 0) None
-  told-none line w = let less : w.cpu.0 < 0 = w.before in omega (arith, less)
 
   -- all processors
   pub told-end : (many : ℕ) (found : Option ℕ) → script.layout.cpus ≤ many → IsFirst (IsToldWrongBy script report many) found → IsFirstTold script report found

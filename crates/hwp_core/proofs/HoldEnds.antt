@@ -28,15 +28,13 @@ use Rattle.hwp_core_task.specs.hwp_core_rule.parts.Fits.{FitsWords}
 use Rattle.hwp_core_task.proofs.of_hwp_core_rule.PageWords.{fitting-at}
 use Rattle.hwp_core_task.proofs.of_hwp_core_rule.Lists.{same-number}
 use Rattle.hwp_core.specs.declared.hold.Hold.{Hold}
-use Rattle.hwp_core.specs.declared.hold.HoldAt.{HoldAt}
 use Rattle.hwp_core.specs.declared.hold.HoldAt.TheVariants as at
 use Rattle.hwp_core.specs.declared.unhold.Unhold.{Unhold}
 use Rattle.hwp_core.specs.declared.unhold.UnholdAt.{UnholdAt}
 use Rattle.hwp_core.specs.declared.unhold.UnholdAt.TheVariants as unhold_at
 use Rattle.hwp_core_task.specs.Calls.{IsOnTurn}
 use Rattle.hwp_core_task.specs.Hands.{Hand, body_in, empty, hand_of}
-use Rattle.hwp_core.specs.Holds.{HoldsPage, FitsAt, IsBody, IsBodyAt, answer, answer_at, held, page_lock, words_of}
-use Rattle.hwp_core.specs.Holds as holds
+use Rattle.hwp_core.specs.Holds.{HoldsPage, FitsAt, held, page_lock, words_of}
 use Rattle.hwp_core.specs.Unholds.{begin, plan, plan_at, HoldsAhead, Fits, FitsAt as UnholdFitsAt, LetsGo}
 
 no-member : {A : Type 0} (P : A → Type 0) → EachMember P []
@@ -173,14 +171,6 @@ ahead-unholds layout view who page (Some frame) count body on inside has some wi
 pub over-lets-go : (h : Hold) (u : Unhold) (frame : Option Frame) (body : BodyValue) → h.at ≡ at.Held frame body → u ≡ begin h.who h.page frame 1 body → LetsGo h u
 over-lets-go h u frame body over is layout view fits = subst (Fits layout view) (sym is)
     (held-unholds layout view h.who h.page frame body fits.on_turn fits.page (subst (FitsAt layout view h.who h.page) over fits.at).0)
-
-held-at : (a : HoldAt) (frame : Option Frame) (body : BodyValue) → answer_at a ≡ Some frame → IsBodyAt a body → a ≡ at.Held frame body
-held-at (at.Held f b) frame body answered is = λ i. at.Held (same_Some f frame answered i) (sym is i)
-held-at a frame body answered is = absurd is
-
--- what a hold that is over answers is held, with its body
-pub answered-holds : (layout : Layout) (view : View) (h : Hold) (frame : Option Frame) (body : BodyValue) → answer h ≡ Some frame → IsBody h body → holds.Fits layout view h → HoldsPage layout view h.page frame body
-answered-holds layout view h frame body answered is fits = (subst (FitsAt layout view h.who h.page) (held-at h.at frame body answered is) fits.at).0
 
 -- an unhold that is over has left nothing held
 pub nothing-left : (layout : Layout) (view : View) (u : Unhold) → is_none (plan u) ≡ true → Fits layout view u → hand_of view ≡ empty

@@ -1,6 +1,6 @@
 -- A frame whose last reference was given back while it was poisoned: the hand says so, and so does the lock after the frame is
 -- adopted, which can then be retired.
-use Rattle.std.proofs.Common.{◌≡◌, ◌<◌, ℕ, Bool, true, false, Option, None, slice_get, slice_index, refl, sym, ap, ◌∙◌, subst, arith, ◌++◌, ◌∷◌, [], ◌==◌, ◌≤◌, Some, cond, map}
+use Rattle.std.proofs.Common.{◌≡◌, ◌<◌, ℕ, true, false, Option, None, slice_get, slice_index, refl, sym, ap, ◌∙◌, subst, arith, ◌==◌, ◌≤◌, Some, map}
 use Rattle.std.proofs.lemmas.Option.{slice_get_within, same_Some}
 use Rattle.hwp_page.specs.hwp_geom.declared.Frame.{Frame}
 use Rattle.hwp_page.specs.hwp_geom.declared.Layout.{Layout}
@@ -14,7 +14,7 @@ use Rattle.hwp_core_rule.specs.declared.view.View.{View}
 use Rattle.hwp_core_rule.specs.Asks.{CanRetire}
 use Rattle.hwp_core_rule.specs.Lists.{SomeMember}
 use Rattle.hwp_core_rule.specs.Moves.{Told}
-use Rattle.hwp_core_rule.specs.Views.{view_by, lock_found, hand_found}
+use Rattle.hwp_core_rule.specs.Views.{lock_found}
 use Rattle.hwp_core_rule.proofs.Lists.{some-last, at_map}
 use Rattle.hwp_core_rule.specs.Words.{words_of}
 use Rattle.hwp_core_rule.specs.parts.Places.{IsHanded, IsBare, in_hand}
@@ -22,18 +22,10 @@ use Rattle.hwp_core_rule.proofs.MoveKeeps.{shaped}
 use Rattle.hwp_core_rule.proofs.WordsByKind.{words-read, word-there}
 use Rattle.hwp_core_rule.proofs.FramesInHand.{in_hand-mine}
 use Rattle.hwp_core_rule.specs.declared.view.FrameLock.{FrameLock}
-use Rattle.hwp_core_rule.specs.Steps.{is_last}
 
 -- a frame in hand that the view knows to be poisoned
 abbrev pub HasPoisoned : View → Frame → Type 0
 HasPoisoned v frame = SomeMember (λ (h : FrameInHand). (h.frame ≡ frame) × (h.poisoned ≡ true)) v.hands
-
--- the last reference is given back where the word has POISON: the hand says so
-pub hand-poisoned : (layout : Layout) (who : Who) (frame : Frame) (count found : ℕ) (content : Option Log) (v : View) → is_last count found ≡ true → is_poisoned found ≡ true
-    → HasPoisoned (view_by layout who (steps.PutRef frame count) found content v) frame
-hand-poisoned layout who frame count found content v last poisoned =
-    subst (λ (b : Bool). SomeMember (λ (h : FrameInHand). (h.frame ≡ frame) × (h.poisoned ≡ true)) (cond b (v.hands ++ hand_found frame found ∷ []) v.hands)) (sym last)
-    (some-last (λ (h : FrameInHand). (h.frame ≡ frame) × (h.poisoned ≡ true)) v.hands (hand_found frame found) (refl, poisoned))
 
 -- what an adopt shows of a frame in hand
 module _ (layout : Layout) (who : Who) (frame : Frame) (found : ℕ) (content : Option Log) (old new : View)

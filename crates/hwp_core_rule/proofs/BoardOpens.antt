@@ -96,9 +96,6 @@ are-opening layout sound = record {
   stop = WordsOpen.opening-stop layout sound;
 }
 
-nothing-at : {A : Type 0} (i : ℕ) (x : A) → slice_get [] i ≡ Some x → ⊥
-nothing-at i x e = none-some x e
-
 -- no member of no list
 each-none : {A : Type 0} (P : A → Type 0) → EachMember P []
 each-none P i x e = absurd (none-some x e)

@@ -1,5 +1,5 @@
 -- Lists without their first member that a test finds, and lists in which it finds just one.
-use Rattle.std.proofs.Common.{◌≡◌, ℕ, zero, suc, ◌+◌, Bool, true, false, cond, List, [], ◌∷◌, Some, None, slice_get, refl, sym, ap, ◌∙◌, subst, arith, ◌≤◌, length}
+use Rattle.std.proofs.Common.{◌≡◌, ℕ, zero, suc, ◌+◌, Bool, true, false, cond, List, [], ◌∷◌, Some, None, slice_get, refl, sym, ap, ◌∙◌, subst, arith, length}
 use Rattle.std.proofs.lemmas.List.Sums.{sum_by-cons}
 use Rattle.std.proofs.lemmas.Option.{none-some, same_Some}
 use Rattle.std.specs.Int.{from_bool}
@@ -25,19 +25,6 @@ module _ {A : Type 0} where
       which false found zero at more = absurd (not-both (test y) (ap test (same_Some y x at) ∙ is) found)
       which false found (suc j) at more =
           let rest : sum_by f (without test ys) + n ≡ sum_by f ys = more j at in
-          let kept : sum_by f (cond false ys (y ∷ without test ys)) ≡ f y + sum_by f (without test ys) = sum_by-cons f y (without test ys) in
-          omega (arith, all)
-
-  pub sum-without-le : (f : A → ℕ) (test : A → Bool) (l : List A) → sum_by f (without test l) ≤ sum_by f l
-  sum-without-le f test [] = omega arith
-  sum-without-le f test (y ∷ ys) = which (test y) (sum-without-le f test ys)
-    where
-      all : sum_by f (y ∷ ys) ≡ f y + sum_by f ys
-      all = sum_by-cons f y ys
-
-      which : (b : Bool) → sum_by f (without test ys) ≤ sum_by f ys → sum_by f (cond b ys (y ∷ without test ys)) ≤ sum_by f (y ∷ ys)
-      which true rest = omega (arith, all)
-      which false rest =
           let kept : sum_by f (cond false ys (y ∷ without test ys)) ≡ f y + sum_by f (without test ys) = sum_by-cons f y (without test ys) in
           omega (arith, all)
 
@@ -125,34 +112,6 @@ module _ {A : Type 0} (test : A → Bool) where
       which : (b : Bool) → test y ≡ b → (find test ys ≡ None → EachMember (λ (x : A). test x ≡ false) ys) → EachMember (λ (x : A). test x ≡ false) (y ∷ ys)
       which true is more = absurd (none-some y (sym none ∙ ap (λ (b : Bool). cond b (Some y) (find test ys)) is))
       which false isnt more = each-cons (λ (x : A). test x ≡ false) y ys isnt (more (sym (ap (λ (b : Bool). cond b (Some y) (find test ys)) isnt) ∙ none))
-
-  -- and where the test finds one, it is the only one
-  pub found-only : (l : List A) (i j : ℕ) (x y : A) → sum_by found l ≡ 1 → slice_get l i ≡ Some x → slice_get l j ≡ Some y → test x ≡ true → test y ≡ true → x ≡ y
-  found-only [] i j x y one at at' is is' = absurd (none-some x at)
-  found-only (z ∷ zs) i j x y one at at' is is' = which i j at at' (λ k k' a a'. found-only zs k k' x y)
-    where
-      all : sum_by found (z ∷ zs) ≡ from_bool (test z) + sum_by found zs
-      all = sum_by-cons found z zs
-
-      -- the first is found, so no other is
-      first : (u v : A) (k : ℕ) → z ≡ u → test u ≡ true → slice_get zs k ≡ Some v → test v ≡ true → ⊥
-      first u v k same is at is' =
-          let head : test z ≡ true = ap test same ∙ is in
-          not-both (test v) is' (found-none zs (omega (arith, one, all, ap from_bool head)) k v at)
-
-      rest-one : (u : A) (k : ℕ) → slice_get zs k ≡ Some u → test u ≡ true → sum_by found zs ≡ 1
-      rest-one u k at is = by (test z) refl
-        where
-          by : (b : Bool) → test z ≡ b → sum_by found zs ≡ 1
-          by true e = absurd (first z u k refl e at is)
-          by false e = omega (arith, one, all, ap from_bool e)
-
-      which : (i j : ℕ) → slice_get (z ∷ zs) i ≡ Some x → slice_get (z ∷ zs) j ≡ Some y
-          → ((k k' : ℕ) → slice_get zs k ≡ Some x → slice_get zs k' ≡ Some y → sum_by found zs ≡ 1 → slice_get zs k ≡ Some x → slice_get zs k' ≡ Some y → test x ≡ true → test y ≡ true → x ≡ y) → x ≡ y
-      which zero zero a a' more = sym (same_Some z x a) ∙ same_Some z y a'
-      which zero (suc k) a a' more = absurd (first x y k (same_Some z x a) is a' is')
-      which (suc k) zero a a' more = absurd (first y x k (same_Some z y a') is' a is)
-      which (suc k) (suc k') a a' more = more k k' a a' (rest-one x k a is) a a' is is'
 
   -- a list in which none is found isn't changed
   changed-none : (to : A → A) (l : List A) → sum_by found l ≡ 0 → changed test to l ≡ l

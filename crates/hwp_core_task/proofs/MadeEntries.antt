@@ -6,7 +6,6 @@ use Rattle.std.proofs.lemmas.List.{append_assoc}
 use Rattle.std.proofs.lemmas.List.Elements.{filter-append}
 use Rattle.std.proofs.lemmas.Option.{none-some, same_Some}
 use Rattle.std.specs.declared.snapshot.Snapshot.{Snapshot}
-use Rattle.hwp_core_rule.specs.hwp_geom.declared.Cpu.{Cpu}
 use Rattle.hwp_core_rule.specs.hwp_geom.declared.FileNo.{FileNo}
 use Rattle.hwp_core_rule.specs.hwp_geom.declared.Frame.{Frame}
 use Rattle.hwp_core_rule.specs.hwp_geom.declared.Layout.{Layout}
@@ -156,24 +155,6 @@ module _ (who : Who) {old new : View} {stamp : Stamp} {body : InHand} {log : Log
   pub deeds-one : (e : Entry) → more_of body log ≡ e ∷ [] → e.who ≡ who → (m : Made) × (deeds who new ≡ deeds who old ++ m ∷ []) × IsAt log.page (length body.log.entries) e.what m
   deeds-one e is own = (as_made stamp body log (length body.log.entries) e, listed-more (e ∷ []) is ∙ ap (λ (b : Bool). deeds who old ++ cond b (as_made stamp body log (length body.log.entries) e ∷ []) []) (is-own who e.who own), (refl, refl, refl))
 
-  pub deeds-two : (e f : Entry) → more_of body log ≡ e ∷ f ∷ [] → e.who ≡ who → f.who ≡ who
-      → (m : Made) × (n : Made) × (deeds who new ≡ deeds who old ++ m ∷ n ∷ []) × IsAt log.page (length body.log.entries) e.what m × IsAt log.page (suc (length body.log.entries)) f.what n
-  deeds-two e f is own too = (
-    first,
-    second,
-    listed-more (e ∷ f ∷ []) is
-        ∙ ap (λ (b : Bool). deeds who old ++ cond b (first ∷ cond (is_by who second) (second ∷ []) []) (cond (is_by who second) (second ∷ []) [])) (is-own who e.who own)
-        ∙ ap (λ (b : Bool). deeds who old ++ first ∷ cond b (second ∷ []) []) (is-own who f.who too),
-    (refl, refl, refl),
-    (refl, refl, refl),
-  )
-    where
-      first : Made
-      first = as_made stamp body log (length body.log.entries) e
-
-      second : Made
-      second = as_made stamp body log (suc (length body.log.entries)) f
-
 -- ---- what a command made
 
 module _ (who : Who) {base : List Made} {Such : Made → Type 0} (old new : View) where
@@ -209,18 +190,7 @@ module _ {base : List Made} {Such : Made → Type 0} (view : View) (who : Who) w
   pub only-of-made : {page : Page} {place : ℕ} {what : What} (has : HasMadeBeside base Such view who page place what) → Such has.last → HasOnlyBeside base Such view who
   only-of-made has last = record { own = has.before ++ has.last ∷ []; all = has.all; such = each-push Such has.before has.last last has.such }
 
-module _ {Such : Made → Type 0} (view : View) (who : Who) where
-  -- beside no entries such alone are all that it has made
-  pub only-beside : HasOnly Such view who → HasOnlyBeside [] Such view who
-  only-beside only = record { own = deeds who view; all = refl; such = only }
-
-  pub beside-only : HasOnlyBeside [] Such view who → HasOnly Such view who
-  beside-only has = subst (EachMember Such) (sym has.all) has.such
-
 -- ---- other commands
-
-same-cpu : (c d : Cpu) → c.0 ≡ d.0 → c ≡ d
-same-cpu c d e = λ i. record { 0 = e i }
 
 same-who : (w x : Who) → w.cpu.0 ≡ x.cpu.0 → w.seq ≡ x.seq → w ≡ x
 same-who w x e f = λ i. record { cpu = record { 0 = e i }; seq = f i }

@@ -170,9 +170,6 @@ module _ {layout : Layout} {who : Who} {put : Option Log} {old new : View} {foun
   pub saw-reserve : {seen : ℕ} → Steps layout who (steps.Reserve seen) put old new found got → (found == seen) ≡ false → Saw new who places.Available found
   saw-reserve {seen} made other = last-shown who places.Available found (noted who old) new (ap (λ (v : View). v.sights) made.told.next ∙ chose (found == seen) false _ _ other)
 
-  pub saw-get-ref : {frame : Frame} {seen count : ℕ} → Steps layout who (steps.GetRef frame seen count) put old new found got → (found == seen) ≡ false → Saw new who (places.Frame frame) found
-  saw-get-ref {frame} {seen} {count} made other = last-shown who (places.Frame frame) found (noted who old) new (ap (λ (v : View). v.sights) made.told.next ∙ chose (found == seen) false _ _ other)
-
   -- so do an adoption, under the lock that it takes, and the look at a file's losses
   pub saw-adopt : {frame : Frame} → Steps layout who (steps.Adopt frame) put old new found got → length old.locks < 2 → SawAdopted new who frame found
   saw-adopt {frame} made few = subst (SomeMember (IsAdoption who frame found)) (sym (ap (λ (v : View). v.sights) made.told.next))

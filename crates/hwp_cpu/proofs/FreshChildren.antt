@@ -75,9 +75,6 @@ none-before test (y ∷ ys) (suc n) x there passes few = which (test y) refl (λ
 -- ---- a child whose threads no command used, and which none forked
 
 module _ (layout : Layout) (child : Proc) (t : ℕ) (own : is_thread_of layout child.0 t ≡ true) where
-  abbrev is_own : ℕ → Bool
-  is_own process = is_thread_of layout process t
-
   -- its processes are one
   one-process : (process : ℕ) (o : Option ThreadDecl) → option_map_or (λ (d : ThreadDecl). d.process.0 == child.0) o false ≡ true → option_map_or (λ (d : ThreadDecl). d.process.0 == process) o false ≡ true → process ≡ child.0
   one-process process None first second = absurd (true≢false (sym first))

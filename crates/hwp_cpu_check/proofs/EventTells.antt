@@ -1,5 +1,5 @@
 -- What is told at once: the events stay, what is told is right, and what goes on has poisoned and entered nothing yet.
-use Rattle.std.proofs.Common.{◌≡◌, ℕ, ◌+◌, ◌≤◌, Bool, true, false, cond, ◌||◌, List, [], ◌∷◌, ◌++◌, Option, Some, None, drop, length, map, filter_map, slice_get, option_map, unwrap_or, refl, sym, ap, ◌∙◌, subst, arith}
+use Rattle.std.proofs.Common.{◌≡◌, ℕ, ◌+◌, ◌≤◌, Bool, true, false, cond, ◌||◌, List, [], ◌∷◌, ◌++◌, Option, Some, None, length, map, filter_map, slice_get, option_map, unwrap_or, refl, sym, ap, ◌∙◌, subst, arith}
 use Rattle.std.specs.List.{list_any}
 use Rattle.std.specs.declared.alloc.Global.{Global}
 use Rattle.std.proofs.lemmas.List.{append_assoc, append-nil, map-append}
@@ -58,12 +58,6 @@ module _ (layout : Layout) (alloc : Global) (who : Who) (thread : Option Thread)
   step_fails [] held is due = absurd (none-some held is)
   step_fails (x ∷ xs) held is due =
       subst (λ (h : Held). tell_on layout alloc who thread stops (h ∷ xs) told ≡ (record { told = told; left = h ∷ xs }, failing layout alloc who thread held)) (sym (same_Some x held is)) (ap (step_by held xs) due)
-
-  -- it needs no step
-  pub step_tells : (left : List Held) (held : Held) (acted : Acted) → slice_get left 0 ≡ Some held → at_once layout (are_held_back stops told) held ≡ Some acted
-      → tell_on layout alloc who thread stops left told ≡ tell_on layout alloc who thread stops (drop 1 left) (told ++ told_at_once held acted ∷ [])
-  step_tells [] held acted is done = absurd (none-some held is)
-  step_tells (x ∷ xs) held acted is done = subst (λ (h : Held). tell_on layout alloc who thread stops (h ∷ xs) told ≡ tell_on layout alloc who thread stops xs (told ++ told_at_once held acted ∷ [])) (sym (same_Some x held is)) (ap (step_by held xs) done)
 
   -- there is none
   pub step_ends : (left : List Held) → slice_get left 0 ≡ None → tell_on layout alloc who thread stops left told ≡ (record { told = told; left = left }, at_end told)

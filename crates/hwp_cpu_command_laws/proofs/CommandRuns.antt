@@ -314,9 +314,6 @@ denial-anew : (j : Job) → denial_of (anew j) ≡ denial_of j
 denial-anew (jobs.Denied d) = refl
 denial-anew _ = refl
 
-pub denial-alike : (j after : Job) → GoesOn j after → denial_of after ≡ denial_of j
-denial-alike j after on = sym (denial-anew after) ∙ ap denial_of on.anew_is ∙ denial-anew j
-
 -- ---- where it begins
 
 -- an access was told whether its processor collects

@@ -80,10 +80,6 @@ module _ {layout : Layout} {seat : ℕ} {a b : State} (c : Course) (fits : Fits 
   few : length w.frees ≤ free_room
   few = few-frees layout b own.kept
 
-  -- it goes on, or rests and nothing is due
-  on-cost : (n : ℕ) → cost (record e { noted = n }) w ≤ jobs.cost k w + flat k + 3
-  on-cost n = own-most k (jobs.plan k) w
-
   -- a course whose own task rests
   record IsAt (x : Course) : Type 0 where
     own_is : x.own ≡ k

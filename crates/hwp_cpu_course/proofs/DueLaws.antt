@@ -71,21 +71,6 @@ collects-both {a} {b} {x} {y} {c} {d} {e} one other = record {
     same : (events : List CecEvent) → watched d (events ++ map Note a) ≡ told (map Note a) (watched c events)
     same events = ap (λ (n : ℕ). record { threshold = n; window = d.window; events = events ++ map Note a }) one.threshold ∙ ap (λ (n : ℕ). record { threshold = c.threshold; window = n; events = events ++ map Note a }) one.window
 
--- the one that brings the notes to the threshold is offlining
-is-offline : (threshold n : ℕ) → answer threshold n ≡ Offline → (n == threshold) ≡ true
-is-offline threshold n = which (n == threshold)
-  where
-    which : (b : Bool) → (if b then Offline else Counted n) ≡ Offline → b ≡ true
-    which true is = refl
-    which false is = absurd (differs is)
-      where
-        counted : Noted → Bool
-        counted (Counted k) = true
-        counted Offline = false
-
-        differs : Counted n ≡ Offline → ⊥
-        differs same = both_ways true (ap counted same) refl
-
 is-counted : (threshold n k : ℕ) → answer threshold n ≡ Counted k → (n == threshold) ≡ false
 is-counted threshold n k = which (n == threshold)
   where
@@ -107,16 +92,6 @@ pub record Says (c : Counters) (frame : Frame) (said : Noted) (after : Counters)
   pub says : (events : List CecEvent) → StandsFor events c → said ≡ answer c.threshold (live c.threshold c.window events frame.0)
 
 module _ {c after : Counters} {frame : Frame} (within : frame.0 < length c.counts) (many : length after.counts ≡ length c.counts) where
-  pub collects-offline : Says c frame Offline after → Collects (frame ∷ []) c after (frame ∷ [])
-  collects-offline has = record {
-    threshold = ap (λ (k : Counters). k.threshold) has.counts;
-    window = ap (λ (k : Counters). k.window) has.counts;
-    many = many;
-    few = omega arith;
-    within = each-cons (λ (f : Frame). f.0 < length c.counts) frame [] within (λ i f there. absurd (none-some f there));
-    stands = λ events stand. (has.stands events stand, sym (ap (λ (b : Bool). if b then frame ∷ [] else []) (is-offline c.threshold (live c.threshold c.window events frame.0) (sym (has.says events stand)))));
-  }
-
   pub collects-counted : (k : ℕ) → Says c frame (Counted k) after → Collects (frame ∷ []) c after []
   collects-counted k has = record {
     threshold = ap (λ (x : Counters). x.threshold) has.counts;

@@ -165,9 +165,6 @@ module _ {layout : Layout} {view : View} {who : Who} {page : Page} {log : Log} {
 -- ---- the first of them
 
 module _ {layout : Layout} {view : View} {who : Who} {page : Page} (on : IsOnTurn view who) (inside : page.0 < length layout.pages) (sound : IsSound layout) (frame : Frame) (body : BodyValue) (has : HoldsPage layout view page (Some frame) body) (now : BodyValue) (entry : HasEntry layout who page evictions.Out (log_of body) (place page body) now) where
-  abbrev before : PageState
-  before = state_of layout (log_of body)
-
   none-done : (n : Option VSlot) → IsNextFrom body.state.maps 0 n → (slot : ℕ) → set.contains body.state.maps slot ≡ true → is_done n slot ≡ false
   none-done None none slot some = absurd (both_ways (set.contains body.state.maps slot) (none slot (omega arith)) some)
   none-done (Some v) low slot some = le-ltb slot v.0 (first (cases_lt slot v.0))

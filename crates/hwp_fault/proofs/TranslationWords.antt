@@ -41,11 +41,6 @@ use Rattle.hwp_core.proofs.of_hwp_core_rule.MetWords.{frame-word, frame-named}
 use Rattle.hwp_core.proofs.of_hwp_core_rule.MoveKeeps.{shaped}
 use Rattle.hwp_core.proofs.of_hwp_core_rule.WordsByKind.{words-read}
 
--- a name is of one frame
-abbrev frame-or : Frame → Option Frame → Frame
-frame-or other None = other
-frame-or other (Some frame) = frame
-
 module _ (layout : Layout) (s : State) (h : Holds layout s) where
   -- the words that a step met, among the words of the board
   pub trans-word : (slot : VSlot) (found : ℕ) → slot.0 < length layout.trans → found ≡ slice_index s.words (index layout (places.Trans slot)) → slice_get (words_of layout s.words).trans slot.0 ≡ Some found

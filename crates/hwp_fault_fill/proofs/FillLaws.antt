@@ -320,6 +320,3 @@ unfilled layout view f answered fits = which f.at answered fits.at
     which (at.SetOwner frame) over has = absurd (none-some answers.NoFrame over)
     which (at.Refer r) over has = absurd (none-some answers.NoFrame over)
     which (at.SetCache frame) over has = absurd (none-some answers.NoFrame over)
-
-pub unfilled-holds : (layout : Layout) (view : View) (f : Fill) → answer f ≡ Some answers.NoFrame → Fits layout view f → HoldsPage layout view f.page None f.body
-unfilled-holds layout view f answered fits = (unfilled layout view f answered fits).0

@@ -21,9 +21,6 @@ length-behind first words =
     let none : ℕ = 0 in
     length-append (replicate first none) words ∙ ap (λ n. n + length words) (length-replicate first none)
 
-pub behind-past : (first : ℕ) (words : List ℕ) (i : ℕ) → first ≤ i → length words ≤ i - first → slice_index (behind first words) i ≡ 0
-behind-past first words i from past = behind-from first words i from ∙ get_or_past words (i - first) 0 past
-
 -- a row ends at its end
 pub EndAt-all : (words : List ℕ) → EndAt words (length words)
 EndAt-all words = record { within = omega arith; empty = λ i past. get_or_past words i 0 past }
@@ -70,23 +67,6 @@ ClearedTo-all words top at cleared done = record {
     | inr beyond ↦ cleared.ends.empty i beyond
   ];
 }
-
--- a row whose last word is empty ends before it
-pub EndAt-less : (words : List ℕ) (end : ℕ) → EndAt words end → 0 < end → slice_index words (end - 1) ≡ 0 → EndAt words (end - 1)
-EndAt-less words end ends some none = record {
-  within = let few = ends.within in omega arith;
-  empty = λ i past. elim (cases_lt i end) [
-    | inl last ↦ ap (slice_index words) (omega arith) ∙ none
-    | inr behind_all ↦ ends.empty i behind_all
-  ];
-}
-
--- the words below the next place are empty, where this one is too
-pub AreEmptyBelow-next : (words : List ℕ) (at : ℕ) → AreEmptyBelow words at → slice_index words at ≡ 0 → AreEmptyBelow words (at + 1)
-AreEmptyBelow-next words at before none i below = elim (cases_lt i at) [
-  | inl earlier ↦ before i earlier
-  | inr here ↦ ap (slice_index words) (omega arith) ∙ none
-]
 
 -- the words from the first to the last with a member, behind the empty ones, are the words of the row
 pub held-words : (words : List ℕ) (first end : ℕ) → AreEmptyBelow words first → EndAt words end → (i : ℕ)

@@ -15,11 +15,11 @@ use Rattle.hwp_law_commands.specs.hwp_script_read.declared.Command.{Command}
 use Rattle.hwp_law_commands.specs.hwp_script_read.declared.Script.{Script}
 use Rattle.hwp_law_commands.specs.Commands.{command_at}
 use Rattle.hwp_law_commands.specs.Cows.{acting}
-use Rattle.hwp_law_commands.specs.Settings.{last_policy, set_after, set_behind, settings, unset}
+use Rattle.hwp_law_commands.specs.Settings.{set_after, set_behind, settings, unset}
 use Rattle.hwp_law_commands.proofs.CowLaws.{acting-sets}
 use Rattle.hwp_law.specs.Acting.{acting_from, acting_lists, acting_script}
 use Rattle.hwp_law.specs.Lines.{answer_among, answered, answers_from, answers_to}
-use Rattle.hwp_law.specs.Policies.{answered_before, answered_on, policy_before}
+use Rattle.hwp_law.specs.Policies.{answered_before, answered_on}
 
 -- ---- one command
 
@@ -126,6 +126,3 @@ settings-acted script report who thread = (
     first (Some list) =
         ap (λ (l : List (Command × Answer)). settings script.layout thread (take who.seq l)) (answered-acted script.layout list lines)
         ∙ ap (λ (s : ℕ → List Policy). s thread.0) (set-acted-first script.layout [] unset list (answers_to list lines) who.seq)
-
-pub policy-acted : (script : Script) (report : Report) (who : Who) (thread : Thread) → policy_before (acting_script script report) report who thread ≡ policy_before script report who thread
-policy-acted script report who thread = ap last_policy (settings-acted script report who thread).1

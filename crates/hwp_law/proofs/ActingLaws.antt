@@ -1,8 +1,7 @@
 -- In a script that forks no process, each command is acted on as it stands, and no store copies a page.
-use Rattle.std.proofs.Common.{◌≡◌, ℕ, zero, suc, ◌+◌, ◌||◌, Bool, false, List, [], ◌∷◌, ◌++◌, Option, Some, None, option_and_then, option_map, slice_get, unwrap_or, refl, sym, ap, subst, ◌∙◌, if◌then◌else◌}
+use Rattle.std.proofs.Common.{◌≡◌, ℕ, zero, suc, ◌+◌, ◌||◌, Bool, false, List, [], ◌∷◌, ◌++◌, Option, Some, None, option_and_then, option_map, slice_get, unwrap_or, refl, sym, ap, ◌∙◌, if◌then◌else◌}
 use Rattle.std.specs.List.{list_any}
 use Rattle.std.specs.Option.{option_map_or}
-use Rattle.std.proofs.Math.Path.{fun_ext}
 use Rattle.std.proofs.lemmas.List.Folds.{list_any-append}
 use Rattle.std.proofs.lemmas.Option.{none-some}
 use Rattle.hwp_law_commands.specs.hwp_geom.declared.Layout.{Layout}
@@ -17,7 +16,7 @@ use Rattle.hwp_law_commands.specs.Commands.{command_at, has_fork, is_fork}
 use Rattle.hwp_law_commands.specs.Cows.{Cow, copied_from}
 use Rattle.hwp_law_commands.proofs.CowLaws.{acting-unforked, both-false, copied-unforked, has_forked, stays-own, take-unforked, zip-unforked}
 use Rattle.hwp_law.specs.Acting.{acting_from, acting_lists, acting_script, copied_at}
-use Rattle.hwp_law.specs.Copies.{AreLastStores, ended_through}
+use Rattle.hwp_law.specs.Copies.{ended_through}
 use Rattle.hwp_law.specs.Lines.{answers_to}
 use Rattle.hwp_law.specs.Policies.{answered_before, answered_on}
 use Rattle.hwp_law.specs.Private.{ArePrivate, freeze_from}
@@ -68,22 +67,7 @@ copied-at-unforked script report who none = which (command_at script who)
     which None = refl
     which (Some command) = copied-unforked script.layout (answered_before script report who) command (before-unforked script report who none)
 
-pub copies-unforked : (script : Script) (report : Report) → has_fork script ≡ false → copied_at script report ≡ (λ who. None)
-copies-unforked script report none = fun_ext (λ who. copied-at-unforked script report who none)
-
--- so what holds of the script, where no store copies, holds of what its processors act on
-pub of-acting : (script : Script) (report : Report) (P : Script → (Who → Option VSlot) → Type 0) → has_fork script ≡ false → P script (λ who. None) → P (acting_script script report) (copied_at script report)
-of-acting script report P none is =
-    subst (λ (s : Script). P s (copied_at script report)) (sym (acting-script-unforked script report none)) (subst (P script) (sym (copies-unforked script report none)) is)
-
-pub from-acting : (script : Script) (report : Report) (P : Script → (Who → Option VSlot) → Type 0) → has_fork script ≡ false → P (acting_script script report) (copied_at script report) → P script (λ who. None)
-from-acting script report P none is =
-    subst (P script) (copies-unforked script report none) (subst (λ (s : Script). P s (copied_at script report)) (acting-script-unforked script report none) is)
-
--- where no store copies, none is asked for its last entry; and without a fork no load is asked for a private word
-pub last-uncopied : (report : Report) → AreLastStores (λ who. None) report
-last-uncopied report = λ who from at copied answered. absurd (none-some from copied)
-
+-- without a fork no load is asked for a private word
 freeze-unforked : (layout : Layout) (slot : VSlot) (n : ℕ) (earlier : List (Command × Answer)) → has_forked earlier ≡ false → freeze_from layout slot n earlier ≡ None
 freeze-unforked layout slot n [] none = refl
 freeze-unforked layout slot n (p ∷ rest) none =

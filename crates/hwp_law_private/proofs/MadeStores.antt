@@ -2,7 +2,7 @@
 -- frozen; and it named this line and this word, but for the lines of a copy.
 use Rattle.std.proofs.Common.{◌≡◌, ◌⊎◌, inl, inr, ℕ, ◌==◌, Bool, true, false, List, Option, None, Some, option_map, if◌then◌else◌, refl, sym, ap, ◌∙◌, subst}
 use Rattle.std.specs.Prelude.{IsSomeAnd}
-use Rattle.std.proofs.lemmas.Bool.{eq-eqb, eqb-true}
+use Rattle.std.proofs.lemmas.Bool.{eqb-true}
 use Rattle.std.proofs.lemmas.Option.{none-some, same_Some}
 use Rattle.hwp_law.specs.hwp_geom.declared.Layout.{Layout}
 use Rattle.hwp_law.specs.hwp_geom.declared.Mask.{Mask}
@@ -48,9 +48,6 @@ stored-word line word (entries.Store slot at (Word mask stored)) is = which (at 
     which false e = absurd (none-some word (sym (ap (λ (b : Bool). if b then Some stored else None) e) ∙ is))
 stored-word line word (entries.Store slot at (Sigbus thread)) is = absurd (none-some word is)
 stored-word line word what is = absurd (none-some word is)
-
-pub word-stored : (slot : VSlot) (line word : ℕ) (mask : Mask) (what : What) → what ≡ entries.Store slot line (Word mask word) → word_in line what ≡ Some word
-word-stored slot line word mask what is = ap (word_in line) is ∙ ap (λ (b : Bool). if b then Some word else None) (eq-eqb line line refl)
 
 -- ---- the command
 

@@ -40,9 +40,6 @@ pub array-goes : {S : Type 0} (m : Member S) (ls : List ℕ) (a : Running S) (p 
 array-goes m ls a p play going s at = going-plan m s (subst (λ (k : ℕ). k < 5) (array-level m ls a p s play at) going)
 
 -- the same, and that it is over, by what the task itself tells
-pub task-goes : {S : Type 0} (m : Member S) (tasks : List S) (p : ℕ) (s : S) → p < length tasks → s ≡ get_or tasks p s → m.plan s ≢ None → Goes m tasks p
-task-goes m tasks p s h is goes t at over = goes (ap m.plan (IsAt-same tasks p s t (record { within = h; is = sym is }) at) ∙ over)
-
 pub task-done : {S : Type 0} (m : Member S) (tasks : List S) (p : ℕ) (s : S) → p < length tasks → s ≡ get_or tasks p s → m.plan s ≡ None → IsOver m tasks p
 task-done m tasks p s h is over t at = ap m.plan (IsAt-same tasks p t s at (record { within = h; is = sym is })) ∙ over
 

@@ -26,9 +26,6 @@ pub record Taken (frames : ℕ) (caches : List ℕ) (homes now : Homes) (n : ℕ
   pub told : AreHistories homes pages
   pub others : (q cache : ℕ) → n ≤ q → slice_get caches q ≡ Some cache → slice_get now (slot_by frames cache q) ≡ slice_get homes (slot_by frames cache q)
 
-pub none-taken : (frames : ℕ) (caches : List ℕ) (homes : Homes) → Taken frames caches homes homes 0 []
-none-taken frames caches homes = record { count = refl; told = λ page entries there. absurd (none-some entries there); others = λ q cache past there. refl }
-
 module _ (frames : ℕ) (caches : List ℕ) (homes now : Homes) (n : ℕ) (pages : List (List Entry)) (led : AreLed frames caches homes) (so-far : Taken frames caches homes now n pages) (cache : ℕ) (there : slice_get caches n ≡ Some cache) where
   -- the next page's body is still there
   still-there : HasBody now (slot_by frames cache n) n

@@ -71,13 +71,6 @@ no_masks first ws other none s fits e = by s.0 (s.1, s.2) (fits.1, fits.2) e
     by places.Kernel masks b e = none masks b (ap (drop 1) e)
     by places.Handled masks b e = none masks b (ap (drop 1) e)
 
-pub stands : (first : List ℕ) (ws : List (List ℕ)) (place : Whereabouts) (masks : Mask × Mask) → IsPageless place → first ≡ get_or (place_words place) 0 []
-    → MasksFit masks → ws ≡ masks_words masks → StandingFits (place, masks.0, masks.1) × (first ∷ ws ≡ standing_words (place, masks.0, masks.1))
-stands first ws (places.Of page) masks p e m f = absurd p
-stands first ws places.Free masks p e m f = ((tt, m.0, m.1), λ i. e i ∷ f i)
-stands first ws places.Kernel masks p e m f = ((tt, m.0, m.1), λ i. e i ∷ f i)
-stands first ws places.Handled masks p e m f = ((tt, m.0, m.1), λ i. e i ∷ f i)
-
 -- what follows the words of a requirement
 pub need_rest : (ws : List (List ℕ)) (thread : Option Thread) (vs : List (List ℕ)) → ws ≡ required_words thread ++ vs → drop 2 ws ≡ vs
 need_rest ws None vs e = ap (drop 2) e

@@ -1,12 +1,11 @@
 -- The numbers of words, and the command that they are of.
-use Rattle.std.proofs.Common.{ℕ, ◌≡◌, ◌≢◌, ◌<◌, ◌+◌, zero, suc, List, [], ◌∷◌, length, get_or, set, map, Bor, codes, decimal, inl, inr, refl, sym, ap, subst, ◌∙◌, arith}
+use Rattle.std.proofs.Common.{ℕ, ◌≡◌, ◌≢◌, ◌<◌, ◌+◌, zero, suc, List, [], ◌∷◌, length, get_or, map, Bor, codes, decimal, refl, ap, subst, ◌∙◌, arith}
 use Rattle.std.specs.Prelude.{All, ◌⊎◌, ◌≤◌}
-use Rattle.std.proofs.lemmas.List.{get_or-set_same, get_or-set_other}
 use Rattle.std.proofs.lemmas.List.Elements.{All-from_get_or}
 use Rattle.hwp_script_lines.proofs.PairsLaws.{All-now}
 use Rattle.hwp_geom.specs.Limits.{thread_limit}
 use Rattle.hwp_script_lines.specs.Numbers.{IsNumber, IsNumberWord}
-use Rattle.hwp_script_lines.specs.Grammar.{command_word, CommandFits, AreCommandWords, IsCommand, IsCommandOver, HasCommandShape, HasRaiseShape, HaveCommandNumbers, raise_word}
+use Rattle.hwp_script_lines.specs.Grammar.{command_word, CommandFits, AreCommandWords, IsCommand, IsCommandOver, HasCommandShape, HaveCommandNumbers, raise_word}
 use Rattle.hwp_script_lines.specs.Misfits.{AreNumbers, AreMisfit, IsCommandMisfit, IsMisfit, command_with, log_word, number_count}
 use Rattle.hwp_script_lines.specs.declared.keywords.CommandWord.{CommandWord}
 use Rattle.hwp_script_lines.specs.declared.keywords.CommandWord.TheVariants as words
@@ -98,11 +97,6 @@ plain_misfit w d ws misfits.BadNumber h = let p = plain w d ws [] in (p.shape h.
 plain_misfit w d ws misfits.OverLimit h = absurd h
 
 -- the words behind `user`
-user_long : (us : List (List ℕ)) → HasRaiseShape (codes "user" ∷ us) → length us ≡ 3
-user_long us (inl h) = omega (arith, h.0)
-user_long us (inr (inl h)) = absurd (omega (arith, ap length h.1))
-user_long us (inr (inr e)) = absurd (omega (arith, ap (λ vs. length (get_or vs 0 [])) e))
-
 pub user_over : (us : List (List ℕ)) (ns : List ℕ) → AreNumbers 3 us ns → (thread_limit ≤ get_or ns 0 0) ⊎ (1 < get_or ns 1 0) ⊎ (1 < get_or ns 2 0)
     → IsCommandOver raise_word (codes "user" ∷ us)
 user_over us ns h out =
@@ -110,11 +104,6 @@ user_over us ns h out =
     ((h.each 0 (omega arith)).fits, (h.each 1 (omega arith)).fits, (h.each 2 (omega arith)).fits, words_are 3 us ns h) out
 
 -- the words behind `kernel`
-kernel_long : (us : List (List ℕ)) → HasRaiseShape (codes "kernel" ∷ us) → length us ≡ 2
-kernel_long us (inl h) = absurd (omega (arith, ap length h.1))
-kernel_long us (inr (inl h)) = omega (arith, h.0)
-kernel_long us (inr (inr e)) = absurd (omega (arith, ap (λ vs. get_or (get_or vs 0 []) 0 0) e))
-
 pub kernel_over : (us : List (List ℕ)) (ns : List ℕ) → AreNumbers 2 us ns → (1 < get_or ns 0 0) ⊎ (1 < get_or ns 1 0) → IsCommandOver raise_word (codes "kernel" ∷ us)
 kernel_over us ns h out =
     over_kernel (codes "kernel" ∷ us) us (get_or ns 0 0) (get_or ns 1 0) refl ((h.each 0 (omega arith)).fits, (h.each 1 (omega arith)).fits, words_are 2 us ns h) out
@@ -123,11 +112,6 @@ kernel_over us ns h out =
 pub record AreNumbersSoFar (ws : List (List ℕ)) (i : ℕ) (ns : List ℕ) : Type 0 where
   pub room : length ns ≡ 6
   pub each : (k : ℕ) → k < i → IsNumber (get_or ws k []) (get_or ns k 0)
-
-more_numbers : (ws : List (List ℕ)) (i : ℕ) (ns : List ℕ) (n : ℕ) → i < length ns → ((k : ℕ) → k < i → IsNumber (get_or ws k []) (get_or ns k 0))
-    → IsNumber (get_or ws i []) n → (k : ℕ) → (k ≡ i) ⊎ (k < i) → IsNumber (get_or ws k []) (get_or (set ns i n) k 0)
-more_numbers ws i ns n l each is k (inl e) = subst (λ j. IsNumber (get_or ws j []) (get_or (set ns i n) j 0)) (sym e) (rw (get_or-set_same ns i n 0 l) is)
-more_numbers ws i ns n l each is k (inr m) = rw (get_or-set_other ns i k n 0 (λ e. omega (arith, e, m))) (each k m)
 
 pub numbers-bad : (words : List (Bor (List ℕ))) (i : ℕ) (d : Bor (List ℕ)) → i < length words → ((n : ℕ) → IsNumber (get_or words i d).now n → ⊥)
     → All IsNumberWord (map (λ w. w.now) words) → ⊥

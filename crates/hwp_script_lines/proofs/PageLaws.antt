@@ -1,16 +1,13 @@
 -- The words of a page, with and without `locked` at the end.
-use Rattle.std.proofs.Common.{ℕ, ◌≡◌, ◌≢◌, ◌<◌, ◌+◌, ◌⊎◌, inl, inr, ◌++◌, true, false, zero, suc, List, [], ◌∷◌, length, get_or, codes, decimal, refl, sym, ap, subst, ◌∙◌, arith}
-use Rattle.std.proofs.lemmas.List.{append-nil, length-append}
+use Rattle.std.proofs.Common.{ℕ, ◌≡◌, ◌<◌, ◌+◌, ◌⊎◌, inl, inr, ◌++◌, zero, suc, List, [], ◌∷◌, length, get_or, codes, decimal, refl, sym, ap, subst, ◌∙◌, arith}
+use Rattle.std.proofs.lemmas.List.{length-append}
 use Rattle.std.specs.Fmt.{digits}
 use Rattle.hwp_geom.specs.Limits.{number}
 use Rattle.hwp_geom.specs.declared.Version.{Version}
 use Rattle.hwp_geom.specs.declared.Version.TheVariants as versions
 use Rattle.hwp_script_lines.specs.Numbers.{IsNumberWord}
-use Rattle.hwp_script_lines.specs.Grammar.{Fits, IsSentence, HasShape, HasPageShape, HasLockedShape, HaveNumbers, page_keyword}
-use Rattle.hwp_script_lines.specs.Misfits.{ArePageWords, IsPageMisfit, IsLockedFront, IsSentenceMisfit}
-use Rattle.hwp_script_lines.specs.declared.script_line.ScriptLine.TheVariants as forms
-use Rattle.hwp_script_lines.specs.declared.script_line.Backing.{Backing}
-use Rattle.hwp_script_lines.specs.declared.script_line.Backing.TheVariants as backings
+use Rattle.hwp_script_lines.specs.Grammar.{HasShape, HasPageShape, HasLockedShape, HaveNumbers, page_keyword}
+use Rattle.hwp_script_lines.specs.Misfits.{IsPageMisfit, IsLockedFront, IsSentenceMisfit}
 use Rattle.hwp_script_lines.specs.declared.numbers.Misfit.{Misfit}
 use Rattle.hwp_script_lines.specs.declared.numbers.Misfit.TheVariants as misfits
 
@@ -26,16 +23,6 @@ two_digit = refl
 pub no_version : (word : List ℕ) → (word ≡ codes "1" → ⊥) → (word ≡ codes "2" → ⊥) → (v : Version) → word ≡ decimal (number v) → ⊥
 no_version word one two versions.One e = one (e ∙ one_digit)
 no_version word one two versions.Two e = two (e ∙ two_digit)
-
-fits_locked : (q : ℕ) (b : Backing) → Fits (forms.Page q b false) → Fits (forms.Page q b true)
-fits_locked q backings.Anon h = h
-fits_locked q (backings.File n x) h = h
-
-pub plain_page : (ws : List (List ℕ)) (q : ℕ) (b : Backing) → ArePageWords ws (q, b) → IsSentence page_keyword ws (forms.Page q b false)
-plain_page ws q b h = record { kind = refl; fits = h.fits; same = h.same ∙ sym (append-nil _) }
-
-pub locked_page : (ws front : List (List ℕ)) (q : ℕ) (b : Backing) → IsLockedFront ws front → ArePageWords front (q, b) → IsSentence page_keyword ws (forms.Page q b true)
-locked_page ws front q b f h = record { kind = refl; fits = fits_locked q b h.fits; same = f.same ∙ ap (λ us. us ++ codes "locked" ∷ []) h.same }
 
 -- the words before the last one
 before : (front : List (List ℕ)) (w : List ℕ) (i : ℕ) → i < length front → get_or (front ++ w ∷ []) i [] ≡ get_or front i []
@@ -106,17 +93,3 @@ pub locked_misfit : (ws front : List (List ℕ)) (e : Misfit) → IsLockedFront 
 locked_misfit ws front misfits.Unknown f h = λ s. h (shape_behind f s)
 locked_misfit ws front misfits.BadNumber f h = (inr (locked_shape f h.0), λ n. h.1 (front_numbers f h.0 n))
 locked_misfit ws front misfits.OverLimit f h = absurd h
-
-neither : (ws : List (List ℕ)) → (HasPageShape ws → ⊥) → (HasLockedShape ws → ⊥) → HasShape page_keyword ws → ⊥
-neither ws p l (inl s) = p s
-neither ws p l (inr s) = l s
-
-pub plain_misfit : (ws : List (List ℕ)) (e : Misfit) → (HasLockedShape ws → ⊥) → IsPageMisfit ws e → IsSentenceMisfit page_keyword ws e
-plain_misfit ws misfits.Unknown l h = neither ws h l
-plain_misfit ws misfits.BadNumber l h = (inl h.0, h.1)
-plain_misfit ws misfits.OverLimit l h = absurd h
-
--- words of another number are not those of a locked page
-pub not_locked : (ws : List (List ℕ)) → length ws ≢ 3 → length ws ≢ 6 → HasLockedShape ws → ⊥
-not_locked ws three six (inl s) = three s.0
-not_locked ws three six (inr s) = six s.0

@@ -80,11 +80,6 @@ sentence_from_form ws k rest f e h =
     let both = first_words k (keyword f) ws rest h.rest e h.same in
     subst (λ us. IsSentence k us f) both.1 (subst (λ j. IsSentence j h.rest f) both.0 h.is)
 
--- words whose first is no first word of a line
-pub no_first : (ws : List (Bor (List ℕ))) (d : Bor (List ℕ)) → 0 < length ws → ((k : Keyword) → (get_or ws 0 d).now ≡ keyword_text k → ⊥)
-    → IsUnknown (map (λ w. w.now) ws)
-no_first ws d l none = λ h. none h.first (ap (λ vs. get_or vs 0 []) (sym (uncons ws d l) ∙ h.same))
-
 -- the words of a line, from those behind the first
 pub bad_from_sentence : (ws : List (List ℕ)) (k : Keyword) (rest : List (List ℕ)) → ws ≡ keyword_text k ∷ rest → All (All IsPrintable) ws
     → HasShape k rest × (HaveNumbers k rest → ⊥) → (newer : Bool) → newer ≡ is_newer k (length rest) → IsBadNumber ws newer
@@ -111,9 +106,6 @@ behind ws w e =
 pub led : (ws : List (Bor (List ℕ))) (d : Bor (List ℕ)) (k : Keyword) → 0 < length ws → (get_or ws 0 d).now ≡ keyword_text k
     → map (λ w. w.now) ws ≡ keyword_text k ∷ map (λ w. w.now) (take (length ws - 1) (drop 1 ws))
 led ws d k l e = behind ws (keyword_text k) (uncons ws d l ∙ ap (λ w. w ∷ map (λ w. w.now) (drop 1 ws)) e)
-
-pub no_words : (ws : List (List ℕ)) → length ws ≡ 0 → IsUnknown ws
-no_words ws e = λ h. absurd (omega (arith, e, ap length h.same))
 
 pub unknown_from_sentence : (ws : List (List ℕ)) (k : Keyword) (rest : List (List ℕ)) → ws ≡ keyword_text k ∷ rest → (HasShape k rest → ⊥) → IsUnknown ws
 unknown_from_sentence ws k rest e none = λ h.

@@ -23,10 +23,6 @@ put_more old now new xs ys e f =
 pub put_one : (old now new : List ℕ) (xs : List ScriptLine) (f : ScriptLine) → now ≡ old ++ forms_text xs → new ≡ now ++ line (form_words f) → new ≡ old ++ forms_text (xs ++ f ∷ [])
 put_one old now new xs f e g = put_more old now new xs (f ∷ []) e (g ∙ ap (λ t. now ++ t) (sym (append-nil (line (form_words f)))))
 
--- one line
-pub put_line : (old new : List ℕ) (f : ScriptLine) → new ≡ old ++ line (form_words f) → new ≡ old ++ forms_text (f ∷ [])
-put_line old new f g = g ∙ ap (λ t. old ++ t) (sym (append-nil (line (form_words f))))
-
 numbered-push : {A : Type 0} (forms_of : ℕ → A → List ScriptLine) (n : ℕ) (xs : List A) (x : A)
     → numbered forms_of n (xs ++ x ∷ []) ≡ numbered forms_of n xs ++ forms_of (n + length xs) x
 numbered-push forms_of n [] x = append-nil (forms_of n x) ∙ ap (λ k. forms_of k x) (sym (add-zero n))

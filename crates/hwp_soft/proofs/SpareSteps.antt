@@ -243,9 +243,6 @@ module _ {layout : Layout} {old new : View} {who : Who} {frame : Frame} {page : 
   -- ---- the frame is poisoned
 
   module _ {base : List Made} (to : Frame) (has : HoldsSpare base layout old who frame page body to) (made : Steps layout who (steps.Poison frame false) None old new found got) where
-    abbrev poisoned-alone : Hand
-    poisoned-alone = page-alone layout frame page body has.good.seen true
-
     hand-poisoned : hand_of new ≡ with_take (take_at.Over (Some to)) (page-alone layout frame page body has.good.seen true)
     hand-poisoned = hand-planned made refl has.good.hand_is
         ∙ ap (λ (b : Bool). record (with_take (take_at.Over (Some to)) (page-alone layout frame page body has.good.seen true)) { locks = cond b (locked-by frame page true) (locked-by frame page has.good.poisoned) ∷ cond (to.0 == frame.0) (record (new_lock to) { poisoned = true }) (new_lock to) ∷ [] }) (same-number frame.0 frame.0 refl)

@@ -15,13 +15,6 @@ pub record Counted (slots : set.FinSet nat_cmp) (count at : ℕ) : Type 0 where
   pub few : count ≤ at
   pub goes : (next : Option VSlot) (n : ℕ) → IsNextFrom slots at next → CountsOn slots next n → IsCount slots (count + n)
 
-pub counted-none : (slots : set.FinSet nat_cmp) → Counted slots 0 0
-counted-none slots = record {
-  within = omega arith;
-  few = omega arith;
-  goes = λ next n low counts. subst (IsCount slots) (let same : n ≡ 0 + n = omega arith in same) (next, low, counts);
-}
-
 pub counted-next : {slots : set.FinSet nat_cmp} {count at : ℕ} (found : VSlot) → Counted slots count at → IsLowestFrom slots at found.0 → found.0 < slot_limit → Counted slots (count + 1) (found.0 + 1)
 counted-next {slots} {count} {at} found so_far low inside = record {
   within = omega (arith, inside);

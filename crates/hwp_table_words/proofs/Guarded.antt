@@ -1,5 +1,5 @@
 -- What a step leaves of the guard: only the lock of a frame or of a page that went leaves frames to be swept.
-use Rattle.std.proofs.Common.{◌≡◌, ◌⊎◌, ℕ, ◌+◌, ◌<◌, ◌≤◌, ◌==◌, Bool, true, false, cond, List, [], ◌∷◌, ◌++◌, length, inl, inr, refl, sym, ap, ◌∙◌, subst, arith}
+use Rattle.std.proofs.Common.{◌≡◌, ◌⊎◌, ℕ, ◌+◌, ◌<◌, ◌≤◌, ◌==◌, Bool, true, cond, List, [], ◌∷◌, ◌++◌, length, inl, inr, refl, sym, ap, ◌∙◌, subst, arith}
 use Rattle.std.specs.Int.{from_bool}
 use Rattle.hwp_core_task.specs.hwp_geom.declared.Frame.{Frame}
 use Rattle.hwp_core_task.specs.hwp_geom.declared.Layout.{Layout}
@@ -9,14 +9,13 @@ use Rattle.hwp_core_task.specs.hwp_core_rule.declared.Step.{Step}
 use Rattle.hwp_core_task.specs.hwp_core_rule.declared.Step.TheVariants as steps
 use Rattle.hwp_core_task.specs.hwp_core_rule.declared.View.{View}
 use Rattle.hwp_core_task.specs.hwp_core_rule.Moves.{Told}
-use Rattle.hwp_core_task.specs.hwp_core_rule.Steps.{goes, place_of}
+use Rattle.hwp_core_task.specs.hwp_core_rule.Steps.{goes}
 use Rattle.hwp_core_task.specs.hwp_core_rule.Views.{locks_on, noted, view_after}
-use Rattle.hwp_core_task.specs.hwp_core_rule.Words.{IsPlace}
 use Rattle.hwp_core_task.proofs.of_hwp_core_rule.Lists.{same-or, from_bool-other, from_bool-same}
 use Rattle.hwp_tlb_rule.specs.Caching.{Caching, upto_of}
 use Rattle.hwp_tlb_rule.specs.Rule.{frames_of, times}
 use Rattle.hwp_tlb_rule.specs.Steps.{IsGuarded, caching_after}
-use Rattle.hwp_tlb_rule.proofs.Guards.{guard-after, less-times, locks-once, locks-within}
+use Rattle.hwp_tlb_rule.proofs.Guards.{guard-after, locks-once, locks-within}
 use Rattle.hwp_tlb_rule.proofs.LockSlots.{less, locks-after, locks_then}
 use Rattle.hwp_tlb_rule.proofs.LockTimes.{times-append, times-cons, times-frames}
 
@@ -32,20 +31,6 @@ module _ (layout : Layout) (locks : List ℕ) (f : ℕ) (within : 0 < times f lo
         within (omega (arith, all, last, none, some))
   ]
 
-  one-less : (frame : ℕ) → 0 < times f (less frame locks) → f < layout.frames
-  one-less frame some = let fewer : times f (less frame locks) ≤ times f locks = less-times f frame locks in within (omega (arith, fewer, some))
-
-  within-then : (step : Step) (found : ℕ) → IsPlace layout (place_of step) → 0 < times f (locks_then step found locks) → f < layout.frames
-  within-then (steps.Adopt frame) found there some = one-more frame.0 there some
-  within-then (steps.LockFrame frame) found there some = which (goes (steps.LockFrame frame) found) some
-    where
-      which : (b : Bool) → 0 < times f (cond b (locks ++ frame.0 ∷ []) locks) → f < layout.frames
-      which true now = one-more frame.0 there now
-      which false now = within now
-  within-then (steps.UnlockFrame frame) found there some = one-less frame.0 some
-  within-then (steps.Retire frame) found there some = one-less frame.0 some
-  within-then step found there some = within some
-
 module _ (layout : Layout) (r : Rec) (old new : View) (told : Told layout r old new) where
   -- the guard, but for the frames that are to be swept
   pub almost-guarded : (places : ℕ) (k : Caching) (locks : List ℕ) (Sweeps : ℕ → Type 0) → IsGuarded places old k
@@ -56,16 +41,6 @@ module _ (layout : Layout) (r : Rec) (old new : View) (told : Told layout r old 
       subst (λ (v : View). 0 < length v.pages → (f : ℕ) → 0 < locks_on f v.locks → Sweeps f ⊎ (places ≤ upto_of f (caching_after places r.step r.found locks k).cleared)) (sym told.next)
       (guard-after layout r old k places locks Sweeps guarded (locks-once layout told.board told.rule told.seat old told.me) by-frame
       (λ page is went f listed. by-page page is went f (locks-within layout told.board told.rule told.seat old told.me f listed)))
-
-  -- each frame that is locked is one of the layout
-  pub within-after : IsPlace layout (place_of r.step) → (f : ℕ) → 0 < locks_on f new.locks → f < layout.frames
-  within-after place f some = within-then layout (frames_of old.locks) f before r.step r.found place now
-    where
-      before : 0 < times f (frames_of old.locks) → f < layout.frames
-      before listed = locks-within layout told.board told.rule told.seat old told.me f (subst (λ (n : ℕ). 0 < n) (times-frames f old.locks) listed)
-
-      now : 0 < times f (locks_then r.step r.found (frames_of old.locks))
-      now = subst (λ (n : ℕ). 0 < n) (sym (times-frames f new.locks) ∙ ap (λ (v : View). times f (frames_of v.locks)) told.next ∙ ap (times f) (locks-after layout r.who r.step r.found r.content (noted r.who old))) some
 
   -- the frame whose lock was taken is listed
   pub lock-taken : (frame : Frame) → r.step ≡ steps.LockFrame frame → goes r.step r.found ≡ true → 0 < locks_on frame.0 new.locks

@@ -15,11 +15,6 @@ module _ {A : Type 0} where
   as-slice (x ∷ xs) zero a e = ap Some (some-injective x a e)
   as-slice (x ∷ xs) (suc i) a e = as-slice xs i a e
 
-  pub as-element : (l : List A) (i : ℕ) (a : A) → slice_get l i ≡ Some a → get_elem? l i ≡ some a
-  as-element [] i a e = absurd (none-some a e)
-  as-element (x ∷ xs) zero a e = ap some (same_Some x a e)
-  as-element (x ∷ xs) (suc i) a e = as-element xs i a e
-
 -- a slot that the rule sees at home is at home
 pub home-was : (hs : List (Option Content)) (slot : ℕ) (content : Maybe Log) → slice_get (map home_of hs) slot ≡ Some (Some content) → (y : Content) × (get_elem? hs slot ≡ some (some y)) × (logs y ≡ content)
 home-was [] slot content e = absurd (none-some (Some content) e)

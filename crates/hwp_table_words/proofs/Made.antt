@@ -31,9 +31,6 @@ use Rattle.hwp_tlb_rule.specs.Steps.{IsGuarded, caching_after}
 use Rattle.hwp_table_words.proofs.Carried.{front-laid, first-now, brought-now, is-carried, carries-after, room-for}
 
 -- what a call asks of a seat, or tells of it, it asks and tells of an equal one
-pub rights-on : {a b : SeatValue} → a ≡ b → HasRight b.known → HasRight a.known
-rights-on {a} {b} same has = subst (λ (v : SeatValue). HasRight v.known) (sym same) has
-
 pub can-on : {a b : SeatValue} {who : Who} {step : Step} {put : Content} → a ≡ b → CanMake b.layout who step put (mine b) → CanMake a.layout who step put (mine a)
 can-on {a} {b} {who} {step} {put} same can = subst (λ (v : SeatValue). CanMake v.layout who step put (mine v)) (sym same) can
 

@@ -1,6 +1,6 @@
 -- What the order of the slots that a seat carries says of its locks: a slot below the number of frames is a frame's, one from there on
 -- is a page's.
-use Rattle.std.proofs.Common.{◌≡◌, ℕ, suc, ◌+◌, ◌<◌, ◌≤◌, ◌==◌, Bool, true, false, Any, List, [], ◌∷◌, Some, map, length, slice_get, refl, sym, ap, ◌∙◌, subst, arith}
+use Rattle.std.proofs.Common.{◌≡◌, ℕ, suc, ◌+◌, ◌<◌, ◌≤◌, ◌==◌, Bool, true, false, Any, List, [], ◌∷◌, map, length, refl, sym, ap, ◌∙◌, subst, arith}
 use Rattle.std.specs.Int.{from_bool}
 use Rattle.std.proofs.lemmas.Bool.{eqb-true}
 use Rattle.std.proofs.lemmas.List.{length-map}
@@ -8,7 +8,7 @@ use Rattle.hwp_core_task.specs.hwp_geom.declared.Layout.{Layout}
 use Rattle.hwp_core_task.specs.hwp_core_rule.declared.PageLock.{PageLock}
 use Rattle.hwp_core_task.specs.hwp_core_rule.declared.View.{View}
 use Rattle.hwp_core_task.specs.hwp_core_rule.Views.{locks_on}
-use Rattle.hwp_core_task.proofs.of_hwp_core_rule.Lists.{term-le, from_bool-other, from_bool-same}
+use Rattle.hwp_core_task.proofs.of_hwp_core_rule.Lists.{from_bool-other, from_bool-same}
 use Rattle.hwp_tlb_rule.specs.Rule.{frames_of, times}
 use Rattle.hwp_tlb_rule.proofs.LockSlots.{pages_of}
 use Rattle.hwp_tlb_rule.proofs.LockTimes.{times-append, times-cons, times-frames}
@@ -27,24 +27,6 @@ any-times P n (x ∷ xs) some p = which (x == n) refl (any-times P n xs)
         let none : from_bool (x == n) ≡ 0 = ap from_bool isnt in
         let at = rest (omega (arith, all, none, some)) p in
         (suc at.0, at.1, let less : at.0 < length xs = at.2 in omega (arith, less), at.3, at.4)
-
-pub times-member : (n : ℕ) (list : List ℕ) → 0 < times n list → (i : ℕ) × (slice_get list i ≡ Some n)
-times-member n [] some = absurd (omega (arith, some))
-times-member n (x ∷ xs) some = which (x == n) refl (times-member n xs)
-  where
-    which : (b : Bool) → (x == n) ≡ b → (0 < times n xs → (i : ℕ) × (slice_get xs i ≡ Some n)) → (i : ℕ) × (slice_get (x ∷ xs) i ≡ Some n)
-    which true is rest = (0, ap (λ (m : ℕ). Some m) (eqb-true x n is))
-    which false isnt rest =
-        let all : times n (x ∷ xs) ≡ from_bool (x == n) + times n xs = times-cons n x xs in
-        let none : from_bool (x == n) ≡ 0 = ap from_bool isnt in
-        let at = rest (omega (arith, all, none, some)) in
-        (suc at.0, at.1)
-
-pub member-times : (n : ℕ) (list : List ℕ) (i : ℕ) → slice_get list i ≡ Some n → 0 < times n list
-member-times n list i at =
-    let one : from_bool (n == n) ≡ 1 = from_bool-same n n refl in
-    let more : from_bool (n == n) ≤ times n list = term-le (λ (m : ℕ). from_bool (m == n)) list i n at in
-    omega (arith, one, more)
 
 -- no slot of a page is a frame's
 none-below : (frames f : ℕ) (pages : List ℕ) → f < frames → times f (map (λ (q : ℕ). frames + q) pages) ≡ 0

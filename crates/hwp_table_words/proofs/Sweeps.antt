@@ -47,9 +47,6 @@ module _ (f p found : ℕ) (m : Me) where
     pub passed-cleared : p < upto_of f n.0.caching.cleared
     passed-cleared = subst (λ (o : Me). p < upto_of f o.0.caching.cleared) (sym is-passed) (raised f p k)
 
-    pub passed-counts : n.0.caching.counts ≡ k.counts
-    passed-counts = ap (λ (o : Me). o.0.caching.counts) is-passed
-
   -- one that names it is taken away
   module _ (n : Me) (is : n ≡ then) (ours : is_of f found ≡ true) where
     abbrev seen : Me
@@ -57,15 +54,6 @@ module _ (f p found : ℕ) (m : Me) where
 
     is-seen : n ≡ seen
     is-seen = by-look n is true ours
-
-    pub seen-glimpse : n.0.caching.glimpse ≡ Some (record { frame = f; place = p; word = found })
-    seen-glimpse = ap (λ (o : Me). o.0.caching.glimpse) is-seen
-
-    pub seen-before : p ≤ upto_of f k.cleared → p ≤ upto_of f n.0.caching.cleared
-    seen-before less = subst (λ (o : Me). p ≤ upto_of f o.0.caching.cleared) (sym is-seen) less
-
-    pub seen-counts : n.0.caching.counts ≡ k.counts
-    seen-counts = ap (λ (o : Me). o.0.caching.counts) is-seen
 
     seen-on : IsSweptOn m n
     seen-on = subst (IsSweptOn m) (sym is-seen) (record { rest = refl; grows = λ g. omega arith })

@@ -1,5 +1,5 @@
 -- Turns one after another are a run of the worker.
-use Rattle.std.proofs.Common.{◌≡◌, false, List, [], ◌∷◌, zero, suc, refl, sym, ◌∙◌, subst}
+use Rattle.std.proofs.Common.{◌≡◌, false, List, [], ◌∷◌, zero, suc, sym, ◌∙◌, subst}
 use Rattle.std.proofs.lemmas.Option.{none-some, same_Some}
 use Rattle.hwp_core_task.specs.hwp_geom.declared.Layout.{Layout}
 use Rattle.hwp_core_task.specs.hwp_core_rule.declared.Rec.{Rec}
@@ -23,13 +23,6 @@ each-more t ts first rest zero u e = first 0 u e
 each-more t ts first rest (suc i) u e = rest i u e
 
 module _ {O S : Type 0} (m : Member S) (machine : O → Layout) (view : O → View) (moves : O → Rec → O → Type 0) where
-  -- no turn yet
-  pub run-none : (a : Worker O S) → HasRun m machine view moves a a
-  run-none a = record {
-    turns = [];
-    made = record { same = refl; own = refl; moved = refl; going = λ none. (none, λ i t e. absurd (none-some t e)) };
-  }
-
   -- and one turn more
   pub run-more : (a b c : Worker O S) → HasRun m machine view moves a b → TookTurn m machine view moves b c → HasRun m machine view moves a c
   run-more a b c run took = record {

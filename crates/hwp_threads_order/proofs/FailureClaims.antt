@@ -1,5 +1,5 @@
 -- In whatever order processors move, each failure that isn't ended is the claim of a task, and none is open when all are over.
-use Rattle.std.proofs.Common.{◌≡◌, ◌≢◌, ℕ, zero, suc, ◌<◌, ◌⊎◌, inl, inr, Bool, false, cond, List, [], ◌∷◌, ◌++◌, None, Some, drop, length, map, set, slice_get, refl, sym, ap, ◌∙◌, subst, arith, ne_eqb}
+use Rattle.std.proofs.Common.{◌≡◌, ◌≢◌, ℕ, zero, suc, ◌<◌, ◌⊎◌, inl, inr, Bool, false, cond, List, [], ◌∷◌, None, Some, drop, length, map, set, slice_get, refl, sym, ap, ◌∙◌, subst, arith, ne_eqb}
 use Rattle.std.proofs.lemmas.List.{length-set, map-set}
 use Rattle.std.proofs.lemmas.Option.{get_or_from_slice_get, same_Some, slice_get_within}
 use Rattle.hwp_core_task.specs.hwp_geom.declared.Frame.{Frame}
@@ -19,7 +19,7 @@ use Rattle.hwp_core_task.specs.Classes.{TellsClass}
 use Rattle.hwp_core_task.specs.Ranks.{IsRanked, Made, Pending, is_refused, words_at}
 use Rattle.hwp_core_task.specs.Turns.{Member}
 use Rattle.hwp_threads_order.specs.Own.{IsOwnRun, IsTurn, Standing, Turned, after_of, made_of}
-use Rattle.hwp_threads_order.specs.Parts.{AreParts, IsClaim, IsPart, Own, Point, Stands, froms, part, tos}
+use Rattle.hwp_threads_order.specs.Parts.{AreParts, IsClaim, IsPart, Own, Stands, froms, part, tos}
 
 -- ---- lists
 
@@ -187,14 +187,6 @@ module _ {S : Type 0} (m : Member S) (layout : Layout) (ranked : IsRanked m) whe
       let b = back a r rs s owns run parts in
       let then = stands-on a rs run.0 b.owns_then run.1 b.parts (subst (Stands m layout a) (sym b.froms_are) stood) in
       step-stands run.0 s r.0 (tos owns) b.u (subst (λ (x : ℕ × Rec). Move layout x.0 x.1 run.0 s) b.move_is run.2) b.turn b.going b.now (subst (Stands m layout run.0) b.tos_are then)
-
-  -- and so it is at any point
-  pub any-point : (a : State) (later earlier : List (ℕ × Rec)) (s : State) (owns : List (Own S)) → Run layout a (later ++ earlier) s → AreParts m layout a (later ++ earlier) owns → Stands m layout a (froms owns) → Point m layout a earlier owns
-  any-point a [] earlier s owns run parts stood = record { state = s; run = run; owns_then = owns; parts = parts; froms_are = refl; stands = stands-on a earlier s owns run parts stood }
-  any-point a (r ∷ rs) earlier s owns run parts stood =
-      let b = back a r (rs ++ earlier) s owns run parts in
-      let p = any-point a rs earlier run.0 b.owns_then run.1 b.parts (subst (Stands m layout a) (sym b.froms_are) stood) in
-      record { state = p.state; run = p.run; owns_then = p.owns_then; parts = p.parts; froms_are = p.froms_are ∙ b.froms_are; stands = p.stands }
 
 -- where all tasks are over no failure is open
 pub stands-settled : {S : Type 0} (m : Member S) (layout : Layout) (s : State) (all : List (Standing S)) → TellsClass m → Stands m layout s all

@@ -1,5 +1,5 @@
 -- The seats of workers are taken in, one after the other.
-use Rattle.std.proofs.Common.{◌≡◌, ℕ, zero, suc, false, List, [], ◌∷◌, ◌++◌, map, refl, sym, ap, ◌∙◌, subst}
+use Rattle.std.proofs.Common.{◌≡◌, ℕ, zero, suc, false, List, [], ◌∷◌, ◌++◌, map, sym, ap, ◌∙◌, subst}
 use Rattle.std.specs.List.{flat_map}
 use Rattle.std.proofs.lemmas.List.{append-nil}
 use Rattle.std.proofs.lemmas.Option.{none-some, same_Some}
@@ -13,7 +13,7 @@ use Rattle.hwp_table_words.specs.Known.{Known}
 use Rattle.hwp_table_words.specs.Seats.{SeatValue}
 use Rattle.hwp_table_words.specs.Stands.{Me}
 use Rattle.hwp_threads.specs.declared.Worker.{Worker}
-use Rattle.hwp_threads_seats.specs.Gathering.{AreBare, AreGathered, IsBare, IsBrought, mine_in, own_in}
+use Rattle.hwp_threads_seats.specs.Gathering.{AreBare, AreGathered, IsBrought, mine_in, own_in}
 use Rattle.hwp_threads_seats.proofs.Pieces.{append-on, push-front}
 
 abbrev Places : Type 0 → Type 0
@@ -41,18 +41,11 @@ pub record SoFar {T : Type 0} (id : TableId) (old : Known) (all left : Places T)
   pub bare : AreBare id left
   pub going : NotRefused left → NotRefused all
 
-pub taking-begins : {T : Type 0} (id : TableId) (of : TableId) (me : Me) (all : Places T) → of ≡ id → me.1 ≡ [] → AreBare id all → SoFar id me.0.known all all of me []
-taking-begins id of me all same slots bare = record { same = same; slots = slots; mines = refl; own = refl; tasks_are = refl; bare = bare; going = λ each. each }
-
 each-more : {T : Type 0} (w : CachePadded (Worker SeatValue T)) (ws : Places T) → (padded_value w).refused ≡ false → NotRefused ws → NotRefused (w ∷ ws)
 each-more {T} w ws first rest zero v e = subst (λ (x : CachePadded (Worker SeatValue T)). (padded_value x).refused ≡ false) (same_Some w v e) first
 each-more w ws first rest (suc i) v e = rest i v e
 
 -- the first of those that are left can be taken in
-pub next-bare : {T : Type 0} (id : TableId) (old : Known) (all : Places T) (w : CachePadded (Worker SeatValue T)) (ws left : Places T) (of : TableId) (me : Me) (tasks : List T)
-    → left ≡ w ∷ ws → SoFar id old all left of me tasks → IsBare id (padded_value w).seat
-next-bare id old all w ws left of me tasks is so = subst (AreBare id) is so.bare 0 w refl
-
 pub taking-more : {T : Type 0} (id : TableId) (old : Known) (all : Places T) (w : CachePadded (Worker SeatValue T)) (ws left : Places T) (of of' : TableId) (me me' : Me) (tasks : List T) (t : T)
     → left ≡ w ∷ ws → SoFar id old all left of me tasks → IsBrought of me (padded_value w) of' me' t → SoFar id old all ws of' me' (tasks ++ t ∷ [])
 taking-more {T} id old all w ws left of of' me me' tasks t is so brought = record {

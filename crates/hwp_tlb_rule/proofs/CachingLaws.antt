@@ -19,18 +19,6 @@ upto-raised f n (c ∷ cs) = which (c.frame == f) refl (upto-raised f n cs)
     which true is rest = ap (λ (b : Bool). cond b (max c.upto n) (upto_of f cs)) is
     which false isnt rest = ap (λ (b : Bool). cond b c.upto (upto_of f (with_upto f n cs))) isnt ∙ rest
 
--- and no other
-pub upto-other : (f g n : ℕ) (list : List Cleared) → g ≢ f → upto_of g (with_upto f n list) ≡ upto_of g list
-upto-other f g n [] other = ap (λ (b : Bool). cond b n 0) (ne_eqb f g (λ e. other (sym e)))
-upto-other f g n (c ∷ cs) other = which (c.frame == f) refl (upto-other f g n cs other)
-  where
-    which : (b : Bool) → (c.frame == f) ≡ b → upto_of g (with_upto f n cs) ≡ upto_of g cs
-        → upto_of g (cond b ((record c { upto = max c.upto n }) ∷ cs) (c ∷ with_upto f n cs)) ≡ cond (c.frame == g) c.upto (upto_of g cs)
-    which true is rest =
-        let differs : (c.frame == g) ≡ false = ne_eqb c.frame g (λ e. other (sym e ∙ eqb-true c.frame f is)) in
-        ap (λ (b : Bool). cond b (max c.upto n) (upto_of g cs)) differs ∙ sym (ap (λ (b : Bool). cond b c.upto (upto_of g cs)) differs)
-    which false isnt rest = ap (λ (m : ℕ). cond (c.frame == g) c.upto m) rest
-
 -- nor is it lowered for any
 pub upto-grows : (f g n : ℕ) (list : List Cleared) → upto_of g list ≤ upto_of g (with_upto f n list)
 upto-grows f g n [] = omega arith

@@ -121,13 +121,6 @@ module _ (layout : Layout) (s : State) (holds : Holds layout s) where
         which slot frame leads true is e = ap (slice_get trans) (sym (eqb-true slot v.0 is)) ∙ leads ∙ ap (λ (g : Frame). Some (g.0 + 1)) (same_Some (record { 0 = frame }) f e)
         which slot frame leads false isnt e = absurd (none-some f e)
 
-    -- an entry that names a frame names one of the board
-    pub names-frame : (i w f : ℕ) → slice_get entries i ≡ Some w → is_of f w ≡ true → f < layout.frames
-    names-frame i w f at names =
-        let leads = entry-leads i w f at names in
-        let there = leads-there leads.0 f leads.2 leads.4 in
-        subst (λ (n : ℕ). f < n) (shaped layout s holds).frames (slice_get_within frames f there.0 there.1)
-
     -- the frame that an entry names is in use: it is not handled, and something refers to it
     pub none-handled : NamesInUse layout s entries
     none-handled i w f at names =

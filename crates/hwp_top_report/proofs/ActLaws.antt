@@ -22,21 +22,6 @@ pub record IsNoted (who : Who) (told : List EventOutcome) (offlined : List Offli
   pub frames : k ≤ length offlined
   pub noted : notes ++ left who told offlined n k ≡ start ++ filter_map (act_note who) (acts told offlined)
 
-pub noted-none : (who : Who) (told : List EventOutcome) (offlined : List Offlining) (start : List Note) → IsNoted who told offlined start start 0 0 0
-noted-none who told offlined start = record { sum = refl; events = omega arith; frames = omega arith; noted = refl }
-
--- at the end all is noted
-pub noted-all : (who : Who) (told : List EventOutcome) (offlined : List Offlining) (start notes : List Note) (n k : ℕ) → IsNoted who told offlined start notes (length told + length offlined) n k
-    → notes ≡ start ++ filter_map (act_note who) (acts told offlined)
-noted-all who told offlined start notes n k is =
-    let all : n ≡ length told = let sum = is.sum in let e = is.events in let f = is.frames in omega (arith, sum, e, f) in
-    let each : k ≡ length offlined = let sum = is.sum in let e = is.events in let f = is.frames in omega (arith, sum, e, f) in
-    sym (append-nil notes) ∙ ap (λ (l : List Note). notes ++ l) (sym (ap (λ (m : ℕ). left who told offlined m k) all ∙ ap (λ (m : ℕ). left who told offlined (length told) m) each ∙ none)) ∙ is.noted
-  where
-    none : left who told offlined (length told) (length offlined) ≡ []
-    none = ap (λ (ts : List EventOutcome). filter_map (act_note who) (acts_from (length told) ts (drop (length offlined) offlined))) (drop-length told)
-        ∙ ap (λ (os : List Offlining). filter_map (act_note who) (acts_from (length told) [] os)) (drop-length offlined)
-
 or-false-left : (a b : Bool) → (a || b) ≡ false → a ≡ false
 or-false-left true b is = absurd (true≢false is)
 or-false-left false b is = refl

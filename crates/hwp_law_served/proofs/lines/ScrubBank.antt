@@ -1,8 +1,7 @@
 -- The scrubber's bank holds nothing between commands, and so it holds the event of a scrub's line alone.
-use Rattle.std.proofs.Common.{◌≡◌, ◌⊎◌, inl, inr, ℕ, ◌+◌, List, [], ◌∷◌, ◌++◌, Option, Some, None, MatchBool, Bool, true, false, map, set, slice_get, slice_index_or, refl, sym, ap, ◌∙◌, subst}
+use Rattle.std.proofs.Common.{◌≡◌, ◌⊎◌, inl, inr, ℕ, List, [], ◌∷◌, ◌++◌, Option, Some, None, MatchBool, Bool, true, false, map, set, slice_get, slice_index_or, refl, sym, ap, ◌∙◌, subst}
 use Rattle.std.proofs.lemmas.List.{length-set}
 use Rattle.std.proofs.lemmas.Option.{get_or_from_slice_get, none-some, same_Some}
-use Rattle.hwp_law_run.specs.hwp_geom.declared.Cpu.{Cpu}
 use Rattle.hwp_law_run.specs.hwp_geom.declared.Frame.{Frame}
 use Rattle.hwp_law_run.specs.hwp_geom.declared.Layout.{Layout}
 use Rattle.hwp_law_run.specs.hwp_geom.declared.Thread.{Thread}
@@ -25,7 +24,6 @@ use Rattle.hwp_law_run.specs.hwp_severity.declared.Arrival.{Arrival}
 use Rattle.hwp_law_run.specs.hwp_law.Events.{logged_if_done}
 use Rattle.hwp_law_run.specs.hwp_banks.Banks.{raw_bank, raw_event}
 use Rattle.hwp_cpu_row.specs.hwp_cpu_check.declared.Held.{Held}
-use Rattle.hwp_cpu_row.specs.declared.Row.{Row}
 use Rattle.hwp_cpu_row.specs.hwp_cpu_check.declared.EventOutcome.{EventOutcome}
 use Rattle.hwp_cpu_row.specs.hwp_cpu_check.Checks.{Check, IsActedOn, left_by, with_own}
 use Rattle.hwp_cpu_row.specs.hwp_cpu_check.Events.{graded_in}
@@ -35,7 +33,6 @@ use Rattle.hwp_scrub.specs.Visits as scrubs
 use Rattle.hwp_scrub.specs.Visits.{AreBanks, IsKept, scrub_bank, scrubbing}
 use Rattle.hwp_scrub.proofs.VisitLaws.{bad-leaves, left-banks}
 use Rattle.hwp_cpu_copy.specs.Runs.{checks_by}
-use Rattle.hwp_law_served.specs.Served.{AreRowsServed}
 use Rattle.hwp_law_served.specs.Copied.{IsCopyTold}
 use Rattle.hwp_law_served.specs.Told.{AreToldBy, AreToldWith, IsCutShort, IsRaiseTold, IsScrubTold, IsUntold, is_raised}
 
@@ -99,13 +96,6 @@ module _ (layout : Layout) (view : View) (who : Who) where
   with-free None command answer before told after is are = row-free command answer before told after is are
   with-free (Some from) (commands.Store thread to line word) answer before told after is are = copy-free thread from to line word before told after is are
   with-free (Some from) command answer before told after is are = absurd is
-
--- commands that are answered leave the scrubber's bank with nothing
-pub banks-free : (layout : Layout) (copies : Who → Option VSlot) (earlier : List (Command × Answer)) (view : View) (cpu : Cpu) (n : ℕ) (before : Banks) (commands : List Command) (rows : List Row) (after : Banks) → AreRowsServed layout copies earlier view cpu n before commands rows after → AreBanks before → AreBanks after
-banks-free layout copies earlier view cpu n before cs [] after same are = left-free before after same are
-banks-free layout copies earlier view cpu n before [] (row ∷ rows) after served are = absurd served
-banks-free layout copies earlier view cpu n before (c ∷ cs) (row ∷ rows) after (between, served, rest) are =
-    banks-free layout copies (earlier ++ (c, row.answer) ∷ []) view cpu (n + 1) between cs rows after rest (with-free layout view (record { cpu = cpu; seq = n }) (copies (record { cpu = cpu; seq = n })) c row.answer before row.told between served.told are)
 
 -- ---- the event of a line
 
