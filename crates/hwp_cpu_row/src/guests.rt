@@ -109,7 +109,7 @@ impl Guests {
         Some(self.meet(seq, access))
     }
 
-    /// A guest meets a bad line by this access.
+    /// A guest's machine check for this access, which was answered by SIGBUS.
     fn meet(&mut self, seq: u32, access: GuestAccess) -> GuestLine
         requires { CanMeet self.old access }
         ensures line { result ≡ guest_line seq access }
