@@ -18,7 +18,7 @@ use Rattle.hwp_law.specs.hwp_report_text.declared.Report.{Report}
 use Rattle.hwp_law.specs.Lines.{answer_among, answer_of, events_among, events_of, is_same_command}
 use Rattle.hwp_law.specs.hwp_law_commands.Commands.{is_check}
 use Rattle.hwp_law.specs.Pairings.{entries_of}
-use Rattle.hwp_check_events.specs.Indexed.{AreChecks, AreFirst, AreShown, checks_in, shown_from}
+use Rattle.hwp_check_events.specs.Indexed.{AreChecks, AreFirst, checks_in, shown_from}
 use Rattle.hwp_check_events.specs.Judged.{IsJudged, IsTable}
 use Rattle.hwp_check_events.specs.Misfits.{IsFit, found_by, leaves, left_by}
 use Rattle.hwp_check_scrub.specs.hwp_check_event_line.Firsts.{shown_lines}
@@ -88,24 +88,24 @@ module _ (script : Script) (copies : Who → Option VSlot) (report : Report) (cp
   has-place _ table is size = record {}
 
   -- one command more
-  pub so-next : (n : ℕ) (raw left : Option Event) (table next : List ℕ) (found : Misfits) (faults : Faults) (lines lists_d : List Shown) (lists : List (List Shown)) (command d : Command) → n < length list → command ≡ get_or list n d → lines ≡ get_or lists n lists_d
-      → AreShown rows (length list) lists → IsJudged script copies report (at n) command raw left (shown_lines lines) faults → next ≡ with_mark command table
+  pub so-next : (n : ℕ) (raw left : Option Event) (table next : List ℕ) (found : Misfits) (faults : Faults) (lines : List Shown) (command : Command) → slice_get list n ≡ Some command → lines ≡ shown_from n 0 rows
+      → IsJudged script copies report (at n) command raw left (shown_lines lines) faults → next ≡ with_mark command table
       → SoFar script copies report cpu list rows n raw table found → SoFar script copies report cpu list rows (n + 1) left next (joined found faults lines)
-  so-next n raw left table next found faults lines lists_d lists command d within command_is lines_are shown judged next_is so = record {
-    raw_is = left-next script copies report cpu list rows n d raw left within (left_is ∙ ap (λ (c : Command). leaves script copies report (at n) c raw (events_of report (at n))) command_is) so.raw_is;
-    lows = table-next list n d table next within (subst (λ (c : Command). HasPlace c table) command_is (has-place command table is_command so.size)) (next_is ∙ ap (λ (c : Command). with_mark c table) command_is) so.lows;
+  so-next n raw left table next found faults lines command made own judged next_is so = record {
+    raw_is = left-next script copies report cpu list rows n command raw left within (left_is ∙ ap (λ (c : Command). leaves script copies report (at n) c raw (events_of report (at n))) command_is) so.raw_is;
+    lows = table-next list n command table next within (subst (λ (c : Command). HasPlace c table) command_is (has-place command table is_command so.size)) (next_is ∙ ap (λ (c : Command). with_mark c table) command_is) so.lows;
     size = ap length next_is ∙ table-size command table ∙ so.size;
     walked = walked-next script copies report cpu list rows n command made left faults lines own told_are own_judged found so.walked;
   }
     where
-      made : slice_get list n ≡ Some command
-      made = slice_get-get_or list n d within ∙ ap Some (sym command_is)
+      within : n < length list
+      within = slice_get_within list n command made
+
+      command_is : command ≡ get_or list n command
+      command_is = sym (get_or_from_slice_get list n command command made)
 
       is_command : IsCommandOf script.layout (0 + cpu.0) command
       is_command = command-of script cpu.0 n list command valid of_script made
-
-      own : lines ≡ shown_from n 0 rows
-      own = lines_are ∙ shown.each n (get_or lists n lists_d) (slice_get-get_or lists n lists_d (let s : length lists ≡ length list = shown.size in omega (arith, s, within)))
 
       told_are : shown_lines lines ≡ events_of report (at n)
       told_are = ap shown_lines own ∙ told-is n rows ∙ ap (λ (r : List CpuLine). events_among r n) of_report
