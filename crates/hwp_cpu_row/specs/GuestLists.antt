@@ -1,9 +1,8 @@
 -- What a processor remembers of guests: a list that says of each process what it is as a guest. What it makes of a command is what
 -- hwp_law_commands/specs/Guests says, with the list for the earlier commands and their answers.
-use Rattle.std.specs.Prelude.{◌≡◌, ℕ, ◌<◌, Bool, true, List, [], length, replicate, get_or, slice_set, Option, None, Some, option_and_then, option_map, if◌then◌else◌}
-use Rattle.std.specs.List.{list_any}
+use Rattle.std.specs.Prelude.{◌≡◌, ℕ, ◌<◌, true, List, [], length, replicate, get_or, slice_set, Option, None, Some, option_and_then, option_map, if◌then◌else◌}
 use Rattle.std.specs.Option.{option_map_or}
-use Rattle.hwp_cpu_check.specs.hwp_geom.Layout.{is_guest}
+use Rattle.hwp_cpu_check.specs.hwp_geom.Layout.{has_guests, is_guest}
 use Rattle.hwp_cpu_check.specs.hwp_geom.Limits.{translation_limit}
 use Rattle.hwp_cpu_check.specs.hwp_geom.declared.Layout.{Layout}
 use Rattle.hwp_cpu_check.specs.hwp_geom.declared.Mode.{Mode}
@@ -34,9 +33,6 @@ abbrev pub KnowsGuests : Layout → List (Command × Answer) → List GuestState
 KnowsGuests layout earlier guests = (process : Proc) → is_guest layout process ≡ true → guest_in guests process ≡ guest_of layout earlier process
 
 -- at first no guest has a bad frame; where no process is a guest the list is empty, and stays so
-abbrev pub has_guests : Layout → Bool
-has_guests layout = list_any (λ (guest : Bool). guest) layout.guests
-
 abbrev pub first_guests : Layout → List GuestState
 first_guests layout = if has_guests layout then replicate layout.procs new_guest else []
 
