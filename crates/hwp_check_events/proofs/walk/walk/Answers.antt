@@ -14,7 +14,7 @@ command_faults-faults-requires c =
     let of = c.count-number-end.ensures.of_script in
     record {
       table = subst (λ (v : CaseValue). IsTable v.script v.who c.as_slice.result.now) (sym c.case-case.ensures.case_is)
-          (subst (IsTable p.script (record { cpu = p.cpu; seq = c.loop-number.number })) (sym c.as_slice.ensures)
+          (subst (IsTable p.script (record { cpu = p.cpu; seq = c.loop-number.number })) (sym c.as_slice.ensures.value)
           (table-is p.script (copies_in p.copies) p.report p.cpu p.commands (rows_in p.report p.cpu) of.valid of.of_script refl c.loop-number.number c.loop-number.raw c.loop-number.table.items c.loop-number.found c.loop-number.invariant));
     }
 

@@ -1,4 +1,4 @@
-use Rattle.std.proofs.Common.{◌≤◌, ◌<◌, [], ap, arith, get_or, length, sym, subst, ◌∙◌}
+use Rattle.std.proofs.Common.{◌≤◌, ◌<◌, ℕ, List, [], ap, arith, get_or, length, sym, subst, ◌∙◌}
 use Rattle.hwp_check_events.specs.Cases.{IsCaseAt, ProcessorValue}
 use Rattle.hwp_check_events.proofs.CaseLaws.{case-at, case-right, few-of}
 use Rattle.hwp_check_events.proofs.indexed.IndexedProcessor.case.Goals as goal
@@ -15,7 +15,7 @@ invariant_of-result c =
     let s = c.self.inside in
     case-right (record { script = s.script.now; copies = s.copies.now; report = s.report.now; cpu = s.cpu; commands = s.commands.now }) s.lists.items s.answers.items s.checks.items s.copied c.self.invariant c.args.number
     (subst (λ (v : ProcessorValue). c.args.number < length v.commands) (sym c.self.view_is) c.requires) (record { checks = c.index.result.now; answer = c.index-2.result.now }) c.index-commands-number.result _ c.list_at.result.now _ _
-    c.index.ensures c.index-2.ensures c.index-commands-number.is (c.list_at.ensures ∙ ap (λ l. get_or l c.args.number []) c.as_slice.ensures)
+    c.index.ensures c.index-2.ensures c.index-commands-number.is (c.list_at.ensures ∙ ap (λ (l : List (List ℕ)). get_or l c.args.number []) c.as_slice.ensures)
 
 pub returns : goal.returns
 returns c =
