@@ -1,35 +1,15 @@
 -- What is kept of a processor, and of its command with a number.
-use Rattle.std.proofs.Common.{◌≡◌, ◌≤◌, ◌<◌, ◌+◌, ◌^◌, ℕ, List, [], Option, Some, get_or, length, slice_get, unwrap_or, refl, sym, ap, ◌∙◌, subst, arith}
+use Rattle.std.proofs.Common.{◌≡◌, ◌≤◌, ◌<◌, ◌+◌, ◌^◌, ℕ, List, [], Option, Some, get_or, length, slice_get, refl, sym, ap, ◌∙◌, subst, arith}
 use Rattle.std.proofs.lemmas.Option.{slice_get-get_or}
-use Rattle.hwp_banks.specs.hwp_geom.declared.Who.{Who}
 use Rattle.hwp_law.specs.hwp_script_read.declared.Command.{Command}
 use Rattle.hwp_law.specs.hwp_report_text.declared.Answer.{Answer}
-use Rattle.hwp_law.specs.hwp_report_text.declared.CpuLine.{CpuLine}
-use Rattle.hwp_law.specs.hwp_report_text.declared.Report.{Report}
 use Rattle.hwp_check_acting.specs.ActedOn.{copies_in}
 use Rattle.hwp_check_scrub.specs.hwp_check_event_line.declared.Shown.{Shown}
-use Rattle.hwp_check_events.specs.Cases.{CaseValue, IsCase, IsCaseAt, IsIndexed, IsOfScript, ProcessorValue, rows_in}
-use Rattle.hwp_check_events.specs.Copied.{AreCopied}
-use Rattle.hwp_check_events.specs.Indexed.{AreChecks, AreFirst, AreShown, shown_from}
+use Rattle.hwp_check_events.specs.Cases.{IsCase, IsCaseAt, IsIndexed, IsOfScript, ProcessorValue, rows_in}
+use Rattle.hwp_check_events.specs.Indexed.{shown_from}
 use Rattle.hwp_check_events.specs.Misfits.{IsFit}
 use Rattle.hwp_check_events.specs.declared.known.Known.{Known}
 use Rattle.hwp_check_events.proofs.WalkSteps.{answer-is, checks-are, checks-few, few-commands, fit-is}
-
--- what was made for each command, by the processor's lines
-pub are-indexed : (p : ProcessorValue) (told : Report) (rows : List CpuLine) (lists : List (List Shown)) (answers : List (Option Answer)) (checks : List ℕ) (copied : List (List ℕ))
-    → told ≡ p.report → rows ≡ unwrap_or (slice_get told.cpus p.cpu.0) [] → IsOfScript p
-    → AreShown rows (length p.commands) lists → AreFirst rows (length p.commands) answers → AreChecks p.cpu (length p.commands) told.pages checks → AreCopied p.script.layout (copies_in p.copies) told p.cpu p.commands (length p.commands) copied
-    → IsIndexed p lists answers checks copied
-are-indexed p told rows lists answers checks copied told_is rows_are of_script lists_are answers_are checks_are copied_are = record {
-  of_script = of_script;
-  lists_are = subst (λ (r : List CpuLine). AreShown r (length p.commands) lists) own lists_are;
-  answers_are = subst (λ (r : List CpuLine). AreFirst r (length p.commands) answers) own answers_are;
-  checks_are = subst (λ (r : Report). AreChecks p.cpu (length p.commands) r.pages checks) told_is checks_are;
-  copied_are = subst (λ (r : Report). AreCopied p.script.layout (copies_in p.copies) r p.cpu p.commands (length p.commands) copied) told_is copied_are;
-}
-  where
-    own : rows ≡ rows_in p.report p.cpu
-    own = rows_are ∙ ap (λ (r : Report). rows_in r p.cpu) told_is
 
 -- its number is small
 pub few-of : (p : ProcessorValue) → IsOfScript p → length p.commands ≤ 4096
