@@ -15,5 +15,6 @@ mod CheckCounts
 mod TableLaws
 mod WalkLaws
 mod WalkSteps
+mod CaseLaws
 pub mod Verdicts
 pub use Rattle.hwp_check_acting.proofs as of_hwp_check_acting

@@ -1,5 +1,5 @@
 -- The walk over a processor's commands: what is known before each.
-use Rattle.std.proofs.Common.{◌≡◌, ℕ, ◌+◌, ◌*◌, ◌<◌, ◌≤◌, ◌^◌, ◌&&◌, List, [], Option, Some, None, get_or, length, slice_get, sum_by, take, unwrap_or, sym, ap, ◌∙◌, subst, arith}
+use Rattle.std.proofs.Common.{◌≡◌, ℕ, ◌+◌, ◌*◌, ◌<◌, ◌≤◌, ◌^◌, ◌&&◌, false, List, [], ◌∷◌, Option, Some, None, get_or, length, slice_get, sum_by, take, unwrap_or, refl, sym, ap, ◌∙◌, subst, arith}
 use Rattle.std.proofs.lemmas.List.Sums.{count_by-le-length, get_or-le-sum_by, sum_by-le-sum_by}
 use Rattle.std.proofs.lemmas.Option.{get_or_from_slice_get, slice_get-get_or, slice_get_within}
 use Rattle.hwp_banks.specs.hwp_geom.declared.Cpu.{Cpu}
@@ -18,8 +18,8 @@ use Rattle.hwp_law.specs.hwp_report_text.declared.Report.{Report}
 use Rattle.hwp_law.specs.Lines.{answer_among, answer_of, events_among, events_of, is_same_command}
 use Rattle.hwp_law.specs.hwp_law_commands.Commands.{is_check}
 use Rattle.hwp_law.specs.Pairings.{entries_of}
-use Rattle.hwp_check_events.specs.Indexed.{AreChecks, AreFirst, AreShown, checks_in, shown_from}
-use Rattle.hwp_check_events.specs.Judged.{IsJudged}
+use Rattle.hwp_check_events.specs.Indexed.{AreChecks, AreFirst, checks_in, shown_from}
+use Rattle.hwp_check_events.specs.Judged.{IsJudged, IsTable}
 use Rattle.hwp_check_events.specs.Misfits.{IsFit, found_by, leaves, left_by}
 use Rattle.hwp_check_scrub.specs.hwp_check_event_line.Firsts.{shown_lines}
 use Rattle.hwp_check_events.specs.Walked.{HasPlace, IsTableOf, IsWalked, joined, with_mark}
@@ -29,7 +29,7 @@ use Rattle.hwp_check_scrub.specs.hwp_check_event_line.declared.Shown.{Shown}
 use Rattle.hwp_check_events.proofs.IndexLaws.{told-is}
 use Rattle.hwp_check_events.proofs.TableLaws.{table-next, table-size}
 use Rattle.hwp_check_events.proofs.ValidLaws.{command-of, fits}
-use Rattle.hwp_check_events.proofs.WalkLaws.{left-next, walked-next}
+use Rattle.hwp_check_events.proofs.WalkLaws.{left-next, walked-first, walked-next}
 use Rattle.hwp_banks.specs.hwp_geom.declared.VSlot.{VSlot}
 
 -- before the command with number n
@@ -43,9 +43,19 @@ module _ (script : Script) (copies : Who → Option VSlot) (report : Report) (cp
   abbrev at : ℕ → Who
   at n = record { cpu = cpu; seq = n }
 
+  pub so-first : (table : List ℕ) → length table ≡ 2 * script.layout.frames → IsTableOf [] table → SoFar script copies report cpu list rows 0 None table (record { lacks = false; wrong = None })
+  so-first table size empty = record { raw_is = ap (λ (l : List Command). left_by script copies report cpu 0 l None) (sym (take-none list)); lows = subst (λ (l : List Command). IsTableOf l table) (sym (take-none list)) empty; size = size; walked = walked-first script copies report cpu list rows }
+    where
+      take-none : (xs : List Command) → take 0 xs ≡ []
+      take-none [] = refl
+      take-none (x ∷ xs) = refl
+
   -- what the command finds in bank 1, and the table for it
   found-is : (n : ℕ) → found_by script copies report (at n) ≡ left_by script copies report cpu 0 (take n list) None
   found-is n = ap (λ (o : Option (List Command)). left_by script copies report cpu 0 (take n (unwrap_or o [])) None) of_script
+
+  pub table-is : (n : ℕ) (raw : Option Event) (table : List ℕ) (found : Misfits) → SoFar script copies report cpu list rows n raw table found → IsTable script (at n) table
+  table-is n raw table found so = subst (λ (o : Option (List Command)). IsTableOf (take n (unwrap_or o [])) table) (sym of_script) so.lows
 
   -- its number is small
   pub few-commands : length list ≤ 4096
@@ -78,24 +88,24 @@ module _ (script : Script) (copies : Who → Option VSlot) (report : Report) (cp
   has-place _ table is size = record {}
 
   -- one command more
-  pub so-next : (n : ℕ) (raw left : Option Event) (table next : List ℕ) (found : Misfits) (faults : Faults) (lines lists_d : List Shown) (lists : List (List Shown)) (command d : Command) → n < length list → command ≡ get_or list n d → lines ≡ get_or lists n lists_d
-      → AreShown rows (length list) lists → IsJudged script copies report (at n) command raw left (shown_lines lines) faults → next ≡ with_mark command table
+  pub so-next : (n : ℕ) (raw left : Option Event) (table next : List ℕ) (found : Misfits) (faults : Faults) (lines : List Shown) (command : Command) → slice_get list n ≡ Some command → lines ≡ shown_from n 0 rows
+      → IsJudged script copies report (at n) command raw left (shown_lines lines) faults → next ≡ with_mark command table
       → SoFar script copies report cpu list rows n raw table found → SoFar script copies report cpu list rows (n + 1) left next (joined found faults lines)
-  so-next n raw left table next found faults lines lists_d lists command d within command_is lines_are shown judged next_is so = record {
-    raw_is = left-next script copies report cpu list rows n d raw left within (left_is ∙ ap (λ (c : Command). leaves script copies report (at n) c raw (events_of report (at n))) command_is) so.raw_is;
-    lows = table-next list n d table next within (subst (λ (c : Command). HasPlace c table) command_is (has-place command table is_command so.size)) (next_is ∙ ap (λ (c : Command). with_mark c table) command_is) so.lows;
+  so-next n raw left table next found faults lines command made own judged next_is so = record {
+    raw_is = left-next script copies report cpu list rows n command raw left within (left_is ∙ ap (λ (c : Command). leaves script copies report (at n) c raw (events_of report (at n))) command_is) so.raw_is;
+    lows = table-next list n command table next within (subst (λ (c : Command). HasPlace c table) command_is (has-place command table is_command so.size)) (next_is ∙ ap (λ (c : Command). with_mark c table) command_is) so.lows;
     size = ap length next_is ∙ table-size command table ∙ so.size;
     walked = walked-next script copies report cpu list rows n command made left faults lines own told_are own_judged found so.walked;
   }
     where
-      made : slice_get list n ≡ Some command
-      made = slice_get-get_or list n d within ∙ ap Some (sym command_is)
+      within : n < length list
+      within = slice_get_within list n command made
+
+      command_is : command ≡ get_or list n command
+      command_is = sym (get_or_from_slice_get list n command command made)
 
       is_command : IsCommandOf script.layout (0 + cpu.0) command
       is_command = command-of script cpu.0 n list command valid of_script made
-
-      own : lines ≡ shown_from n 0 rows
-      own = lines_are ∙ shown.each n (get_or lists n lists_d) (slice_get-get_or lists n lists_d (let s : length lists ≡ length list = shown.size in omega (arith, s, within)))
 
       told_are : shown_lines lines ≡ events_of report (at n)
       told_are = ap shown_lines own ∙ told-is n rows ∙ ap (λ (r : List CpuLine). events_among r n) of_report

@@ -1,5 +1,6 @@
 -- What is said of the event lines of a command.
-use Rattle.std.specs.Prelude.{◌≡◌, ℕ, ◌<◌, ◌==◌, cond, List, Option, None, MatchBool, length, slice_index_or}
+use Rattle.std.specs.Prelude.{◌≡◌, ℕ, ◌<◌, ◌==◌, cond, List, Option, None, MatchBool, is_some, length, slice_index_or}
+use Rattle.std.specs.Int.{from_bool}
 use Rattle.hwp_banks.specs.hwp_geom.Limits.{line_limit}
 use Rattle.hwp_banks.specs.hwp_geom.declared.Frame.{Frame}
 use Rattle.hwp_banks.specs.hwp_geom.declared.Who.{Who}
@@ -10,7 +11,9 @@ use Rattle.hwp_law.specs.hwp_script_read.declared.Script.{Script}
 use Rattle.hwp_law.specs.hwp_report_text.declared.Report.{Report}
 use Rattle.hwp_law.specs.hwp_severity.declared.Arrival.{Arrival}
 use Rattle.hwp_law.specs.hwp_report_text.declared.EventLine.{EventLine}
-use Rattle.hwp_check_events.specs.Accesses.{IsAccessLine, asked_by_access, access_of}
+use Rattle.hwp_law.specs.Events.{is_raised}
+use Rattle.hwp_law.specs.Lines.{answer_of}
+use Rattle.hwp_check_events.specs.Accesses.{IsAccessLine, IsRaisedLine, asked_by_access, access_of}
 use Rattle.hwp_check_scrub.specs.hwp_check_event_line.Firsts.{IsScanned}
 use Rattle.hwp_check_events.specs.Misfits.{IsRightLine, Lacks, commands_before, course_of, leaves}
 use Rattle.hwp_check_scrub.specs.Scrubs.{after_all, lacking, lowest, reach_from}
@@ -41,6 +44,14 @@ pub record IsScrubJudged (script : Script) (report : Report) (who : Who) (how : 
       MatchBool faults.lacks ((end_of script report who first last raw lines).strays < lacking (course_of script report who first last) (end_of script report who first last raw lines))
       ((end_of script report who first last raw lines).strays < lacking (course_of script report who first last) (end_of script report who first last raw lines) → ⊥)
   pub left_is : left ≡ (end_of script report who first last raw lines).raw
+
+-- the same of a raise, by its answer
+pub record IsRaiseJudged (script : Script) (report : Report) (who : Who) (how : Arrival) (raw left : Option Event) (lines : List EventLine) (faults : Faults) : Type 0 where
+  pub scanned : IsScanned (λ (number : ℕ) (line : EventLine). MatchBool (is_raised (answer_of report who) lines) (IsRaisedLine script report who how raw number line) ⊥) lines faults.wrong
+  pub lacks :
+      MatchBool faults.lacks (length lines < cond (is_raised (answer_of report who) lines) (from_bool (is_some raw)) 0)
+      (length lines < cond (is_raised (answer_of report who) lines) (from_bool (is_some raw)) 0 → ⊥)
+  pub left_is : left ≡ cond (is_raised (answer_of report who) lines) None raw
 
 -- the table has the lowest lines that earlier commands of the processor marked
 abbrev pub IsTable : Script → Who → List ℕ → Type 0

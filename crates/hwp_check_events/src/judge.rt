@@ -1,22 +1,22 @@
-ghost use Rattle.std.specs.Prelude.{◌≡◌, ◌≤◌, ◌+◌, ◌<◌, ◌^◌, true, false, cond, is_some, length};
-ghost use Rattle.hwp_law.specs.hwp_law_commands.Commands.{arrival_of, is_check};
+ghost use Rattle.std.specs.Prelude.{◌≡◌, ◌≤◌, true, false, cond, is_some};
+ghost use Rattle.hwp_law.specs.hwp_law_commands.Commands.{arrival_of};
 ghost use Rattle.hwp_banks.specs.declared.Origin.TheVariants.{Access};
 ghost use Rattle.hwp_law.specs.Events.{access_lines};
 ghost use Rattle.hwp_law.specs.Lines.{answer_of};
-ghost use Rattle.hwp_law.specs.Pairings.{entries_of};
 ghost use Rattle.hwp_check_scrub.specs.hwp_check_event_line.Firsts.{IsScanned, shown_lines};
 ghost use Rattle.hwp_check_scrub.specs.hwp_check_event_line.Found.{of_access};
 ghost use Rattle.hwp_check_acting.specs.ActedOn.{copies_in};
 ghost use Rattle.hwp_check_events.specs.Copied.{copied_by};
-ghost use Rattle.hwp_check_events.specs.Judged.{IsAccessJudged, IsJudged, IsScrubJudged, IsTable};
-ghost use Rattle.hwp_check_events.specs.Misfits.{IsFit, is_scrubbed, logged_if};
+ghost use Rattle.hwp_check_events.specs.Judged.{IsAccessJudged, IsJudged, IsRaiseJudged, IsScrubJudged, IsTable};
+ghost use Rattle.hwp_check_events.specs.Misfits.{is_scrubbed, logged_if};
 
+use crate::case::Case;
 use crate::faults::{access_faults, any, raise_faults};
-use crate::known::{Checks, Known};
+use crate::known::Checks;
 use hwp_banks::{Bank, Event, Origin, Status};
 use hwp_check_acting::copy_of;
-use hwp_check_scrub::{Faults, Shown, Traced, scrub_faults};
-use hwp_law::{Answer, Arrival, Command, Frame, Line, List, McgBits, Mode, Script, VSlot, Who};
+use hwp_check_scrub::{Faults, Shown, scrub_faults};
+use hwp_law::{Answer, Arrival, Command, Frame, Line, McgBits, Mode};
 
 /// How the machine checks of a command arrive.
 fn arrival_of(command: &Command) -> Arrival
@@ -69,173 +69,126 @@ fn none_asked(lines: &[Shown]) -> Faults
 }
 
 /// What is wrong about the lines of an access, by what the report says of it.
-fn judge_access(
-    script: &Script,
-    report: &Traced<'_>,
-    who: Who,
-    how: Arrival,
-    origin: Origin,
-    at: Line,
-    known: &Known,
-    raw: &mut Bank,
-    lines: &[Shown],
-) -> Faults
+fn judge_access(case: &Case<'_>, origin: Origin, at: Line, raw: &mut Bank) -> Faults
     requires access { of_access origin ≡ true }
-    requires frames { length report.now.frames ≤ 65536 }
-    requires few { known.now.checks + 1 < 2 ^ 64 }
-    requires checks { known.now.checks ≡ entries_of report.now who is_check }
-    ensures { IsAccessJudged script.now report.now who how origin (access_lines report.now who at) raw.old raw.new (shown_lines lines.now) result }
+    ensures { IsAccessJudged case.now.script case.now.report case.now.who (arrival_of case.now.command) origin (access_lines case.now.report case.now.who at) raw.old raw.new (shown_lines case.now.lines) result }
 {
-    let checks = checks_of(origin, at, known.checks);
-    access_faults(script, report, who, how, &checks, &[], raw, lines)
+    let how = arrival_of(case.command);
+    let checks = checks_of(origin, at, case.known.checks);
+    access_faults(
+        case.script,
+        case.report,
+        case.who,
+        how,
+        &checks,
+        &[],
+        raw,
+        case.lines,
+    )
 }
 
-/// What is wrong about the lines of a store that copied a page, and met machine checks at these lines.
-fn judge_copy(
-    script: &Script,
-    report: &Traced<'_>,
-    who: Who,
-    how: Arrival,
-    at: Line,
-    copied: &[Line],
-    raw: &mut Bank,
-    lines: &[Shown],
-) -> Faults
-    requires frames { length report.now.frames ≤ 65536 }
-    ensures { IsAccessJudged script.now report.now who how Access copied.now raw.old raw.new (shown_lines lines.now) result }
+/// What is wrong about the lines of a store that copied a page, and met machine checks there.
+fn judge_copy(case: &Case<'_>, at: Line, raw: &mut Bank) -> Faults
+    ensures { IsAccessJudged case.now.script case.now.report case.now.who (arrival_of case.now.command) Access (copied_by case.now.script.layout (copies_in case.now.copies) case.now.report case.now.who case.now.command) raw.old raw.new (shown_lines case.now.lines) result }
 {
-    let checks = checks_of(Origin::Access, at, copied.len() as u64);
-    access_faults(script, report, who, how, &checks, copied, raw, lines)
+    let how = arrival_of(case.command);
+    let checks = checks_of(Origin::Access, at, case.copied.len() as u64);
+    access_faults(
+        case.script,
+        case.report,
+        case.who,
+        how,
+        &checks,
+        case.copied,
+        raw,
+        case.lines,
+    )
 }
 
-/// What is wrong about the lines of a store, which met machine checks at these lines where it copied a page.
-fn judge_store(
-    script: &Script,
-    copies: &[List<Option<VSlot>>],
-    report: &Traced<'_>,
-    who: Who,
-    how: Arrival,
-    at: Line,
-    known: &Known,
-    copied: &[Line],
-    raw: &mut Bank,
-    lines: &[Shown],
-) -> Faults
-    requires frames { length report.now.frames ≤ 65536 }
-    requires few { known.now.checks + 1 < 2 ^ 64 }
-    requires checks { known.now.checks ≡ entries_of report.now who is_check }
-    ensures { IsAccessJudged script.now report.now who how Access (cond (is_some (copies_in copies.now who)) copied.now (access_lines report.now who at)) raw.old raw.new (shown_lines lines.now) result }
+/// Whether the command copied a page.
+fn has_copied(case: &Case<'_>) -> bool
+    ensures { result ≡ is_some (copies_in case.now.copies case.now.who) }
 {
-    match copy_of(copies, who) {
-        Some(_) => judge_copy(script, report, who, how, at, copied, raw, lines),
-        None => {
-            judge_access(
-                script,
-                report,
-                who,
-                how,
-                Origin::Access,
-                at,
-                known,
-                raw,
-                lines,
-            )
-        }
+    copy_of(case.copies, case.who).is_some()
+}
+
+/// What is wrong about the lines of a store, which met machine checks in the page that it copied, if it copied one.
+fn judge_store(case: &Case<'_>, at: Line, raw: &mut Bank) -> Faults
+    ensures { IsAccessJudged case.now.script case.now.report case.now.who (arrival_of case.now.command) Access (cond (is_some (copies_in case.now.copies case.now.who)) (copied_by case.now.script.layout (copies_in case.now.copies) case.now.report case.now.who case.now.command) (access_lines case.now.report case.now.who at)) raw.old raw.new (shown_lines case.now.lines) result }
+{
+    if has_copied(case) {
+        judge_copy(case, at, raw)
+    } else {
+        judge_access(case, Origin::Access, at, raw)
     }
 }
 
 /// What is wrong about the lines of a scrub, by what the report says of it.
-fn judge_scrub(
-    script: &Script,
-    report: &Traced<'_>,
-    who: Who,
-    how: Arrival,
-    first: Frame,
-    last: Frame,
-    known: &Known,
-    table: &[u8],
-    raw: &mut Bank,
-    lines: &[Shown],
-) -> Faults
-    requires answer { known.now.answer ≡ answer_of report.now who }
-    requires table { IsTable script.now who table.now }
+fn judge_scrub(case: &Case<'_>, first: Frame, last: Frame, table: &[u8], raw: &mut Bank) -> Faults
+    requires table { IsTable case.now.script case.now.who table.now }
     requires fit { first.0 ≤ last.0 }
-    ensures { IsScrubJudged script.now report.now who how first last raw.old raw.new (shown_lines lines.now) result }
+    ensures { IsScrubJudged case.now.script case.now.report case.now.who (arrival_of case.now.command) first last raw.old raw.new (shown_lines case.now.lines) result }
 {
-    let whole = is_scrubbed(known.answer);
+    let how = arrival_of(case.command);
+    let whole = is_scrubbed(case.known.answer);
     scrub_faults(
-        script, report, who, how, table, whole, first, last, raw, lines,
+        case.script,
+        case.report,
+        case.who,
+        how,
+        table,
+        whole,
+        first,
+        last,
+        raw,
+        case.lines,
     )
 }
 
-/// What is wrong about the event lines of a command, where bank 1 holds this; bank 1 is left as the command leaves it.
-pub(crate) fn command_faults(
-    script: &Script,
-    copies: &[List<Option<VSlot>>],
-    report: &Traced<'_>,
-    who: Who,
-    command: &Command,
-    known: &Known,
-    copied: &[Line],
-    table: &[u8],
-    raw: &mut Bank,
-    lines: &[Shown],
-) -> Faults
-    requires frames { length report.now.frames ≤ 65536 }
-    requires few { known.now.checks + 1 < 2 ^ 64 }
-    requires checks { known.now.checks ≡ entries_of report.now who is_check }
-    requires answer { known.now.answer ≡ answer_of report.now who }
-    requires table { IsTable script.now who table.now }
-    requires fit { IsFit command.now }
-    requires copied { copied.now ≡ copied_by script.now.layout (copies_in copies.now) report.now who command.now }
-    ensures { IsJudged script.now (copies_in copies.now) report.now who command.now raw.old raw.new (shown_lines lines.now) result }
+/// What is wrong about the lines of a raise, by its answer.
+fn judge_raise(case: &Case<'_>, raw: &mut Bank) -> Faults
+    ensures { IsRaiseJudged case.now.script case.now.report case.now.who (arrival_of case.now.command) raw.old raw.new (shown_lines case.now.lines) result }
 {
-    let how = arrival_of(command);
-    match *command {
+    let how = arrival_of(case.command);
+    let answer = case.known.answer;
+    raise_faults(
+        case.script,
+        case.report,
+        case.who,
+        how,
+        answer,
+        raw,
+        case.lines,
+    )
+}
+
+/// What is wrong about the lines of a command that logs an event, which has none. The event is in the bank where the command was done.
+fn judge_log(case: &Case<'_>, event: Event, raw: &mut Bank) -> Faults
+    ensures scanned { IsScanned (λ number line. ⊥) (shown_lines case.now.lines) result.wrong }
+    ensures lacks { result.lacks ≡ false }
+    ensures left { raw.new ≡ logged_if (answer_of case.now.report case.now.who) event raw.old }
+{
+    log_if_done(case.known.answer, event, raw);
+    none_asked(case.lines)
+}
+
+/// What is wrong about the event lines of a command, where bank 1 holds this; bank 1 is left as the command leaves it.
+pub(crate) fn command_faults(case: &Case<'_>, table: &[u8], raw: &mut Bank) -> Faults
+    requires table { IsTable case.now.script case.now.who table.now }
+    ensures { IsJudged case.now.script (copies_in case.now.copies) case.now.report case.now.who case.now.command raw.old raw.new (shown_lines case.now.lines) result }
+{
+    match *case.command() {
         Command::Load { line, .. } | Command::KLoad { line, .. } => {
-            judge_access(
-                script,
-                report,
-                who,
-                how,
-                Origin::Access,
-                line,
-                known,
-                raw,
-                lines,
-            )
+            judge_access(case, Origin::Access, line, raw)
         }
-        Command::Store { line, .. } => {
-            judge_store(
-                script, copies, report, who, how, line, known, copied, raw, lines,
-            )
-        }
-        Command::Fetch { line, .. } => {
-            judge_access(
-                script,
-                report,
-                who,
-                how,
-                Origin::Fetch,
-                line,
-                known,
-                raw,
-                lines,
-            )
-        }
-        Command::Scrub { first, last } => {
-            judge_scrub(
-                script, report, who, how, first, last, known, table, raw, lines,
-            )
-        }
-        Command::RaiseUser { .. } | Command::RaiseKernel { .. } => {
-            raise_faults(script, report, who, how, known.answer, raw, lines)
-        }
+        Command::Store { line, .. } => judge_store(case, line, raw),
+        Command::Fetch { line, .. } => judge_access(case, Origin::Fetch, line, raw),
+        Command::Scrub { first, last } => judge_scrub(case, first, last, table, raw),
+        Command::RaiseUser { .. } | Command::RaiseKernel { .. } => judge_raise(case, raw),
         Command::Log { status, addr, misc } => {
             let status = Status(status);
-            log_if_done(known.answer, Event { status, addr, misc }, raw);
-            none_asked(lines)
+            judge_log(case, Event { status, addr, misc }, raw)
         }
-        _ => none_asked(lines),
+        _ => none_asked(case.lines()),
     }
 }

@@ -3,10 +3,12 @@
 #![tactic(auto)]
 
 mod accesses;
+mod case;
 mod checks;
 mod copied;
 mod faults;
 mod index;
+mod indexed;
 mod judge;
 mod known;
 mod misfits;

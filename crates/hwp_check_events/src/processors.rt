@@ -1,17 +1,15 @@
-ghost use Rattle.std.specs.Prelude.{◌≡◌, ◌≤◌, ◌<◌, ◌+◌, ◌*◌, ◌^◌, [], Some, length, slice_get, sum_by, unwrap_or, All, IfOk};
+ghost use Rattle.std.specs.Prelude.{◌≡◌, ◌≤◌, ◌<◌, ◌+◌, ◌*◌, ◌^◌, [], Some, length, slice_get, sum_by, All, IfOk};
 ghost use Rattle.hwp_law.specs.hwp_report_text.declared.FrameLine.{FrameLine};
 ghost use Rattle.hwp_check_acting.specs.ActedOn.{copies_in};
 ghost use Rattle.hwp_check_acting.specs.Scripts.{IsDeclared};
 ghost use Rattle.hwp_check_events.specs.Indexed.{all_checkers};
-ghost use Rattle.hwp_check_events.specs.Walked.{IsProcessorJudged};
+ghost use Rattle.hwp_check_events.specs.Walked.{IsProcessorJudged, IsTableOf};
 
-use crate::checks::checks_by_command;
-use crate::copied::copied_of;
-use crate::index::{answers_by_command, events_by_command};
+use crate::indexed::IndexedProcessor;
 use crate::misfits::Misfits;
 use crate::walk::walk;
 use hwp_check_scrub::{Traced, past_of, results_of};
-use hwp_law::{Command, Cpu, CpuLine, List, OutOfMemory, Report, Script, VSlot, Who};
+use hwp_law::{Command, Cpu, List, OutOfMemory, Report, Script, VSlot, Who};
 use std::alloc::Global;
 
 /// A mask has 64 bits.
@@ -31,14 +29,13 @@ pub fn small_masks(report: &Report)
     }
 }
 
-/// The lines of a processor.
-fn rows_on(report: &Report, cpu: Cpu) -> &[CpuLine]
-    ensures { result.now ≡ unwrap_or (slice_get report.now.cpus cpu.0) [] }
+/// The table of marked lines before any command: two places for each frame, with no line.
+fn empty_table(alloc: Global, frames: u16) -> Result<Vec<u8>, OutOfMemory>
+    ensures { IfOk result (λ table. (length table.items ≡ 2 * frames) × IsTableOf [] table.items) }
 {
-    match report.cpus.as_slice().get(usize::from(cpu.0)) {
-        Some(rows) => rows.as_slice(),
-        None => &[],
-    }
+    let mut table = Vec::new(alloc);
+    table.resize(2 * usize::from(frames), 64)?;
+    Ok(table)
 }
 
 /// What is wrong about the event lines of a processor with these commands, by the machine checks that the histories show.
@@ -59,29 +56,10 @@ pub fn processor_faults(
     ensures { IfOk result (λ found. IsProcessorJudged script.now (copies_in copies.now) report.now cpu commands.now found) }
 {
     small_masks(report);
-    let rows = rows_on(report, cpu);
-    let count = commands.len();
-    let lists = events_by_command(alloc, count, rows)?;
-    let answers = answers_by_command(alloc, count, rows)?;
-    let checks = checks_by_command(alloc, count, cpu, report.pages.as_slice(), checkers)?;
-    let layout = &script.layout;
-    let copied = copied_of(alloc, layout, copies, report, cpu, commands)?;
-    let mut table = Vec::new(alloc);
-    table.resize(2 * usize::from(layout.frames), 64)?;
     let past = past_of(alloc, cpu, report.frames.as_slice())?;
     let results = results_of(alloc, cpu, report.frames.as_slice())?;
     let traced = Traced::new(cpu, report, &past, &results);
-    Ok(walk(
-        script,
-        copies,
-        &traced,
-        cpu,
-        commands,
-        rows,
-        lists.as_slice(),
-        answers.as_slice(),
-        checks.as_slice(),
-        copied.as_slice(),
-        &mut table,
-    ))
+    let processor = IndexedProcessor::new(alloc, script, copies, &traced, cpu, commands, checkers)?;
+    let mut table = empty_table(alloc, script.layout.frames)?;
+    Ok(walk(&processor, &mut table))
 }

@@ -1,18 +1,14 @@
-ghost use Rattle.std.specs.Prelude.{◌≡◌, ◌≤◌, ◌<◌, ◌+◌, ◌*◌, ◌^◌, [], Some, length, slice_get, sum_by, unwrap_or};
+ghost use Rattle.std.specs.Prelude.{◌≡◌, ◌*◌, [], length};
 ghost use Rattle.hwp_check_acting.specs.ActedOn.{copies_in};
-ghost use Rattle.hwp_check_acting.specs.Scripts.{IsDeclared};
-ghost use Rattle.hwp_check_events.specs.Copied.{AreCopied};
-ghost use Rattle.hwp_check_events.specs.Indexed.{AreChecks, AreFirst, AreShown};
+ghost use Rattle.hwp_check_events.specs.Cases.{rows_in};
 ghost use Rattle.hwp_check_events.specs.Walked.{IsTableOf, IsWalked, joined, place_at, sooner};
 
-use crate::copied::list_at;
+use crate::indexed::IndexedProcessor;
 use crate::judge::command_faults;
-use crate::known::Known;
 use crate::misfits::Misfits;
 use crate::tables::mark;
 use hwp_banks::Bank;
-use hwp_check_scrub::{Faults, Shown, Traced};
-use hwp_law::{Answer, Command, Cpu, CpuLine, Line, List, Script, VSlot, Who};
+use hwp_check_scrub::{Faults, Shown};
 
 /// The lower of a row that was found so far, if one was, and one more.
 fn sooner(found: Option<usize>, place: usize) -> Option<usize>
@@ -48,64 +44,22 @@ fn join(found: Misfits, faults: Faults, lines: &[Shown]) -> Misfits
     }
 }
 
-/// What is wrong about the event lines of a processor, by its index: the event lines of each command, its first answer and its
-/// machine checks. The table of marked lines is filled.
-pub(crate) fn walk(
-    script: &Script,
-    copies: &[List<Option<VSlot>>],
-    report: &Traced<'_>,
-    cpu: Cpu,
-    commands: &[Command],
-    rows: &[CpuLine],
-    lists: &[List<Shown>],
-    answers: &[Option<Answer>],
-    checks: &[u64],
-    copied: &[List<Line>],
-    table: &mut Vec<u8>,
-) -> Misfits
-    requires valid { IsDeclared script.now }
-    requires frames { length report.now.frames ≤ 65536 }
-    requires room { sum_by length report.now.pages + 1 < 2 ^ 64 }
-    requires of_script { slice_get script.now.lists cpu.0 ≡ Some commands.now }
-    requires of_report { rows.now ≡ unwrap_or (slice_get report.now.cpus cpu.0) [] }
-    requires lists { AreShown rows.now (length commands.now) lists.now }
-    requires answers { AreFirst rows.now (length commands.now) answers.now }
-    requires checks { AreChecks cpu (length commands.now) report.now.pages checks.now }
-    requires copied { AreCopied script.now.layout (copies_in copies.now) report.now cpu commands.now (length commands.now) copied.now }
-    requires size { length table.old.items ≡ 2 * script.now.layout.frames }
+/// What is wrong about the event lines of a processor. The table of marked lines is filled.
+pub(crate) fn walk(processor: &IndexedProcessor<'_>, table: &mut Vec<u8>) -> Misfits
+    requires size { length table.old.items ≡ 2 * processor.now.script.layout.frames }
     requires empty { IsTableOf [] table.old.items }
-    ensures { IsWalked script.now (copies_in copies.now) report.now cpu commands.now rows.now (length commands.now) result }
+    ensures { IsWalked processor.now.script (copies_in processor.now.copies) processor.now.report processor.now.cpu processor.now.commands (rows_in processor.now.report processor.now.cpu) (length processor.now.commands) result }
 {
     let mut raw = Bank::new();
     let mut found = Misfits {
         lacks: false,
         wrong: None,
     };
-    for number in 0..commands.len() {
-        let who = Who {
-            cpu,
-            seq: number as u32,
-        };
-        let known = Known {
-            checks: checks[number],
-            answer: answers[number],
-        };
-        let command = &commands[number];
-        let lines = lists[number].as_slice();
-        let faults = command_faults(
-            script,
-            copies,
-            report,
-            who,
-            command,
-            &known,
-            list_at(copied, number),
-            table.as_slice(),
-            &mut raw,
-            lines,
-        );
-        found = join(found, faults, lines);
-        mark(table, command);
+    for number in 0..processor.count() {
+        let case = processor.case(number);
+        let faults = command_faults(&case, table.as_slice(), &mut raw);
+        found = join(found, faults, case.lines());
+        mark(table, case.command());
     }
     found
 }

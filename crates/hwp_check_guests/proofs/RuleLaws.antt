@@ -5,7 +5,7 @@ use Rattle.std.proofs.lemmas.Bool.{cases_lt, or_parts}
 use Rattle.std.proofs.lemmas.List.{take-take}
 use Rattle.std.proofs.lemmas.List.Sums.{sum_by-take-le, sum_by_more}
 use Rattle.std.proofs.lemmas.Option.{get_or_from_slice_get, none-some, same_Some, slice_get-get_or, slice_get_within, unwrap_or-slice_get}
-use Rattle.hwp_check_rules.specs.hwp_geom.Layout.{is_guest}
+use Rattle.hwp_check_rules.specs.hwp_geom.Layout.{has_guests, is_guest}
 use Rattle.hwp_check_rules.specs.hwp_geom.declared.Cpu.{Cpu}
 use Rattle.hwp_check_rules.specs.hwp_geom.declared.Layout.{Layout}
 use Rattle.hwp_check_rules.specs.hwp_geom.declared.Proc.{Proc}
@@ -28,7 +28,6 @@ use Rattle.hwp_check_rules.specs.Standing.{cpu_height, cpu_line, last_line, row_
 use Rattle.hwp_check_rules.specs.hwp_guest.declared.Admit.{Admit}
 use Rattle.hwp_check_rules.specs.hwp_guest.declared.Admit.TheVariants as admissions
 use Rattle.hwp_check_rules.specs.hwp_guest.GuestState.{admitted}
-use Rattle.hwp_check_guests.specs.Accesses.{has_guests}
 use Rattle.hwp_check_guests.specs.Admission.{AreAdmissions}
 use Rattle.hwp_check_guests.specs.Busy.{busy_by, guests_by}
 use Rattle.hwp_check_guests.specs.Judging.{AreEnough, AreRight, HasNoFault, HasNoFaultOn, IsFirstIn, IsFirstLacking, IsFirstOn, IsFirstWrong, IsKnown, IsMisadmittedBy, IsWrongBy}

@@ -1,6 +1,5 @@
 -- Accesses by threads of guests.
-use Rattle.std.specs.Prelude.{ℕ, Bool, Option, Some, None, option_and_then, if◌then◌else◌}
-use Rattle.std.specs.List.{list_any}
+use Rattle.std.specs.Prelude.{ℕ, Option, Some, None, option_and_then, if◌then◌else◌}
 use Rattle.hwp_check_rules.specs.hwp_guest.declared.Access.{Access}
 use Rattle.hwp_check_rules.specs.hwp_geom.Layout.{is_guest}
 use Rattle.hwp_check_rules.specs.hwp_geom.declared.Layout.{Layout}
@@ -21,7 +20,3 @@ abbrev pub access_by : Layout → Thread → VSlot → ℕ → Access → Mode �
 access_by layout thread slot line kind mode =
     option_and_then (λ (process : Proc). if is_guest layout process then Some (record { process = process; slot = slot; line = line; kind = kind; mode = mode }) else None)
     (process_of_thread layout thread)
-
--- a process is a guest
-abbrev pub has_guests : Layout → Bool
-has_guests layout = list_any (λ (guest : Bool). guest) layout.guests

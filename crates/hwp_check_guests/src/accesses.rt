@@ -1,6 +1,6 @@
 ghost use Rattle.std.specs.Prelude.{◌≡◌, option_map};
 ghost use Rattle.hwp_check_rules.specs.hwp_law_commands.Guests.{guest_access};
-ghost use Rattle.hwp_check_guests.specs.Accesses.{access_by, access_in, has_guests};
+ghost use Rattle.hwp_check_guests.specs.Accesses.{access_by, access_in};
 
 use hwp_check_rules::{Access, Command, Layout, Line, Mode, Proc, Thread, VSlot};
 
@@ -12,13 +12,6 @@ pub struct GuestAccess {
     pub line: Line,
     pub kind: Access,
     pub mode: Mode,
-}
-
-/// Whether a process is a guest.
-pub(crate) fn has_guests(layout: &Layout) -> bool
-    ensures { result ≡ has_guests layout.now }
-{
-    layout.guests.as_slice().iter().any(|guest| *guest)
 }
 
 /// The access of a thread through this translation, where the thread is one of a guest.

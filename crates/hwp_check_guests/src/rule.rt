@@ -1,12 +1,11 @@
 ghost use Rattle.std.specs.Prelude.{◌≡◌, ℕ, ◌<◌, ◌^◌, false, Some, IfOk, IsOk, MatchOption, length, slice_get};
 ghost use Rattle.hwp_check_rules.specs.hwp_check_acting.Scripts.{IsDeclared};
+ghost use Rattle.hwp_check_rules.specs.hwp_geom.Layout.{has_guests};
 ghost use Rattle.hwp_check_rules.specs.Firsts.{IsLeast};
 ghost use Rattle.hwp_check_rules.specs.GuestFaults.{IsGuestFault};
 ghost use Rattle.hwp_check_rules.specs.Standing.{last_line, row_line};
-ghost use Rattle.hwp_check_guests.specs.Accesses.{has_guests};
 ghost use Rattle.hwp_check_guests.specs.Judging.{HasNoFaultOn, IsFirstOn, IsKnown};
 
-use crate::accesses::has_guests;
 use crate::admission::admissions;
 use crate::busy::{busy, with_guests};
 use crate::judging::{first_lacking, first_wrong};
@@ -38,7 +37,7 @@ fn known_of(
     ensures known { IfOk result (λ known. IsKnown layout.now report.now cpu commands.now rows.now known.admits.items known.flags.items known.told.items) }
     ensures unguested { has_guests layout.now ≡ false → IsOk result }
 {
-    if !has_guests(layout) {
+    if !layout.has_guests() {
         return Ok(Known {
             admits: Vec::new(alloc),
             flags: Vec::new(alloc),

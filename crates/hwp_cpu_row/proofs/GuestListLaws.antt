@@ -9,7 +9,7 @@ use Rattle.std.proofs.lemmas.Bool.{cases_eq, eq-eqb, ne_eqb}
 use Rattle.std.proofs.lemmas.List.{get_or_past, get_or-set_other, get_or-set_same, length-replicate, length-set}
 use Rattle.std.proofs.lemmas.List.Sums.{fold-append}
 use Rattle.std.proofs.lemmas.Option.{none-some, same_Some, slice_get_within}
-use Rattle.hwp_cpu_check.specs.hwp_geom.Layout.{is_guest}
+use Rattle.hwp_cpu_check.specs.hwp_geom.Layout.{has_guests, is_guest}
 use Rattle.hwp_cpu_check.specs.hwp_geom.declared.Layout.{Layout}
 use Rattle.hwp_cpu_check.specs.hwp_geom.Limits.{translation_limit}
 use Rattle.hwp_cpu_check.specs.hwp_geom.declared.Proc.{Proc}
@@ -28,7 +28,7 @@ use Rattle.hwp_cpu_check.specs.hwp_guest.GuestState.{GuestState, admitted, after
 use Rattle.hwp_cpu_check.specs.hwp_law_commands.Commands as access
 use Rattle.hwp_cpu_check.specs.hwp_law_commands.Commands.{access_of, arrival_of, process_of_thread}
 use Rattle.hwp_cpu_check.specs.hwp_law_commands.Guests.{GuestAccess, denial, denied, guest_access, guest_after, guest_met, guest_of, kind_of, new_guest}
-use Rattle.hwp_cpu_row.specs.GuestLists.{AreGuestsOf, KnowsGuests, MayMeet, MayTell, admission_in, first_guests, guest_in, has_guests, met_in, told_in}
+use Rattle.hwp_cpu_row.specs.GuestLists.{AreGuestsOf, KnowsGuests, MayMeet, MayTell, admission_in, first_guests, guest_in, met_in, told_in}
 
 -- ---- at first
 

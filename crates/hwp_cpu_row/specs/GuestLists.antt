@@ -1,9 +1,8 @@
 -- What a processor remembers of guests: a list that says of each process what it is as a guest. What it makes of a command is what
 -- hwp_law_commands/specs/Guests says, with the list for the earlier commands and their answers.
-use Rattle.std.specs.Prelude.{◌≡◌, ℕ, ◌<◌, Bool, true, List, [], length, replicate, get_or, slice_set, Option, None, Some, option_and_then, option_map, if◌then◌else◌}
-use Rattle.std.specs.List.{list_any}
+use Rattle.std.specs.Prelude.{◌≡◌, ℕ, ◌<◌, true, List, [], length, replicate, get_or, slice_set, Option, None, Some, option_and_then, option_map, if◌then◌else◌}
 use Rattle.std.specs.Option.{option_map_or}
-use Rattle.hwp_cpu_check.specs.hwp_geom.Layout.{is_guest}
+use Rattle.hwp_cpu_check.specs.hwp_geom.Layout.{has_guests, is_guest}
 use Rattle.hwp_cpu_check.specs.hwp_geom.Limits.{translation_limit}
 use Rattle.hwp_cpu_check.specs.hwp_geom.declared.Layout.{Layout}
 use Rattle.hwp_cpu_check.specs.hwp_geom.declared.Mode.{Mode}
@@ -34,9 +33,6 @@ abbrev pub KnowsGuests : Layout → List (Command × Answer) → List GuestState
 KnowsGuests layout earlier guests = (process : Proc) → is_guest layout process ≡ true → guest_in guests process ≡ guest_of layout earlier process
 
 -- at first no guest has a bad frame; where no process is a guest the list is empty, and stays so
-abbrev pub has_guests : Layout → Bool
-has_guests layout = list_any (λ (guest : Bool). guest) layout.guests
-
 abbrev pub first_guests : Layout → List GuestState
 first_guests layout = if has_guests layout then replicate layout.procs new_guest else []
 
@@ -56,17 +52,17 @@ access_by layout thread slot line kind mode =
 abbrev pub admission_in : Layout → List GuestState → Command → Admit
 admission_in layout guests command = option_map_or (λ (a : GuestAccess). admitted (guest_in guests a.process) a.slot.0) (guest_access layout command) admissions.Yes
 
--- a guest meets a bad line by this access: the list holds it, it admits the access, and the guest frame is one that there can be
+-- a guest can be told of this access: the list holds it, it admits the access, and the guest frame is one that there can be
 pub record CanMeet (guests : List GuestState) (a : GuestAccess) : Type 0 where
   pub there : a.process.0 < length guests
   pub admitted_is : admitted (guest_in guests a.process) a.slot.0 ≡ admissions.Yes
   pub within : a.slot.0 < translation_limit
 
--- the command's access, if it is one of a guest, can meet a bad line
+-- the guest can be told of the command's access, if it is one of a guest
 abbrev pub MayMeet : Layout → List GuestState → Command → Type 0
 MayMeet layout guests command = (a : GuestAccess) → guest_access layout command ≡ Some a → CanMeet guests a
 
--- only one that is answered by SIGBUS met one
+-- the guest is told only of one that is answered by SIGBUS
 abbrev pub MayTell : Layout → List GuestState → Command → Answer → Type 0
 MayTell layout guests command (answers.Sigbus at) = MayMeet layout guests command
 MayTell layout guests command answer = Unit {0}
@@ -74,7 +70,7 @@ MayTell layout guests command answer = Unit {0}
 abbrev pub met_in : List GuestState → GuestAccess → List GuestState
 met_in guests a = slice_set guests a.process.0 (after a.mode a.slot.0 (guest_in guests a.process))
 
--- the list after the command was answered so: an access of a guest that was answered by SIGBUS had met a bad line
+-- the list after the command was answered so: an access of a guest that was answered by SIGBUS is a machine check of the guest
 abbrev pub told_in : Layout → Command → Answer → List GuestState → List GuestState
 told_in layout command (answers.Sigbus at) guests = option_map_or (met_in guests) (guest_access layout command) guests
 told_in layout command answer guests = guests

@@ -1,7 +1,8 @@
 ghost use Rattle.std.specs.Prelude.{◌≡◌, false, None, Some, replicate, IfOk, IsOk};
 ghost use Rattle.hwp_cpu_check.specs.hwp_guest.GuestState.{admitted};
 ghost use Rattle.hwp_cpu_check.specs.hwp_law_commands.Guests.{guest_access, guest_line, new_guest, stops};
-ghost use Rattle.hwp_cpu_row.specs.GuestLists.{CanMeet, MayTell, access_by, admission_in, first_guests, guest_in, has_guests, line_in, met_in, told_in};
+ghost use Rattle.hwp_cpu_check.specs.hwp_geom.Layout.{has_guests};
+ghost use Rattle.hwp_cpu_row.specs.GuestLists.{CanMeet, MayTell, access_by, admission_in, first_guests, guest_in, line_in, met_in, told_in};
 
 use hwp_cpu_check::{
     Access, Admit, Answer, Command, Guest, GuestLine, Layout, Line, Mode, OutOfMemory, Proc, Taken,
@@ -57,7 +58,7 @@ impl Guests {
         ensures first { IfOk result (λ g. g ≡ first_guests layout.now) }
         ensures unguested { has_guests layout.now ≡ false → IsOk result }
     {
-        if !has_guests(layout) {
+        if !layout.has_guests() {
             return Ok(Guests {
                 guests: Vec::new(alloc),
             });
@@ -109,7 +110,7 @@ impl Guests {
         Some(self.meet(seq, access))
     }
 
-    /// A guest meets a bad line by this access.
+    /// A guest's machine check for this access, which was answered by SIGBUS.
     fn meet(&mut self, seq: u32, access: GuestAccess) -> GuestLine
         requires { CanMeet self.old access }
         ensures line { result ≡ guest_line seq access }
@@ -138,13 +139,6 @@ fn new_guests(alloc: Global, procs: u8) -> Result<Vec<Guest>, OutOfMemory>
         guests.push(Guest::new())?;
     }
     Ok(guests)
-}
-
-/// Whether a process is a guest.
-fn has_guests(layout: &Layout) -> bool
-    ensures { result ≡ has_guests layout.now }
-{
-    layout.guests.as_slice().iter().any(|guest| *guest)
 }
 
 /// Whether a machine check stopped the guest.

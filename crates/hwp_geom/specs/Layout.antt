@@ -58,6 +58,10 @@ is_locked layout page = get_or layout.locked page.0 false
 abbrev pub is_guest : Layout → Proc → Bool
 is_guest layout process = get_or layout.guests process.0 false
 
+-- whether a process is a guest, whichever
+abbrev pub has_guests : Layout → Bool
+has_guests layout = list_any (λ (guest : Bool). guest) layout.guests
+
 -- the private twin of a translation, if it has one: behind a fork it stands for the translation, once that was stored through
 abbrev pub twin_of : Layout → VSlot → Option VSlot
 twin_of layout slot = get_or layout.twins slot.0 None

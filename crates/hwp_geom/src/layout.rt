@@ -1,5 +1,5 @@
 ghost use Rattle.std.specs.Prelude.{◌≡◌, IfOk};
-ghost use Rattle.hwp_geom.specs.Layout.{has_twin, is_guest, is_locked, is_slot, is_twin, twin_of};
+ghost use Rattle.hwp_geom.specs.Layout.{has_guests, has_twin, is_guest, is_locked, is_slot, is_twin, twin_of};
 ghost use Rattle.hwp_geom.specs.Limits.{cpu_limit, frame_limit, file_limit, process_limit, thread_limit, page_limit, translation_limit, command_limit};
 
 use crate::OutOfMemory;
@@ -123,6 +123,13 @@ impl Layout {
             Some(guest) => *guest,
             None => false,
         }
+    }
+
+    /// Whether a process is a guest, whichever.
+    pub fn has_guests(&self) -> bool
+        ensures { result ≡ has_guests self.now }
+    {
+        self.guests.as_slice().iter().any(|guest| *guest)
     }
 
     /// The private twin of a translation, if it has one.

@@ -21,7 +21,7 @@ state_code =
 abbrev pub admitted : GuestState → ℕ → Admit
 admitted g frame = if g.stopped then admissions.Stopped else if set.contains g.bad frame then admissions.Bad else admissions.Yes
 
--- the guest after an access to a guest frame that met a bad line: in user mode the frame is bad, in kernel mode the guest is stopped
+-- the guest after an access to a guest frame that was answered by SIGBUS: in user mode the frame is bad, in kernel mode the guest is stopped
 abbrev pub after : Mode → ℕ → GuestState → GuestState
 after User frame g = record g { bad = set.insert g.bad frame }
 after Kernel frame g = record g { stopped = true }

@@ -1,4 +1,4 @@
--- What a guest is told of a bad line that an access of it met, and what it makes of that. This project's rule.
+-- What a guest is told of an access that was answered by SIGBUS, and what it makes of that. This project's rule.
 use Rattle.std.specs.Prelude.{ℕ, true}
 use Rattle.hwp_kill.specs.hwp_geom.declared.Frame.{Frame}
 use Rattle.hwp_kill.specs.hwp_geom.declared.VSlot.{VSlot}

@@ -13,7 +13,7 @@ pub enum Access {
 }
 
 impl Access {
-    /// Whose event it brings about when it meets a bad line.
+    /// Whose event it brings about when it is answered by SIGBUS.
     pub fn origin(self) -> Origin
         ensures { result ≡ origin_of self }
     {
@@ -35,7 +35,7 @@ pub enum Admit {
     Stopped,
 }
 
-/// What a guest makes of a bad line.
+/// What a guest makes of an access that was answered by SIGBUS.
 #[derive(Clone, Copy, PartialEq, Eq)]
 pub enum Taken {
     /// Its guest frame is bad from now on.

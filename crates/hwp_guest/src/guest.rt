@@ -67,8 +67,8 @@ impl Guest {
         Admit::Yes
     }
 
-    /// The guest's machine check for an access that met a bad line. The event goes into the guest's bank and is graded, with RIPV and
-    /// EIPV set, by the severity table. In user mode it is row S9, required, and the frame is bad from then on. In kernel mode it is row
+    /// The guest's machine check for an access that was answered by SIGBUS. The event goes into the guest's bank and is graded, with RIPV
+    /// and EIPV set, by the severity table. In user mode it is row S9, required, and the frame is bad from then on. In kernel mode it is row
     /// S10, and the guest is stopped. Then the bank is empty again.
     pub fn take(
         &mut self,

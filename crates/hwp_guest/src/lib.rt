@@ -1,5 +1,5 @@
-//! A guest: processes that run on frames of their own, with a machine-check bank of their own. When an access of the guest meets a bad
-//! line, the guest has the error as an event of its bank, and goes on without the frame, or stops. All its rules are this project's own.
+//! A guest: processes that run on frames of their own, with a machine-check bank of their own. When an access of the guest is answered
+//! by SIGBUS, the guest has the error as an event of its bank, and goes on without the frame, or stops. All its rules are this project's own.
 #![tactic(auto)]
 
 mod access;

@@ -1,5 +1,5 @@
--- The accesses of guests: which answers say that one wasn't admitted, and which lines tell a guest of a bad line that one met. They are read of
--- the script's own commands, not of those that are acted on.
+-- The accesses of guests: which answers say that one wasn't admitted, and which lines tell a guest of one that was answered by SIGBUS. They are
+-- read of the script's own commands, not of those that are acted on.
 use Rattle.std.specs.Prelude.{◌≡◌, ◌≢◌, ◌⊎◌, List, [], Option, Some, None}
 use Rattle.hwp_law_commands.specs.hwp_geom.declared.Layout.{Layout}
 use Rattle.hwp_law_commands.specs.hwp_geom.declared.Who.{Who}
@@ -27,7 +27,7 @@ abbrev pub IsDenied : Report → Who → Option Answer → Type 0
 IsDenied report who (Some answer) = ((answer_of report who ≡ Some answer) ⊎ (answer_of report who ≡ Some answers.Stopped)) × DoesNothing report who
 IsDenied report who None = (answer_of report who ≢ Some answers.GuestBad) × (answer_of report who ≢ Some answers.GuestStopped)
 
--- each access of a guest is answered as the guest admits it, and the guest is told of each bad line that one met
+-- each access of a guest is answered as the guest admits it, and the guest is told of each that was answered by SIGBUS
 pub record AreGuestsKept (script : Script) (report : Report) : Type 0 where
   pub kept : (who : Who) (command : Command) → command_at script who ≡ Some command → IsDenied report who (denied script.layout (answered_before script report who) command)
   pub told : (who : Who) (command : Command) (answer : Answer) → command_at script who ≡ Some command → answer_of report who ≡ Some answer

@@ -1,6 +1,6 @@
--- What a guest is after some commands of its processor, which of its accesses it doesn't admit, and how it is told of a bad line that an access
--- of it met. The translation and the line are those that the script's command names, also where a page is copied first or a twin stands for
--- the translation. This project's rule.
+-- What a guest is after some commands of its processor, which of its accesses it doesn't admit, and how it is told of an access that was
+-- answered by SIGBUS. The translation and the line are those that the script's command names, also where a page is copied first or a twin
+-- stands for the translation. This project's rule.
 use Rattle.std.specs.Prelude.{ℕ, ◌==◌, Bool, true, false, List, [], Option, Some, None, fold, option_and_then, option_map, if◌then◌else◌}
 use Rattle.std.specs.List.{cons_option}
 use Rattle.std.specs.Option.{option_map_or}
@@ -53,11 +53,11 @@ guest_access layout command =
 abbrev pub new_guest : GuestState
 new_guest = record { bad = set.empty; stopped = false }
 
--- a guest after an access of its processor that met a bad line, if it is its own
+-- a guest after an access of its processor that was answered by SIGBUS, if it is its own
 abbrev pub guest_met : Proc → GuestState → GuestAccess → GuestState
 guest_met process guest a = if a.process.0 == process.0 then after a.mode a.slot.0 guest else guest
 
--- a guest after a command of its processor with this answer: an access of it that was answered by SIGBUS had met a bad line
+-- a guest after a command of its processor with this answer: an access of it that was answered by SIGBUS is its machine check
 abbrev pub guest_after : Layout → Proc → GuestState → Command → Answer → GuestState
 guest_after layout process guest command (answers.Sigbus at) = option_map_or (guest_met process guest) (guest_access layout command) guest
 guest_after layout process guest command answer = guest

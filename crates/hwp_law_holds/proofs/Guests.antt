@@ -25,7 +25,7 @@ use Rattle.hwp_law_records.specs.hwp_core_rule.declared.View.{View}
 use Rattle.hwp_law_records.specs.hwp_core_rule.Lists.{EachMember}
 use Rattle.hwp_law_records.specs.hwp_core_task.Boards.{Played, view_of}
 use Rattle.hwp_law_records.specs.hwp_core_task.Known.{HasMadeNone}
-use Rattle.hwp_law_records.specs.hwp_script_read.Guests.{is_apart, is_no_thread}
+use Rattle.hwp_law_records.specs.hwp_script_read.Guests.{is_apart, bars_guest}
 use Rattle.hwp_law_records.specs.hwp_script_read.Valid.{AreGuestsFit, IsValid}
 use Rattle.hwp_law_records.specs.hwp_script_read.declared.Command.{Command}
 use Rattle.hwp_law_records.specs.hwp_script_read.declared.Command.TheVariants as commands
@@ -91,7 +91,7 @@ module _ (layout : Layout) (fit : AreGuestsFit layout) (process : Proc) (guest :
       which : (o : Option ThreadDecl) → slice_get layout.threads thread.0 ≡ o → is_ended_by process o ≡ false
       which None there = refl
       which (Some t) there =
-          by t (t.process.0 == process.0) (list_any (is_apart process.0 t) layout.threads) (none-any (is_no_thread layout.threads process.0) layout.threads thread.0 t (fit.each process guest) there)
+          by t (t.process.0 == process.0) (list_any (is_apart process.0 t) layout.threads) (none-any (bars_guest layout.threads process.0) layout.threads thread.0 t (fit.each process guest) there)
           (λ none. none-any (is_apart process.0 t) layout.threads thread.0 t none there)
 
   unended : (what : What) → is_ending layout process what ≡ false

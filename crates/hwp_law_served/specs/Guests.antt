@@ -1,5 +1,5 @@
--- What the rows of a processor say of guests, by the commands of its list: which accesses weren't admitted, and which guests were told of a bad
--- line.
+-- What the rows of a processor say of guests, by the commands of its list: which accesses weren't admitted, and which guests were told of one
+-- that was answered by SIGBUS.
 use Rattle.std.specs.Prelude.{◌≡◌, ◌≢◌, ◌⊎◌, ℕ, List, [], Option, Some, None, map, option_to_list, slice_get, take}
 use Rattle.hwp_law_run.specs.hwp_geom.declared.Cpu.{Cpu}
 use Rattle.hwp_law_run.specs.hwp_geom.declared.Layout.{Layout}

@@ -12,7 +12,7 @@ use Rattle.hwp_script_lines.specs.hwp_geom.declared.Version.TheVariants as versi
 use Rattle.hwp_script_read.specs.Context.{version_in, cpus_in, frames_in, recovery_in, early_in, files_in, procs_in, threads_in, pages_in, trans_in, names_in, process_of, slot_of, commands_in, go_in, place_in, group, highest}
 use Rattle.hwp_script_read.specs.Collects.{commands_of}
 use Rattle.hwp_script_read.specs.Forks.{actor, has_shared_page, is_again, is_wrong_fork, names_twin}
-use Rattle.hwp_script_read.specs.Guests.{is_no_guest}
+use Rattle.hwp_script_read.specs.Guests.{cannot_be_guest}
 use Rattle.hwp_script_read.specs.Reasons.{IsMisplaced, IsElsewhere, IsBackingOver, IsBackingUndeclared, IsUndeclared, IsNoPair, IsNewer, IsBeyond, top_cpu, IsClean}
 use Rattle.hwp_script_lines.specs.declared.Backing.{Backing}
 use Rattle.hwp_script_lines.specs.declared.Go.{Go}
@@ -228,7 +228,7 @@ pub record IsGuestClean (above : List ScriptLine) (p : ℕ) : Type 0 where
   pub few : p < 16
   pub declared : p < procs_in above
   pub fresh : is_guest (names_in above) (process_of p) ≡ false
-  pub fit : is_no_guest (threads_in above) p ≡ false
+  pub fit : cannot_be_guest (threads_in above) p ≡ false
 
 pub clean_guest : {above : List ScriptLine} {p : ℕ} → IsClean above (forms.Guest p) → IsGuestClean above p
 clean_guest {above} {p} h =

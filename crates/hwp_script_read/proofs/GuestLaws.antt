@@ -10,7 +10,7 @@ use Rattle.hwp_script_lines.specs.hwp_geom.declared.Version.TheVariants as versi
 use Rattle.hwp_script_lines.specs.declared.ScriptLine.{ScriptLine}
 use Rattle.hwp_script_lines.specs.declared.ScriptLine.TheVariants as forms
 use Rattle.hwp_script_read.specs.Context.{version_in, version_after, thread_of, threads_in, guests_in, guests_after, highest}
-use Rattle.hwp_script_read.specs.Guests.{is_no_guest}
+use Rattle.hwp_script_read.specs.Guests.{cannot_be_guest}
 use Rattle.hwp_script_read.specs.Reasons.{IsClean}
 use Rattle.hwp_script_read.specs.Valid.{AreGuestsFit}
 use Rattle.hwp_script_read.proofs.ContextLaws.{onto}
@@ -22,7 +22,7 @@ IsNot guest = guest ≡ false
 
 -- each guest among these can be one with these threads
 pub record AreFit (threads : List ThreadDecl) (guests : List Bool) : Type 0 where
-  pub each : (process : ℕ) → get_or guests process false ≡ true → is_no_guest threads process ≡ false
+  pub each : (process : ℕ) → get_or guests process false ≡ true → cannot_be_guest threads process ≡ false
 
 not_at : (gs : List Bool) (i : ℕ) → All IsNot gs → get_or gs i false ≡ false
 not_at [] i h = refl
@@ -39,7 +39,7 @@ nobody_early gs (forms.Proc p ∷ fs) l h = nobody_early (gs ++ false ∷ []) fs
 nobody_early gs (forms.Guest p ∷ fs) l h = absurd (omega (arith, l))
 nobody_early gs (f ∷ fs) l h = nobody_early gs fs (omega (arith, l)) h
 
-one_fit : (threads : List ThreadDecl) (gs : List Bool) (p : ℕ) → AreFit threads gs → is_no_guest threads p ≡ false → AreFit threads (set gs p true)
+one_fit : (threads : List ThreadDecl) (gs : List Bool) (p : ℕ) → AreFit threads gs → cannot_be_guest threads p ≡ false → AreFit threads (set gs p true)
 one_fit threads gs p h fit = record {
   each = λ q e. ⊎_elim
       (λ (same : q ≡ p). rw same fit)

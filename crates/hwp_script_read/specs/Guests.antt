@@ -7,10 +7,10 @@ use Rattle.hwp_script_lines.specs.hwp_geom.declared.ThreadDecl.{ThreadDecl}
 abbrev pub is_apart : ℕ → ThreadDecl → ThreadDecl → Bool
 is_apart process thread other = (other.process.0 == process) && (not thread.handler || not (other.cpu.0 == thread.cpu.0))
 
--- whether a thread is one of the process, and can't be one of a guest among these threads
-abbrev pub is_no_thread : List ThreadDecl → ℕ → ThreadDecl → Bool
-is_no_thread threads process thread = (thread.process.0 == process) && list_any (is_apart process thread) threads
+-- whether a thread is one of the process, and keeps it from being a guest with these threads
+abbrev pub bars_guest : List ThreadDecl → ℕ → ThreadDecl → Bool
+bars_guest threads process thread = (thread.process.0 == process) && list_any (is_apart process thread) threads
 
 -- whether the process can't be a guest with these threads
-abbrev pub is_no_guest : List ThreadDecl → ℕ → Bool
-is_no_guest threads process = list_any (is_no_thread threads process) threads
+abbrev pub cannot_be_guest : List ThreadDecl → ℕ → Bool
+cannot_be_guest threads process = list_any (bars_guest threads process) threads

@@ -19,7 +19,7 @@ use Rattle.hwp_script_read.specs.Limits.{schedule_limit}
 use Rattle.hwp_script_read.specs.Context.{version_in, cpus_in, frames_in, kernel_in, recovery_in, early_in, files_in, procs_in, threads_in, pages_in, trans_in, names_in, lists_in, commands_in, go_in, place_in, process_of, slot_of, highest}
 use Rattle.hwp_script_read.specs.Collects.{commands_of}
 use Rattle.hwp_script_read.specs.Forks.{actor, has_shared_page, is_again, is_wrong_fork, names_twin}
-use Rattle.hwp_script_read.specs.Guests.{is_no_guest}
+use Rattle.hwp_script_read.specs.Guests.{cannot_be_guest}
 use Rattle.hwp_script_read.specs.declared.why.Why.{Why}
 use Rattle.hwp_script_read.specs.declared.why.Why.TheVariants as whys
 
@@ -166,7 +166,7 @@ Applies above (forms.Guest p) whys.UnknownWord = version_in above ≡ versions.O
 Applies above (forms.Guest p) whys.OverLimit = process_limit ≤ p
 Applies above (forms.Guest p) whys.Undeclared = procs_in above ≤ p
 Applies above (forms.Guest p) whys.Twice = is_guest (names_in above) (process_of p) ≡ true
-Applies above (forms.Guest p) whys.WrongPlace = IsMisplaced above 9 ⊎ (is_no_guest (threads_in above) p ≡ true)
+Applies above (forms.Guest p) whys.WrongPlace = IsMisplaced above 9 ⊎ (cannot_be_guest (threads_in above) p ≡ true)
 Applies above (forms.Page q b locked) whys.UnknownWord = (version_in above ≡ versions.One) × (locked ≡ true)
 Applies above (forms.Page q b locked) whys.OverLimit = (page_limit_of (version_in above) ≤ q) ⊎ IsBackingOver b
 Applies above (forms.Page q b locked) whys.Undeclared = IsBackingUndeclared above b

@@ -17,7 +17,7 @@ use Rattle.hwp_script_lines.specs.declared.Go.{Go}
 use Rattle.hwp_script_lines.specs.declared.Command.{Command}
 use Rattle.hwp_script_lines.specs.declared.Command.TheVariants as commands
 use Rattle.hwp_script_read.specs.Forks.{has_shared_page, is_fork_of, is_wrong_fork, names_twin}
-use Rattle.hwp_script_read.specs.Guests.{is_no_guest}
+use Rattle.hwp_script_read.specs.Guests.{cannot_be_guest}
 use Rattle.hwp_script_read.specs.Limits.{schedule_limit}
 use Rattle.hwp_script_read.specs.Reasons.{IsNewer}
 
@@ -104,7 +104,7 @@ pub record AreTwinsFit (layout : Layout) : Type 0 where
 
 -- all threads of a guest run on one processor, and each has a handler
 pub record AreGuestsFit (layout : Layout) : Type 0 where
-  pub each : (process : Proc) → is_guest layout process ≡ true → is_no_guest layout.threads process.0 ≡ false
+  pub each : (process : Proc) → is_guest layout process ≡ true → cannot_be_guest layout.threads process.0 ≡ false
 
 -- the command names no twin as its translation
 abbrev pub NamesNoTwin : Layout → Command → Type 0
@@ -125,9 +125,9 @@ pub record IsOlder (script : Script) : Type 0 where
   pub unguested : All (λ (g : Bool). g ≡ false) script.layout.guests
   pub commands : All (All (λ (c : Command). IsNewer c → ⊥)) script.lists
 
--- a script that some text gives: in version One it has no `open`, no `watch`, no `fork`, no locked page, no twin and no guest; its layout is sound, it has a list of each processor's
--- commands, and a schedule of its processors; its twins are private, each fork may stand where it does, and
--- its guests run on one processor each
+-- a script that some text gives: in version One it has no `open`, no `watch`, no `fork`, no locked page, no twin and no guest; its layout
+-- is sound, it has a list of each processor's commands, and a schedule of its processors; its twins are private, each fork may stand where
+-- it does, and its guests run on one processor each
 pub record IsValid (script : Script) : Type 0 where
   pub older : script.layout.version ≡ versions.One → IsOlder script
   pub sound : IsSound script.layout

@@ -323,8 +323,18 @@ pub(crate) fn fault(summary: &Summary, above: &[ScriptLine], form: &ScriptLine) 
     ensures { MatchOption result (IsClean above.now form.now) (λ why. IsLowest above.now form.now why) }
 {
     if above.is_empty() {
-        return first_fault(above, form);
+        first_fault(above, form)
+    } else {
+        later_fault(summary, above, form)
     }
+}
+
+/// The fault of a line below others.
+fn later_fault(summary: &Summary, above: &[ScriptLine], form: &ScriptLine) -> Option<Why>
+    requires sums { Sums above.now summary.now }
+    requires some { 0 < length above.now }
+    ensures { MatchOption result (IsClean above.now form.now) (λ why. IsLowest above.now form.now why) }
+{
     match form {
         ScriptLine::Header(_) => Some(Why::UnknownWord),
         ScriptLine::Cpus(n) => cpus_fault(summary, above, *n),

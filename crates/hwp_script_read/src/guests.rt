@@ -2,7 +2,7 @@ ghost use Rattle.std.specs.Prelude.{◌≡◌, ◌<◌, length, MatchOption};
 ghost use Rattle.std.specs.List.{list_any};
 ghost use Rattle.hwp_script_lines.specs.hwp_geom.Layout.{is_guest};
 ghost use Rattle.hwp_script_read.specs.Context.{process_of};
-ghost use Rattle.hwp_script_read.specs.Guests.{is_apart, is_no_guest, is_no_thread};
+ghost use Rattle.hwp_script_read.specs.Guests.{is_apart, cannot_be_guest, bars_guest};
 ghost use Rattle.hwp_script_read.specs.Reasons.{IsClean, IsLowest};
 ghost use Rattle.hwp_script_read.specs.Sums.{Sums, names_of};
 
@@ -37,20 +37,20 @@ fn is_parted(threads: &[ThreadDecl], process: u64, thread: ThreadDecl) -> bool
         .any(|other| is_apart(process, thread, *other))
 }
 
-/// Whether a thread is one of the process, and can't be one of a guest among these threads.
-fn is_no_thread(threads: &[ThreadDecl], process: u64, thread: ThreadDecl) -> bool
-    ensures { result ≡ is_no_thread threads.now process thread }
+/// Whether a thread is one of the process, and keeps it from being a guest with these threads.
+fn bars_guest(threads: &[ThreadDecl], process: u64, thread: ThreadDecl) -> bool
+    ensures { result ≡ bars_guest threads.now process thread }
 {
     u64::from(thread.process.0) == process && is_parted(threads, process, thread)
 }
 
 /// Whether the process can't be a guest with these threads.
-fn is_no_guest(threads: &[ThreadDecl], process: u64) -> bool
-    ensures { result ≡ is_no_guest threads.now process }
+fn cannot_be_guest(threads: &[ThreadDecl], process: u64) -> bool
+    ensures { result ≡ cannot_be_guest threads.now process }
 {
     threads
         .iter()
-        .any(|thread| is_no_thread(threads, process, *thread))
+        .any(|thread| bars_guest(threads, process, *thread))
 }
 
 /// The lowest reason that applies to a line that makes a process a guest, below these lines, if any does.
@@ -67,7 +67,9 @@ pub(crate) fn guest_fault(summary: &Summary, above: &[ScriptLine], process: u64)
         Some(Why::Undeclared)
     } else if is_guest(summary, process) {
         Some(Why::Twice)
-    } else if is_misplaced(summary, above, 9) || is_no_guest(summary.threads.as_slice(), process) {
+    } else if is_misplaced(summary, above, 9)
+        || cannot_be_guest(summary.threads.as_slice(), process)
+    {
         Some(Why::WrongPlace)
     } else {
         None

@@ -1,5 +1,5 @@
 use Rattle.std.proofs.Common.{◌≡◌, false, rules}
-use Rattle.hwp_check_guests.specs.Accesses.{has_guests}
+use Rattle.hwp_check_rules.specs.hwp_geom.Layout.{has_guests}
 use Rattle.hwp_check_guests.proofs.RuleLaws.{known_asked, known_unasked}
 use Rattle.hwp_check_guests.proofs.rule.known_of.Goals as goal
 
