@@ -1,7 +1,7 @@
 -- How many machine checks of an access the histories show for each command, one machine check after another.
 use Rattle.std.proofs.Common.{◌≡◌, ◌⊎◌, inl, inr, ℕ, ◌+◌, ◌^◌, ◌<◌, ◌≤◌, ◌==◌, ◌&&◌, Bool, true, false, cond, List, [], ◌∷◌, ◌++◌, Some, get_or, length, slice_get, slice_index_or, slice_set, sum_by, take, refl, sym, ap, ◌∙◌, subst, arith}
 use Rattle.std.proofs.lemmas.Bool.{cases_eq, eq-eqb, ne_eqb}
-use Rattle.std.proofs.lemmas.List.{get_or-set_other, get_or-set_same, length-append, length-set, length-take-le}
+use Rattle.std.proofs.lemmas.List.{get_or-set_other, get_or-set_same, length-append, length-set, length-take-le, take_all}
 use Rattle.std.proofs.lemmas.List.Sums.{count_by-le-length, sum_by-append, sum_by-cons, sum_by_more}
 use Rattle.std.proofs.lemmas.Option.{get_or_from_slice_get, slice_get-get_or, slice_get_within}
 use Rattle.hwp_banks.specs.hwp_geom.declared.Cpu.{Cpu}
@@ -76,6 +76,13 @@ module _ (cpu : Cpu) where
       by false which = let k : get_or counts seq 0 ≡ get_or counts seq 0 + 0 = omega arith in k
 
   -- several
+  pub checks-first : (list : List Who) (counts : List ℕ) → AreAdded (λ (seq : ℕ). checks_by cpu seq (take 0 list)) counts counts
+  checks-first list counts = record { size = refl; each = λ seq n there. (n, there, let none : checks_by cpu seq (take 0 list) ≡ 0 = ap (checks_by cpu seq) (take-none list) in omega (arith, none)) }
+    where
+      take-none : (xs : List Who) → take 0 xs ≡ []
+      take-none [] = refl
+      take-none (x ∷ xs) = refl
+
   pub checks-next : (list : List Who) (old counts next : List ℕ) (i : ℕ) (d : Who) → i < length list → next ≡ with_check cpu (get_or list i d) counts → AreAdded (λ (seq : ℕ). checks_by cpu seq (take i list)) old counts
       → AreAdded (λ (seq : ℕ). checks_by cpu seq (take (i + 1) list)) old next
   checks-next list old counts next i d within is added = record { size = ap length is ∙ check-size (get_or list i d) counts ∙ added.size; each = each }
@@ -98,6 +105,9 @@ module _ (cpu : Cpu) where
       let room : was.0 + length list < 2 ^ 64 = few seq was.0 was.1 in
       let is : n ≡ was.0 + checks_by cpu seq (take i list) = was.2 in
       omega (arith, most, size, room, is, within)
+
+  pub checks-last : (list : List Who) (old counts : List ℕ) (i : ℕ) → length list ≤ i → AreAdded (λ (seq : ℕ). checks_by cpu seq (take i list)) old counts → AreAdded (λ (seq : ℕ). checks_by cpu seq list) old counts
+  checks-last list old counts i all added = subst (λ (l : List Who). AreAdded (λ (seq : ℕ). checks_by cpu seq l) old counts) (take_all i list all) added
 
   -- those of a command are as many as the histories show
   entry-counted : (seq : ℕ) (e : Entry) → checks_by cpu seq (checker e) ≡ cond (own seq e.who && is_check e.what) 1 0

@@ -222,6 +222,9 @@ module _ (script : Script) (report : Report) (who : Who) where
 
   -- any command
   module _ (copies : Who → Option VSlot) (masks : AreMasks report) (has_lines : HasLines script) (raw : Option Event) (lines : List EventLine) where
+    abbrev Fits : Command → Type 0
+    Fits command = AreRight (IsRightLine script copies report who command raw lines) lines × (Lacks script copies report who command raw lines → ⊥)
+
     abbrev Allowed : Command → Banks → Type 0
     Allowed command banks = AreEventsOf script copies report who (arrival_of command) command (resting raw) lines banks
 

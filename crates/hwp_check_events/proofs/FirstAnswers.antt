@@ -1,8 +1,8 @@
 -- The first answer of each command, line by line.
-use Rattle.std.proofs.Common.{◌≡◌, ◌⊎◌, inl, inr, ℕ, ◌+◌, ◌<◌, ◌==◌, Bool, true, false, cond, List, [], ◌∷◌, ◌++◌, Option, Some, None, filter_map, get_or, length, option_map, slice_get, slice_index_or, take, refl, sym, ap, ◌∙◌, subst}
+use Rattle.std.proofs.Common.{◌≡◌, ◌⊎◌, inl, inr, ℕ, ◌+◌, ◌<◌, ◌≤◌, ◌==◌, Bool, true, false, cond, List, [], ◌∷◌, ◌++◌, Option, Some, None, filter_map, get_or, length, option_map, slice_get, slice_index_or, take, refl, sym, ap, ◌∙◌, subst}
 use Rattle.std.specs.List.{find}
 use Rattle.std.proofs.lemmas.Bool.{cases_eq, eq-eqb, ne_eqb}
-use Rattle.std.proofs.lemmas.List.{get_or-set_other, get_or-set_same, length-set, take_more}
+use Rattle.std.proofs.lemmas.List.{get_or-set_other, get_or-set_same, length-set, take_all, take_more}
 use Rattle.std.proofs.lemmas.Option.{get_or_from_slice_get, slice_get-get_or, slice_get_within}
 use Rattle.hwp_law.specs.hwp_report_text.declared.Answer.{Answer}
 use Rattle.hwp_law.specs.hwp_report_text.declared.CpuLine.{CpuLine}
@@ -75,3 +75,17 @@ firsts-next rows count n answers next d within next_is so = record { size = ap l
     each seq answer there =
         with-each (get_or rows n d) answers seq answer (answer_among (take n rows) seq) (subst (λ (l : List (Option Answer)). slice_get l seq ≡ Some answer) next_is there) (λ a at. so.each seq a at)
         ∙ sym (end-answer seq (take n rows) (get_or rows n d)) ∙ ap (λ (l : List CpuLine). answer_among l seq) (sym (take_more rows n d within))
+
+pub firsts-first : (rows : List CpuLine) (count : ℕ) (answers : List (Option Answer)) → length answers ≡ count → ((k : ℕ) (d : Option Answer) → k < length answers → slice_index_or answers k d ≡ None) → Firsts rows count 0 answers
+firsts-first rows count answers size none = record { size = size; each = each }
+  where
+    take-none : (xs : List CpuLine) → take 0 xs ≡ []
+    take-none [] = refl
+    take-none (x ∷ xs) = refl
+
+    each : (seq : ℕ) (answer : Option Answer) → slice_get answers seq ≡ Some answer → answer ≡ answer_among (take 0 rows) seq
+    each seq answer there =
+        sym (get_or_from_slice_get answers seq answer answer there) ∙ none seq answer (slice_get_within answers seq answer there) ∙ sym (ap (λ (l : List CpuLine). answer_among l seq) (take-none rows))
+
+pub firsts-last : (rows : List CpuLine) (count n : ℕ) (answers : List (Option Answer)) → length rows ≤ n → Firsts rows count n answers → AreFirst rows count answers
+firsts-last rows count n answers all so = subst (λ (r : List CpuLine). AreFirst r count answers) (take_all n rows all) so

@@ -1,6 +1,7 @@
 -- What is wrong about the lines of a command, by its kind.
 use Rattle.std.proofs.Common.{◌≡◌, ◌⊎◌, inl, inr, ℕ, ◌<◌, ◌≤◌, ◌==◌, ◌+◌, ◌-◌, Bool, true, false, cond, List, Option, None, MatchBool, is_some, length, sym, ap, ◌∙◌, subst, arith}
 use Rattle.std.specs.Bool.{nat_lt}
+use Rattle.std.specs.Int.{from_bool}
 use Rattle.std.proofs.lemmas.Bool.{ltb-false, ltb-true}
 use Rattle.std.proofs.lemmas.List.{length-map}
 use Rattle.hwp_banks.specs.hwp_geom.Limits.{line_limit}
@@ -14,13 +15,14 @@ use Rattle.hwp_banks.specs.declared.Origin.TheVariants as origins
 use Rattle.hwp_law.specs.hwp_script_read.declared.Command.{Command}
 use Rattle.hwp_law.specs.hwp_script_read.declared.Command.TheVariants as commands
 use Rattle.hwp_law.specs.hwp_script_read.declared.Script.{Script}
+use Rattle.hwp_law.specs.hwp_report_text.declared.Answer.{Answer}
 use Rattle.hwp_law.specs.hwp_report_text.declared.EventLine.{EventLine}
 use Rattle.hwp_law.specs.hwp_report_text.declared.Report.{Report}
 use Rattle.hwp_law.specs.hwp_law_commands.Commands.{arrival_of}
 use Rattle.hwp_law.specs.hwp_severity.declared.Arrival.{Arrival}
-use Rattle.hwp_law.specs.Events.{access_lines, store_lines}
+use Rattle.hwp_law.specs.Events.{is_raised, access_lines, store_lines}
 use Rattle.hwp_law.specs.Lines.{answer_of}
-use Rattle.hwp_check_events.specs.Accesses.{Access, IsAccessLine, access_by, asked_by_access, access_of, lines_met}
+use Rattle.hwp_check_events.specs.Accesses.{Access, IsAccessLine, IsRaisedLine, access_by, asked_by_access, access_of, lines_met}
 use Rattle.hwp_check_scrub.specs.hwp_check_event_line.Firsts.{IsScanned, shown_lines}
 use Rattle.hwp_check_events.specs.Copied.{copied_by}
 use Rattle.hwp_check_events.specs.Judged.{IsAccessJudged, IsJudged, IsScrubJudged, IsTable}
@@ -52,6 +54,19 @@ module _ (script : Script) (report : Report) (who : Who) (raw left : Option Even
     where
       same : access_by checks copied raw ≡ access_of origin ats raw
       same = λ i. record { origin = origin_is i; at = ats_are i; raw = raw }
+
+  pub raise-judged : (how expected : Arrival) (answer : Option Answer) → how ≡ expected → answer ≡ answer_of report who
+      → IsScanned (λ (n : ℕ) (l : EventLine). MatchBool (is_raised answer lines) (IsRaisedLine script report who how raw n l) ⊥) lines wrong → lacks ≡ nat_lt (length shown) (cond (is_raised answer lines) (from_bool (is_some raw)) 0) → left ≡ cond (is_raised answer lines) None raw
+      → IsScanned (λ (n : ℕ) (l : EventLine). MatchBool (is_raised (answer_of report who) lines) (IsRaisedLine script report who expected raw n l) ⊥) lines wrong
+      × MatchBool lacks (length lines < cond (is_raised (answer_of report who) lines) (from_bool (is_some raw)) 0) (length lines < cond (is_raised (answer_of report who) lines) (from_bool (is_some raw)) 0 → ⊥)
+      × (left ≡ cond (is_raised (answer_of report who) lines) None raw)
+  raise-judged how expected answer how_is answer_is scanned lacks_is left_is = (
+    subst (λ (a : Option Answer). IsScanned (λ (n : ℕ) (l : EventLine). MatchBool (is_raised a lines) (IsRaisedLine script report who expected raw n l) ⊥) lines wrong) answer_is
+        (subst (λ (h : Arrival). IsScanned (λ (n : ℕ) (l : EventLine). MatchBool (is_raised answer lines) (IsRaisedLine script report who h raw n l) ⊥) lines wrong) how_is scanned),
+    less-decides (length lines) (cond (is_raised (answer_of report who) lines) (from_bool (is_some raw)) 0) lacks (lacks_is ∙ ap (λ (n : ℕ). nat_lt n (cond (is_raised answer lines) (from_bool (is_some raw)) 0)) (sym (length-map shown (λ (s : Shown). s.line)))
+        ∙ ap (λ (a : Option Answer). nat_lt (length lines) (cond (is_raised a lines) (from_bool (is_some raw)) 0)) answer_is),
+    left_is ∙ ap (λ (a : Option Answer). cond (is_raised a lines) None raw) answer_is,
+  )
 
   -- the course by the table
   same-low : (table : List ℕ) (whole : Bool) → IsTable script who table → whole ≡ is_scrubbed (answer_of report who) → (place : ℕ) → low_by table whole place ≡ low_of script report who place

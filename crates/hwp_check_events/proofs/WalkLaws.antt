@@ -206,6 +206,9 @@ module _ (script : Script) (copies : Who → Option VSlot) (report : Report) (cp
     pub walked-next : (found : Misfits) → IsWalked script copies report cpu list rows n found → IsWalked script copies report cpu list rows (n + 1) (joined found faults lines)
     walked-next found w = record { lacks = lacks-next found.lacks faults.lacks w.lacks judged.lacks; wrong = wrong-next found.wrong faults.wrong w.wrong judged.scanned }
 
+  pub walked-first : IsWalked script copies report cpu list rows 0 (record { lacks = false; wrong = None })
+  walked-first = record { lacks = λ l. absurd (let w : l.seq < 0 = l.within in omega (arith, w)); wrong = λ seq c within there. absurd (omega (arith, within)) }
+
   -- what is left in bank 1 behind one command more
   left-more : (xs : List Command) (m : ℕ) (c : Command) (raw : Option Event) → left_by script copies report cpu m (xs ++ c ∷ []) raw ≡ leaves script copies report (at (m + length xs)) c (left_by script copies report cpu m xs raw) (events (m + length xs))
   left-more [] m c raw = ap (λ (k : ℕ). leaves script copies report (at k) c raw (events k)) (let e : m ≡ m + 0 = omega arith in e)
