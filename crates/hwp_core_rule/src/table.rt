@@ -75,6 +75,7 @@ impl Step {
     }
 
     /// Whether the step goes through at the word that it found.
+    #[inline(always)]
     pub fn goes(&self, found: u64) -> bool
         ensures { result ≡ tables.goes self.now found }
     {
@@ -236,6 +237,7 @@ fn moved_out(taken: bool, slot: usize) -> SlotMove
 }
 
 /// The kind of a load.
+#[inline(always)]
 fn load_kind(place: SharedWord) -> Option<Kind>
     ensures { result ≡ tables.load_kind place }
 {

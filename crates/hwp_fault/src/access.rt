@@ -194,6 +194,8 @@ impl Access {
         }
     }
 
+    /// Where it stands in the caller, which knows the state that was there, nothing of that is read out.
+    #[inline(always)]
     fn set(&mut self, at: AccessAt)
         ensures { self.new ≡ record self.old { at = at } }
     {
@@ -201,6 +203,7 @@ impl Access {
     }
 
     /// Goes on to the state, where there is one, with the turn of the step before it.
+    #[inline(always)]
     fn follow(&mut self, next: Option<AccessAt>, turn: Turn) -> Turn
         ensures at { self.new ≡ record self.old { at = unwrap_or next self.old.at } }
         ensures turn { result ≡ turn }
@@ -212,6 +215,7 @@ impl Access {
     }
 
     /// Goes on to the state; the body that the step before it met is let go.
+    #[inline(always)]
     fn go(&mut self, at: AccessAt, got: Option<Body>) -> Turn
         ensures at { self.new ≡ record self.old { at = at } }
         ensures turn { result ≡ Moved }

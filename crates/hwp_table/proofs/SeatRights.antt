@@ -10,7 +10,7 @@ use Rattle.hwp_core_task.specs.hwp_geom.declared.Layout.{Layout}
 use Rattle.hwp_core_task.proofs.of_hwp_core_rule.Lists.{at_set, at_map, set_again, set_here}
 use Rattle.hwp_table_words.specs.Known.{Whole, either_whole, times}
 use Rattle.hwp_table_words.specs.Seats.{SeatValue, mine}
-use Rattle.hwp_table.specs.Seats.{AreSeats, Handed, IsHeld, IsSeatOf, with_rights, without_rights, whole_at, whole_in, whole_of}
+use Rattle.hwp_table.specs.Seats.{AreSeats, Handed, IsHandedOver, IsHeld, IsSeatOf, with_rights, without_rights, whole_at, whole_in, whole_of}
 
 -- what a seat that is there knows of the whole
 pub whole-there : (seats : List SeatValue) (i : ℕ) (s : SeatValue) (w : Whole) → slice_get seats i ≡ Some s → s.known.whole ≡ Some w → whole_at seats i ≡ w
@@ -47,8 +47,8 @@ module _ (id : TableId) (layout : Layout) (a b : List SeatValue) (from to : ℕ)
     | inr e ↦ held.others i s e.0 e.1
   ]
 
-  pub are-now : AreSeats id layout b
-  are-now = let of = are-mid.each to h.taker h.to_there in
+  are-handed : AreSeats id layout b
+  are-handed = let of = are-mid.each to h.taker h.to_there in
       subst (AreSeats id layout) (sym h.next) (seats-set id layout mid to (with_rights h.taker h.giver.known) are-mid (record { table = of.table; layout_is = of.layout_is; number_is = of.number_is; one = of.one }))
 
   whole-now : either_whole h.taker.known.whole h.giver.known.whole ≡ Some w
@@ -72,8 +72,27 @@ module _ (id : TableId) (layout : Layout) (a b : List SeatValue) (from to : ℕ)
     ];
   }
 
+  held-handed : IsHeld layout b to w
+  held-handed = subst (λ (l : List SeatValue). IsHeld layout l to w) (sym h.next) held-set
+
+  mines-handed : map mine b ≡ map mine a
+  mines-handed = ap (map mine) h.next ∙ mines-set mid to h.taker (with_rights h.taker h.giver.known) h.to_there refl ∙ mines-set a from h.giver (without_rights h.giver) h.from_there refl
+
+module _ (id : TableId) (layout : Layout) (a b : List SeatValue) (from to : ℕ) (w : Whole) (are : AreSeats id layout a) (held : IsHeld layout a from w) (has : IsHandedOver a b from to) where
+  pub are-now : AreSeats id layout b
+  are-now = elim has [
+    | inl e ↦ subst (AreSeats id layout) (sym e.1) are
+    | inr h ↦ are-handed id layout a b from to w are held h
+  ]
+
   pub held-now : IsHeld layout b to w
-  held-now = subst (λ (l : List SeatValue). IsHeld layout l to w) (sym h.next) held-set
+  held-now = elim has [
+    | inl e ↦ subst (λ (l : List SeatValue). IsHeld layout l to w) (sym e.1) (subst (λ (n : ℕ). IsHeld layout a n w) e.0 held)
+    | inr h ↦ held-handed id layout a b from to w are held h
+  ]
 
   pub mines-now : map mine b ≡ map mine a
-  mines-now = ap (map mine) h.next ∙ mines-set mid to h.taker (with_rights h.taker h.giver.known) h.to_there refl ∙ mines-set a from h.giver (without_rights h.giver) h.from_there refl
+  mines-now = elim has [
+    | inl e ↦ ap (map mine) e.1
+    | inr h ↦ mines-handed id layout a b from to w are held h
+  ]

@@ -30,7 +30,7 @@ use Rattle.hwp_table_words.specs.Plays.{Finds}
 use Rattle.hwp_table_words.specs.Seats.{HasRight, Moves, SeatValue, cpu, cpu_of, mine, mine_of}
 use Rattle.hwp_core_task.proofs.of_hwp_core_rule.MetWords.{asks-content}
 use Rattle.hwp_table.specs.Boards.{IsSeatBoard, state_of}
-use Rattle.hwp_table.specs.Seats.{AreSeats, Handed, IsHeld, IsSeatOf, whole_at}
+use Rattle.hwp_table.specs.Seats.{AreSeats, IsHandedOver, IsHeld, IsSeatOf, whole_at}
 use Rattle.hwp_table.specs.Turns.{played}
 use Rattle.hwp_table.proofs.SeatRights.{whole-there, seats-set, are-now, held-now, mines-now}
 
@@ -43,7 +43,7 @@ pub moved-on : {a b new : Board} {who : Who} {step : Step} {found : ℕ} (put go
 moved-on {a} {b} {new} {who} {step} {found} put got same made = subst (λ (v : Board). plain.Moves v (rec_of v.layout who step (logs put) found got) new) same made
 
 module _ (id : TableId) (layout : Layout) (seats : List SeatValue) (holder : ℕ) (turns : List Turn) (seat : ℕ) (is : IsSeatBoard id layout seats holder turns seat)
-    (own : ℕ) (own-is : own ≡ seat) (seats1 : List SeatValue) (h : Handed seats seats1 holder own) (s : SeatValue) (at : s ≡ get_or seats1 own s) where
+    (own : ℕ) (own-is : own ≡ seat) (seats1 : List SeatValue) (h : IsHandedOver seats seats1 holder own) (s : SeatValue) (at : s ≡ get_or seats1 own s) where
   abbrev w : Whole
   w = whole_at seats holder
 

@@ -1,5 +1,5 @@
 -- The seats of a board, one for each processor. One of them has all rights, and knows the whole.
-use Rattle.std.specs.Prelude.{◌≡◌, ◌≢◌, ℕ, ◌<◌, ◌≤◌, List, [], ◌∷◌, ◌++◌, Option, Some, None, length, map, slice_get, slice_set}
+use Rattle.std.specs.Prelude.{◌≡◌, ◌≢◌, ℕ, ◌<◌, ◌≤◌, ◌⊎◌, List, [], ◌∷◌, ◌++◌, Option, Some, None, length, map, slice_get, slice_set}
 use Rattle.atomic_table.specs.Seated.{TableId}
 use Rattle.hwp_core_task.specs.hwp_geom.declared.Layout.{Layout}
 use Rattle.hwp_core_task.specs.hwp_core_rule.declared.View.{View}
@@ -59,6 +59,10 @@ pub record Handed (a b : List SeatValue) (from to : ℕ) : Type 0 where
   pub from_there : slice_get a from ≡ Some giver
   pub to_there : slice_get (slice_set a from (without_rights giver)) to ≡ Some taker
   pub next : b ≡ slice_set (slice_set a from (without_rights giver)) to (with_rights taker giver.known)
+
+-- all rights are with the seat `to`: they were there, and nothing changed, or they went there
+abbrev pub IsHandedOver : List SeatValue → List SeatValue → ℕ → ℕ → Type 0
+IsHandedOver a b from to = ((from ≡ to) × (b ≡ a)) ⊎ Handed a b from to
 
 -- the seats at opening: each has its view, none has a right yet, and none knows anything of caches
 abbrev pub seat_open : TableId → Layout → ℕ → SeatValue

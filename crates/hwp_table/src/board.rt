@@ -167,6 +167,7 @@ impl<'a, N: OfTable, W: Ways> SeatBoard<'a, N, W> {
 
     /// Makes one step of the seat whose turn it is, with the body that goes home: all rights go to it, and it makes the step
     /// as one atomic operation on the table. It takes no memory.
+    #[inline(always)]
     pub(crate) fn make(&mut self, who: Who, step: &Step, body: Option<Body>) -> Met
         requires can { CanMake self.old.layout who step.now body (own_view self.old) }
         ensures same { (self.new.layout ≡ self.old.layout) × (self.new.seat ≡ self.old.seat) × (self.new.ready ≡ false) }
@@ -185,5 +186,17 @@ impl<'a, N: OfTable, W: Ways> SeatBoard<'a, N, W> {
         self.ready = false;
         self.made = step.kind();
         met
+    }
+
+    /// The same of a step of any kind. Most steps are loads: what any other kind needs stands in a function of its own, and of a load
+    /// the compiler knows each table of kinds.
+    #[inline(never)]
+    pub(crate) fn make_of_kind(&mut self, who: Who, step: &Step, body: Option<Body>) -> Met
+        requires can { CanMake self.old.layout who step.now body (own_view self.old) }
+        ensures same { (self.new.layout ≡ self.old.layout) × (self.new.seat ≡ self.old.seat) × (self.new.ready ≡ false) }
+        ensures told { Steps self.old.layout who step.now (logs body) (own_view self.old) (own_view self.new) result.found result.body }
+        ensures moved { Moves self.old (rec_of self.old.layout who step.now (logs body) result.found result.body) self.new }
+    {
+        self.make(who, step, body)
     }
 }

@@ -19,8 +19,12 @@ impl<'a, N: OfTable, W: Ways> Ops for SeatBoard<'a, N, W> {
         self.machine()
     }
 
+    #[inline(always)]
     fn step(&mut self, who: Who, step: &Step, body: Option<Body>) -> Met {
-        self.make(who, step, body)
+        match step {
+            Step::Load { place } => self.make(who, &Step::Load { place: *place }, body),
+            _ => self.make_of_kind(who, step, body),
+        }
     }
 }
 

@@ -14,6 +14,7 @@ use hwp_core_task::SlotMove;
 pub type Order = ArrayVec<usize, 3>;
 
 /// Before a step that frees a lock: the lock's slot comes to the front, and the body into it.
+#[inline(always)]
 pub(crate) fn lay<W: Ways>(
     sheet: &Sheet<W>,
     seat: &mut Pass,
@@ -54,6 +55,7 @@ fn bring(seat: &mut Pass, order: &mut Order, slot: usize)
 }
 
 /// After a step: the body of the slot that went out with its lock, so that all slots that the seat carries are empty.
+#[inline(always)]
 pub fn settle<W: Ways>(sheet: &Sheet<W>, seat: &mut Pass, order: &mut Order, to: SlotMove) -> Slot
     requires fits { seat.old.table_id ≡ sheet.now.table_id }
     requires brought { (got : Option BodyValue) × (seat.old.me.1 ≡ brought to got order.old.items) }

@@ -14,6 +14,7 @@ use hwp_core_task::{Body, Layout, Met, Step, Who};
 use std::marker::Brand;
 
 /// Makes one step of a seat as one move of the frame rule. It takes no memory.
+#[inline(always)]
 pub(crate) fn one<W: Ways>(
     sheet: &Sheet<W>,
     layout: &Layout,

@@ -108,6 +108,7 @@ impl<'a, W: Ways> SeatOps<'a, W> {
     }
 
     /// Makes one step of the seat, as one atomic operation on the table. It takes no memory.
+    #[inline(always)]
     pub(crate) fn make(&mut self, who: Who, step: &Step, body: Option<Body>) -> Met
         requires right { HasRight self.old.known }
         requires can { CanMake self.old.layout who step.now body (mine self.old) }

@@ -8,6 +8,7 @@ use crate::ways::Ways;
 use hwp_core_task::{Step, Who};
 
 /// A step of any kind, as one atomic operation on the table: it answers the word that it met.
+#[inline(always)]
 pub(crate) fn step_as<W: Ways, N: Named>(
     sheet: &Sheet<W>,
     seat: &mut Pass,
