@@ -98,12 +98,18 @@ access_in _ = None
 abbrev pub BeginsLine : Layout → Who → LineAccess → Banks → Bool → Job → Type 0
 BeginsLine layout who at banks collects j = BeginsAccess layout who at.thread at.slot at.line at.manner.kind at.manner.origin at.manner.mode banks collects j
 
--- the command raises a machine check
-abbrev pub is_raise : Command → Bool
-is_raise (commands.RaiseUser thread ripv eipv) = true
-is_raise (commands.RaiseKernel ripv eipv) = true
-is_raise commands.RaiseNested = true
-is_raise _ = false
+-- commands that come seldom
+abbrev pub is_rare : Command → Bool
+is_rare (commands.Prctl thread args) = true
+is_rare (commands.Fork thread child) = true
+is_rare (commands.Scrub first last) = true
+is_rare (commands.Log status addr misc) = true
+is_rare (commands.Watch threshold window) = true
+is_rare (commands.Unpoison frame) = true
+is_rare (commands.RaiseUser thread ripv eipv) = true
+is_rare (commands.RaiseKernel ripv eipv) = true
+is_rare commands.RaiseNested = true
+is_rare _ = false
 
 -- a load of data by the program, of an instruction, or of data by the kernel; a store
 abbrev pub BeginsLoad : Layout → Who → Thread → VSlot → ℕ → Banks → Bool → Job → Type 0

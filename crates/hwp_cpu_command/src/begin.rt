@@ -9,17 +9,14 @@ ghost use Rattle.hwp_cpu_row.specs.hwp_banks.Banks.{raw_event};
 ghost use Rattle.hwp_cpu_row.specs.Locals.{collects, number_in};
 ghost use Rattle.hwp_cpu_row.specs.hwp_law_commands.Commands.{access_of, process_of_thread};
 ghost use Rattle.hwp_cpu_row.specs.hwp_law_commands.Settings.{arguments};
-ghost use Rattle.hwp_cpu_control.specs.Nesteds as nesteds;
 ghost use Rattle.hwp_cpu_control.specs.Spoils as spoils;
 ghost use Rattle.hwp_soft.specs.hwp_claim.Injects as injects;
 ghost use Rattle.hwp_soft.specs.Softs as softs;
-ghost use Rattle.hwp_soft.specs.hwp_soft_unpoison.Unpoisons as unpoisons;
 ghost use Rattle.hwp_scrub.specs.Scrubs as scrubs;
 ghost use Rattle.hwp_evict.specs.Fsyncs as fsyncs;
 ghost use Rattle.hwp_cpu_raise.specs.declared.LocalChange.TheVariants as changes;
 ghost use Rattle.hwp_cpu_raise.specs.Logs as logs;
-ghost use Rattle.hwp_cpu_raise.specs.Raises as raises;
-ghost use Rattle.hwp_cpu_command.specs.Begins.{Begins, BeginsAs, BeginsCopy, BeginsFork, BeginsLine, BeginsPrctl, BeginsRaiseUser, BeginsWith, CanCopy, CanCopyFrom, CanDeny, IsDeniedAnyhow, access_in, begun_access, is_raise, line_access, request_of};
+ghost use Rattle.hwp_cpu_command.specs.Begins.{Begins, BeginsAs, BeginsCopy, BeginsFork, BeginsLine, BeginsPrctl, BeginsRaiseUser, BeginsWith, CanCopy, CanCopyFrom, CanDeny, IsDeniedAnyhow, access_in, begun_access, is_rare, line_access, request_of};
 ghost use Rattle.hwp_cpu_command.specs.FileHandles.{HasHandle, local_left};
 ghost use Rattle.hwp_cpu_command.specs.Jobs.{left_in};
 ghost use Rattle.hwp_cpu_command.specs.declared.job.Job.TheVariants as jobs;
@@ -250,22 +247,17 @@ fn begin_other(
         Command::Out { page } => evict(Evict::out_page(who, page), job),
         Command::Fsync { file } => ask(who, file, handles, false, job),
         Command::Open { file } => ask(who, file, handles, true, job),
-        Command::Prctl { thread, args } => call(layout, who, thread, args, job),
-        Command::Fork { thread, process } => fork(layout, who, thread, process, job),
         Command::Bad { frame, line } => spoil_line(who, frame, line, Damage::Bad, job),
         Command::Weak { frame, line } => spoil_line(who, frame, line, Damage::Weak, job),
-        Command::Scrub { first, last } => scrub(alloc, who, first, last, banks, job),
-        Command::Log { status, addr, misc } => log(who, status, addr, misc, banks, job),
-        Command::Watch { threshold, window } => watch(who, threshold, window, banks, job),
         Command::Inject { frame } => inject(alloc, who, frame, job),
         Command::Soft { frame } => soft(who, frame, job),
-        Command::Unpoison { frame } => unpoison(who, frame, job),
-        _ => begin_raise(alloc, layout, who, command, banks, job),
+        _ => begin_rare(alloc, layout, who, command, banks, job),
     }
 }
 
-/// The same of a command that raises a machine check.
-fn begin_raise(
+/// The same of a command that comes seldom. To put its task in its place whole takes some 450 instructions more than a function for its kind,
+/// which writes few fields there.
+fn begin_rare(
     alloc: Global,
     layout: &Layout,
     who: Who,
@@ -275,19 +267,69 @@ fn begin_raise(
 )
     requires sound { IsSound layout.now }
     requires of { IsCommandOf layout.now who.cpu.0 command.now }
-    requires raises { is_raise command.now ≡ true }
+    requires rare { is_rare command.now ≡ true }
     ensures begins { (collects : Bool) → Begins layout.now who command.now banks.old collects job.new }
     ensures handle { (handles : List ℕ) → HasHandle handles job.new }
     ensures banks { banks.new ≡ left_in job.new banks.old }
 {
+    set(job, rare(alloc, layout, who, command, banks));
+}
+
+/// The task that such a command begins as.
+fn rare(
+    alloc: Global,
+    layout: &Layout,
+    who: Who,
+    command: &Command,
+    banks: &mut [Bank; BANKS],
+) -> Job
+    requires sound { IsSound layout.now }
+    requires of { IsCommandOf layout.now who.cpu.0 command.now }
+    requires rare { is_rare command.now ≡ true }
+    ensures begins { (collects : Bool) → Begins layout.now who command.now banks.old collects result }
+    ensures handle { (handles : List ℕ) → HasHandle handles result }
+    ensures banks { banks.new ≡ left_in result banks.old }
+{
     match *command {
+        Command::Prctl { thread, args } => Job::Prctl(call(layout, who, thread, args)),
+        Command::Fork { thread, process } => Job::Fork(fork(layout, who, thread, process)),
+        Command::Scrub { first, last } => Job::Scrub(scrub(alloc, who, first, last, banks)),
+        Command::Log { status, addr, misc } => Job::Log(log(who, status, addr, misc, banks)),
+        Command::Watch { threshold, window } => Job::Log(watch(who, threshold, window, banks)),
+        Command::Unpoison { frame } => Job::Unpoison(Unpoison::new(who, frame)),
         Command::RaiseUser { thread, ripv, eipv } => {
-            raise_user(alloc, layout, who, thread, ripv, eipv, banks, job)
+            let mcg = McgBits { ripv, eipv };
+            Job::Raise(raise_user(alloc, layout, who, thread, mcg, banks))
         }
-        Command::RaiseKernel { ripv, eipv } => raise_kernel(alloc, who, ripv, eipv, banks, job),
-        Command::RaiseNested => nested(who, job),
+        Command::RaiseKernel { ripv, eipv } => {
+            let mcg = McgBits { ripv, eipv };
+            Job::Raise(Raise::new(alloc, who, None, mcg, taken(banks)))
+        }
+        Command::RaiseNested => Job::Nested(Nested::new(who)),
         _ => unreachable!(),
     }
+}
+
+/// A machine check by a thread of the processor, at its beginning, which takes what the banks hold.
+fn raise_user(
+    alloc: Global,
+    layout: &Layout,
+    who: Who,
+    thread: Thread,
+    mcg: McgBits,
+    banks: &mut [Bank; BANKS],
+) -> Raise
+    requires sound { IsSound layout.now }
+    requires of { IsThreadOf layout.now who.cpu.0 thread }
+    ensures begins { BeginsRaiseUser layout.now who thread mcg banks.old (jobs.Raise result) }
+    ensures banks { banks.new ≡ empty_banks }
+{
+    let decl = layout.threads.as_slice()[usize::from(thread.0)];
+    let raiser = Raiser {
+        thread,
+        process: decl.process,
+    };
+    Raise::new(alloc, who, Some(raiser), mcg, taken(banks))
 }
 
 /// The value lies in the place, and the one before it is let go there.
@@ -304,12 +346,6 @@ fn evict(evict: Evict, job: &mut Job)
     set(job, Job::Evict(evict));
 }
 
-fn nested(who: Who, job: &mut Job)
-    ensures { job.new ≡ jobs.Nested (nesteds.begin who) }
-{
-    set(job, Job::Nested(Nested::new(who)));
-}
-
 fn inject(alloc: Global, who: Who, frame: Frame, job: &mut Job)
     ensures { job.new ≡ jobs.Inject (injects.begin alloc who frame) }
 {
@@ -322,28 +358,12 @@ fn soft(who: Who, frame: Frame, job: &mut Job)
     set(job, Job::Soft(Soft::new(who, frame)));
 }
 
-fn unpoison(who: Who, frame: Frame, job: &mut Job)
-    ensures { job.new ≡ jobs.Unpoison (unpoisons.begin who frame) }
-{
-    set(job, Job::Unpoison(Unpoison::new(who, frame)));
-}
-
 /// A scrub at its beginning, which takes what the banks hold.
-fn scrub(
-    alloc: Global,
-    who: Who,
-    first: Frame,
-    last: Frame,
-    banks: &mut [Bank; BANKS],
-    job: &mut Job,
-)
-    ensures begins { job.new ≡ jobs.Scrub (scrubs.begin alloc who first last banks.old) }
+fn scrub(alloc: Global, who: Who, first: Frame, last: Frame, banks: &mut [Bank; BANKS]) -> Scrub
+    ensures begins { result ≡ scrubs.begin alloc who first last banks.old }
     ensures banks { banks.new ≡ empty_banks }
 {
-    set(
-        job,
-        Job::Scrub(Scrub::new(alloc, who, first, last, taken(banks))),
-    );
+    Scrub::new(alloc, who, first, last, taken(banks))
 }
 
 /// What the banks hold, which leaves them empty.
@@ -534,33 +554,21 @@ fn spoil_line(who: Who, frame: Frame, line: Line, damage: Damage, job: &mut Job)
     set(job, Job::Spoil(Spoil::new(who, frame, line, damage)));
 }
 
-/// Something of the processor alone is changed, which takes what the banks hold.
-fn change(who: Who, change: LocalChange, banks: &mut [Bank; BANKS], job: &mut Job)
-    ensures begins { job.new ≡ jobs.Log (logs.begin who change banks.old) }
+/// An event of these registers is logged, at its beginning, which takes what the banks hold.
+fn log(who: Who, status: u64, addr: u64, misc: u64, banks: &mut [Bank; BANKS]) -> Log
+    ensures begins { result ≡ logs.begin who (changes.Event (raw_event status addr misc)) banks.old }
     ensures banks { banks.new ≡ empty_banks }
 {
-    set(job, Job::Log(Log::new(who, change, taken(banks))));
+    let event = raw_event(status, addr, misc);
+    Log::new(who, LocalChange::Event(event), taken(banks))
 }
 
-/// An event of these registers is logged.
-fn log(who: Who, status: u64, addr: u64, misc: u64, banks: &mut [Bank; BANKS], job: &mut Job)
-    ensures begins { job.new ≡ jobs.Log (logs.begin who (changes.Event (raw_event status addr misc)) banks.old) }
+/// The processor gets a new collector, at its beginning, which takes what the banks hold.
+fn watch(who: Who, threshold: u16, window: u8, banks: &mut [Bank; BANKS]) -> Log
+    ensures begins { result ≡ logs.begin who (changes.Watch threshold window) banks.old }
     ensures banks { banks.new ≡ empty_banks }
 {
-    change(
-        who,
-        LocalChange::Event(raw_event(status, addr, misc)),
-        banks,
-        job,
-    );
-}
-
-/// The processor gets a new collector.
-fn watch(who: Who, threshold: u16, window: u8, banks: &mut [Bank; BANKS], job: &mut Job)
-    ensures begins { job.new ≡ jobs.Log (logs.begin who (changes.Watch threshold window) banks.old) }
-    ensures banks { banks.new ≡ empty_banks }
-{
-    change(who, LocalChange::Watch { threshold, window }, banks, job);
+    Log::new(who, LocalChange::Watch { threshold, window }, taken(banks))
 }
 
 /// A raw event of these registers.
@@ -574,78 +582,25 @@ fn raw_event(status: u64, addr: u64, misc: u64) -> Event
     }
 }
 
-/// A machine check by a thread of the processor, at its beginning, which takes what the banks hold.
-fn raise_user(
-    alloc: Global,
-    layout: &Layout,
-    who: Who,
-    thread: Thread,
-    ripv: bool,
-    eipv: bool,
-    banks: &mut [Bank; BANKS],
-    job: &mut Job,
-)
-    requires sound { IsSound layout.now }
-    requires of { IsThreadOf layout.now who.cpu.0 thread }
-    ensures begins { BeginsRaiseUser layout.now who thread (record { ripv = ripv; eipv = eipv }) banks.old job.new }
-    ensures banks { banks.new ≡ empty_banks }
-{
-    let decl = layout.threads.as_slice()[usize::from(thread.0)];
-    let raiser = Raiser {
-        thread,
-        process: decl.process,
-    };
-    let mcg = McgBits { ripv, eipv };
-    set(
-        job,
-        Job::Raise(Raise::new(alloc, who, Some(raiser), mcg, taken(banks))),
-    );
-}
-
-/// A machine check by the kernel, at its beginning, which takes what the banks hold.
-fn raise_kernel(
-    alloc: Global,
-    who: Who,
-    ripv: bool,
-    eipv: bool,
-    banks: &mut [Bank; BANKS],
-    job: &mut Job,
-)
-    ensures begins { job.new ≡ jobs.Raise (raises.begin alloc who None (record { ripv = ripv; eipv = eipv }) banks.old) }
-    ensures banks { banks.new ≡ empty_banks }
-{
-    let mcg = McgBits { ripv, eipv };
-    set(
-        job,
-        Job::Raise(Raise::new(alloc, who, None, mcg, taken(banks))),
-    );
-}
-
 /// A call of prctl(2) by a thread of the processor, at its beginning.
-fn call(layout: &Layout, who: Who, thread: Thread, args: PrctlArgs, job: &mut Job)
+fn call(layout: &Layout, who: Who, thread: Thread, args: PrctlArgs) -> Prctl
     requires sound { IsSound layout.now }
     requires of { IsThreadOf layout.now who.cpu.0 thread }
-    ensures { BeginsPrctl layout.now who thread args job.new }
+    ensures { BeginsPrctl layout.now who thread args (jobs.Prctl result) }
 {
     let decl = layout.threads.as_slice()[usize::from(thread.0)];
-    set(
-        job,
-        Job::Prctl(Prctl::new(who, thread, decl.process, arguments_of(args))),
-    );
+    Prctl::new(who, thread, decl.process, arguments_of(args))
 }
 
 /// A fork by a thread of the processor, at its beginning.
-fn fork(layout: &Layout, who: Who, thread: Thread, child: Proc, job: &mut Job)
+fn fork(layout: &Layout, who: Who, thread: Thread, child: Proc) -> Fork
     requires sound { IsSound layout.now }
     requires of { IsThreadOf layout.now who.cpu.0 thread }
-    ensures { BeginsFork layout.now who thread child job.new }
+    ensures { BeginsFork layout.now who thread child (jobs.Fork result) }
 {
     let decl = layout.threads.as_slice()[usize::from(thread.0)];
     let targets = Targets::of(layout, child);
-    set(
-        job,
-        Job::Fork(Fork::new(who, thread, decl.process, targets)),
-    );
+    Fork::new(who, thread, decl.process, targets)
 }
 
 /// The five arguments of a prctl command in their order.
