@@ -1,5 +1,5 @@
 -- What a guest is, told by which of the earlier commands stopped it, and which made frames of it bad.
-use Rattle.std.proofs.Common.{◌≡◌, ◌⊎◌, inl, inr, ℕ, ◌+◌, ◌<◌, ◌≤◌, ◌==◌, ◌||◌, ◌&&◌, Bool, true, false, List, [], ◌∷◌, Option, Some, None, option_map, fold, if◌then◌else◌, ◌++◌, get_or, length, slice_get, take, refl, sym, ap, ◌∙◌, subst, arith}
+use Rattle.std.proofs.Common.{◌≡◌, ◌⊎◌, inl, inr, ℕ, ◌+◌, ◌<◌, ◌≤◌, ◌==◌, ◌||◌, ◌&&◌, Bool, true, false, List, [], ◌∷◌, Option, Some, None, fold, if◌then◌else◌, ◌++◌, get_or, length, slice_get, take, refl, sym, ap, ◌∙◌, subst, arith}
 use Rattle.std.specs.List.{list_any}
 use Rattle.std.specs.Prelude.{option_and_then}
 use Rattle.std.specs.Option.{option_map_or}
@@ -20,23 +20,22 @@ use Rattle.hwp_check_rules.specs.hwp_geom.declared.VSlot.{VSlot}
 use Rattle.hwp_check_rules.specs.hwp_script_read.declared.Command.{Command}
 use Rattle.hwp_check_rules.specs.hwp_report_text.declared.Answer.{Answer}
 use Rattle.hwp_check_rules.specs.hwp_report_text.declared.Answer.TheVariants as answers
-use Rattle.hwp_check_rules.specs.hwp_law_commands.Guests.{GuestAccess, denial, denied, guest_access, guest_after, guest_met, guest_of, new_guest}
-use Rattle.hwp_check_guests.specs.Accesses.{access_in}
+use Rattle.hwp_check_rules.specs.hwp_law_commands.declared.GuestAccess.{GuestAccess}
+use Rattle.hwp_check_rules.specs.hwp_law_commands.Guests.{denial, denied, guest_access, guest_after, guest_met, guest_of, new_guest}
 use Rattle.hwp_check_guests.specs.Admission.{AreAdmissions, admission_of, is_spoil, is_spoil_by, is_spoil_in, is_stop, is_stop_by, is_stop_in, met_by}
-use Rattle.hwp_check_guests.specs.declared.accesses.GuestAccess.{GuestAccess as Found}
 
 -- ---- a command and its answer, as they were read
 
-pub met_none : (layout : Layout) (process : Proc) (p : Command × Answer) → option_map access_in None ≡ met_by layout p → false ≡ is_stop layout process p
+pub met_none : (layout : Layout) (process : Proc) (p : Command × Answer) → None ≡ met_by layout p → false ≡ is_stop layout process p
 met_none layout process p is = ap (λ (o : Option GuestAccess). option_map_or (is_stop_by process) o false) is
 
-pub met_stop : (layout : Layout) (process : Proc) (p : Command × Answer) (a : Found) (b : Bool) → option_map access_in (Some a) ≡ met_by layout p → b ≡ is_stop_by process (access_in a) → b ≡ is_stop layout process p
+pub met_stop : (layout : Layout) (process : Proc) (p : Command × Answer) (a : GuestAccess) (b : Bool) → Some a ≡ met_by layout p → b ≡ is_stop_by process a → b ≡ is_stop layout process p
 met_stop layout process p a b is told = told ∙ ap (λ (o : Option GuestAccess). option_map_or (is_stop_by process) o false) is
 
-pub spoilt_none : (layout : Layout) (process : Proc) (slot : VSlot) (p : Command × Answer) → option_map access_in None ≡ met_by layout p → false ≡ is_spoil layout process slot p
+pub spoilt_none : (layout : Layout) (process : Proc) (slot : VSlot) (p : Command × Answer) → None ≡ met_by layout p → false ≡ is_spoil layout process slot p
 spoilt_none layout process slot p is = ap (λ (o : Option GuestAccess). option_map_or (is_spoil_by process slot) o false) is
 
-pub met_spoil : (layout : Layout) (process : Proc) (slot : VSlot) (p : Command × Answer) (a : Found) (b : Bool) → option_map access_in (Some a) ≡ met_by layout p → b ≡ is_spoil_by process slot (access_in a) → b ≡ is_spoil layout process slot p
+pub met_spoil : (layout : Layout) (process : Proc) (slot : VSlot) (p : Command × Answer) (a : GuestAccess) (b : Bool) → Some a ≡ met_by layout p → b ≡ is_spoil_by process slot a → b ≡ is_spoil layout process slot p
 met_spoil layout process slot p a b is told = told ∙ ap (λ (o : Option GuestAccess). option_map_or (is_spoil_by process slot) o false) is
 
 -- ---- what the earlier commands made of the guest
@@ -139,27 +138,27 @@ module _ (layout : Layout) (process : Proc) where
 
 -- ---- whether an access is admitted
 
-module _ (layout : Layout) (earlier : List (Command × Answer)) (a : Found) where
+module _ (layout : Layout) (earlier : List (Command × Answer)) (a : GuestAccess) where
   abbrev guest : GuestState
   guest = guest_of layout earlier a.process
 
   abbrev by-flags : Bool → Bool → Admit
   by-flags stopped spoilt = if stopped then admissions.Stopped else if spoilt then admissions.Bad else admissions.Yes
 
-  pub stopped_is : true ≡ list_any (is_stop layout a.process) earlier → admissions.Stopped ≡ admission_of layout earlier (access_in a)
+  pub stopped_is : true ≡ list_any (is_stop layout a.process) earlier → admissions.Stopped ≡ admission_of layout earlier a
   stopped_is is = ap (λ (b : Bool). by-flags b (set.contains guest.bad a.slot.0)) (is ∙ sym (stopped-of layout a.process earlier))
 
-  pub spoilt_is : false ≡ list_any (is_stop layout a.process) earlier → true ≡ list_any (is_spoil layout a.process a.slot) earlier → admissions.Bad ≡ admission_of layout earlier (access_in a)
+  pub spoilt_is : false ≡ list_any (is_stop layout a.process) earlier → true ≡ list_any (is_spoil layout a.process a.slot) earlier → admissions.Bad ≡ admission_of layout earlier a
   spoilt_is is bad = ap (by-flags false) (bad ∙ sym (spoilt-of layout a.process a.slot earlier)) ∙ ap (λ (b : Bool). by-flags b (set.contains guest.bad a.slot.0)) (is ∙ sym (stopped-of layout a.process earlier))
 
-  pub admitted_is : false ≡ list_any (is_stop layout a.process) earlier → false ≡ list_any (is_spoil layout a.process a.slot) earlier → admissions.Yes ≡ admission_of layout earlier (access_in a)
+  pub admitted_is : false ≡ list_any (is_stop layout a.process) earlier → false ≡ list_any (is_spoil layout a.process a.slot) earlier → admissions.Yes ≡ admission_of layout earlier a
   admitted_is is bad = ap (by-flags false) (bad ∙ sym (spoilt-of layout a.process a.slot earlier)) ∙ ap (λ (b : Bool). by-flags b (set.contains guest.bad a.slot.0)) (is ∙ sym (stopped-of layout a.process earlier))
 
 module _ (layout : Layout) (earlier : List (Command × Answer)) (command : Command) where
-  pub no_access : option_map access_in None ≡ guest_access layout command → denial admissions.Yes ≡ denied layout earlier command
+  pub no_access : None ≡ guest_access layout command → denial admissions.Yes ≡ denied layout earlier command
   no_access is = ap (option_and_then (λ (a : GuestAccess). denial (admission_of layout earlier a))) is
 
-  pub by_access : (a : Found) (d : Admit) → option_map access_in (Some a) ≡ guest_access layout command → d ≡ admission_of layout earlier (access_in a) → denial d ≡ denied layout earlier command
+  pub by_access : (a : GuestAccess) (d : Admit) → Some a ≡ guest_access layout command → d ≡ admission_of layout earlier a → denial d ≡ denied layout earlier command
   by_access a d is told = ap denial told ∙ ap (option_and_then (λ (x : GuestAccess). denial (admission_of layout earlier x))) is
 
 -- ---- one command after the other

@@ -13,23 +13,22 @@ use Rattle.hwp_check_rules.specs.hwp_report_text.declared.CpuLine.{CpuLine}
 use Rattle.hwp_check_rules.specs.hwp_report_text.declared.CpuLine.TheVariants as lines
 use Rattle.hwp_check_rules.specs.hwp_report_text.declared.GuestLine.{GuestLine}
 use Rattle.hwp_check_rules.specs.hwp_law.Lines.{guests_among}
-use Rattle.hwp_check_rules.specs.hwp_law_commands.Guests.{GuestAccess, guest_line, guest_lines, stops}
+use Rattle.hwp_check_rules.specs.hwp_law_commands.declared.GuestAccess.{GuestAccess}
+use Rattle.hwp_check_rules.specs.hwp_law_commands.Guests.{guest_line, guest_lines, stops}
 use Rattle.hwp_check_rules.specs.hwp_guest.Guests.{outcome, outcome_row}
-use Rattle.hwp_check_guests.specs.Accesses.{access_in}
 use Rattle.hwp_check_guests.specs.Telling.{due_by, has_event, has_outcome, is_guest_of, is_line, is_told}
-use Rattle.hwp_check_guests.specs.declared.accesses.GuestAccess.{GuestAccess as Found}
 
 module _ (layout : Layout) (command : Command) (answer : Answer) where
-  pub none_due : option_map access_in None ≡ due_by layout command answer → false ≡ is_some (due_by layout command answer)
+  pub none_due : None ≡ due_by layout command answer → false ≡ is_some (due_by layout command answer)
   none_due is = ap (λ (o : Option GuestAccess). is_some o) is
 
-  pub some_due : (a : Found) → option_map access_in (Some a) ≡ due_by layout command answer → true ≡ is_some (due_by layout command answer)
+  pub some_due : (a : GuestAccess) → Some a ≡ due_by layout command answer → true ≡ is_some (due_by layout command answer)
   some_due a is = ap (λ (o : Option GuestAccess). is_some o) is
 
-  pub none_told : (seq : ℕ) (line : GuestLine) → option_map access_in None ≡ due_by layout command answer → false ≡ is_told layout seq command answer line
+  pub none_told : (seq : ℕ) (line : GuestLine) → None ≡ due_by layout command answer → false ≡ is_told layout seq command answer line
   none_told seq line is = ap (λ (o : Option GuestAccess). option_map_or (λ (a : GuestAccess). is_line seq a line) o false) is
 
-  pub some_told : (seq : ℕ) (line : GuestLine) (a : Found) (b : Bool) → option_map access_in (Some a) ≡ due_by layout command answer → b ≡ is_line seq (access_in a) line → b ≡ is_told layout seq command answer line
+  pub some_told : (seq : ℕ) (line : GuestLine) (a : GuestAccess) (b : Bool) → Some a ≡ due_by layout command answer → b ≡ is_line seq a line → b ≡ is_told layout seq command answer line
   some_told seq line a b is told = told ∙ ap (λ (o : Option GuestAccess). option_map_or (λ (x : GuestAccess). is_line seq x line) o false) is
 
 -- ---- the line of an access

@@ -1,4 +1,3 @@
-pub mod Accesses
 pub mod Admission
 pub mod Telling
 pub mod Busy

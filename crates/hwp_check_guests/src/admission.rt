@@ -1,16 +1,16 @@
-ghost use Rattle.std.specs.Prelude.{◌≡◌, IfOk, length, option_map, take};
+ghost use Rattle.std.specs.Prelude.{◌≡◌, IfOk, length, take};
 ghost use Rattle.std.specs.List.{list_any};
 ghost use Rattle.hwp_check_rules.specs.hwp_law_commands.Guests.{denial, denied};
-ghost use Rattle.hwp_check_guests.specs.Accesses.{access_in};
 ghost use Rattle.hwp_check_guests.specs.Admission.{AreAdmissions, admission_of, is_spoil, is_spoil_by, is_stop, is_stop_by, met_by};
 
-use crate::accesses::{GuestAccess, guest_access};
-use hwp_check_rules::{Admit, Answer, Command, Layout, Mode, OutOfMemory, Proc, VSlot};
+use hwp_check_rules::{
+    Admit, Answer, Command, GuestAccess, Layout, Mode, OutOfMemory, Proc, VSlot, guest_access,
+};
 use std::alloc::Global;
 
 /// The access of a command with this answer, where it was one of a guest that SIGBUS answered.
 fn met_by(layout: &Layout, pair: &(Command, Answer)) -> Option<GuestAccess>
-    ensures { option_map access_in result ≡ met_by layout.now pair.now }
+    ensures { result ≡ met_by layout.now pair.now }
 {
     match pair.1 {
         Answer::Sigbus(_) => guest_access(layout, &pair.0),
@@ -20,7 +20,7 @@ fn met_by(layout: &Layout, pair: &(Command, Answer)) -> Option<GuestAccess>
 
 /// Whether the access is one of the guest, in kernel mode.
 fn is_stop_by(process: Proc, access: &GuestAccess) -> bool
-    ensures { result ≡ is_stop_by process (access_in access.now) }
+    ensures { result ≡ is_stop_by process access.now }
 {
     match access.mode {
         Mode::Kernel => access.process.0 == process.0,
@@ -30,7 +30,7 @@ fn is_stop_by(process: Proc, access: &GuestAccess) -> bool
 
 /// Whether the access is one of the guest through the translation, in user mode.
 fn is_spoil_by(process: Proc, slot: VSlot, access: &GuestAccess) -> bool
-    ensures { result ≡ is_spoil_by process slot (access_in access.now) }
+    ensures { result ≡ is_spoil_by process slot access.now }
 {
     match access.mode {
         Mode::User => access.process.0 == process.0 && access.slot.0 == slot.0,
@@ -79,7 +79,7 @@ fn is_spoilt(layout: &Layout, process: Proc, slot: VSlot, earlier: &[(Command, A
 /// Whether the guest admits the access, behind these commands of its processor. A stopped guest is told before a bad frame.
 #[tactic(auto, using(crate::proofs::AdmissionLaws::stopped_is, crate::proofs::AdmissionLaws::spoilt_is, crate::proofs::AdmissionLaws::admitted_is))]
 fn admission_of(layout: &Layout, earlier: &[(Command, Answer)], access: &GuestAccess) -> Admit
-    ensures { result ≡ admission_of layout.now earlier.now (access_in access.now) }
+    ensures { result ≡ admission_of layout.now earlier.now access.now }
 {
     if is_stopped(layout, access.process, earlier) {
         return Admit::Stopped;

@@ -1,7 +1,6 @@
 //! Whether guests' accesses are answered as the guests admit them, and whether guests are told of those that SIGBUS answered.
 #![tactic(auto)]
 
-mod accesses;
 mod admission;
 mod busy;
 mod judging;

@@ -1,13 +1,11 @@
-ghost use Rattle.std.specs.Prelude.{◌≡◌, is_some, option_map};
-ghost use Rattle.hwp_check_guests.specs.Accesses.{access_in};
+ghost use Rattle.std.specs.Prelude.{◌≡◌, is_some};
 ghost use Rattle.hwp_check_guests.specs.Telling.{due_by, has_event, has_outcome, is_line, is_told};
 
-use crate::accesses::{GuestAccess, guest_access};
-use hwp_check_rules::{Answer, Command, Frame, GuestLine, Layout, Mode};
+use hwp_check_rules::{Answer, Command, Frame, GuestAccess, GuestLine, Layout, Mode, guest_access};
 
 /// Whether the line has the event of the access: the guest has one bank, and a guest frame is the number of a translation.
 fn has_event(access: &GuestAccess, line: &GuestLine) -> bool
-    ensures { result ≡ has_event (access_in access.now) line.now }
+    ensures { result ≡ has_event access.now line.now }
 {
     let event = access
         .kind
@@ -31,14 +29,14 @@ fn has_outcome(mode: Mode, line: &GuestLine) -> bool
 
 /// Whether the line is that of the guest's machine check for the access of the command with this number.
 fn is_line(seq: u32, access: &GuestAccess, line: &GuestLine) -> bool
-    ensures { result ≡ is_line seq (access_in access.now) line.now }
+    ensures { result ≡ is_line seq access.now line.now }
 {
     line.seq == seq && has_event(access, line) && has_outcome(access.mode, line)
 }
 
 /// The access of a guest of which it has to be told, by the command and its answer.
 fn due_by(layout: &Layout, command: &Command, answer: Answer) -> Option<GuestAccess>
-    ensures { option_map access_in result ≡ due_by layout.now command.now answer }
+    ensures { result ≡ due_by layout.now command.now answer }
 {
     match answer {
         Answer::Sigbus(_) => guest_access(layout, command),

@@ -17,10 +17,11 @@ pub use hwp_check_events::{
 };
 pub use hwp_law::{
     Access, Acted, Admit, Answer, At, Code, Command, Cpu, CpuLine, Entry, EventLine, FileNo, Frame,
-    FrameLine, GuestLine, How, Layout, Line, List, MarkLine, Mask, McgBits, Met, Mode,
+    FrameLine, GuestAccess, GuestLine, How, Layout, Line, List, MarkLine, Mask, McgBits, Met, Mode,
     OfflineResult, OfflinedLine, OutOfMemory, Outcome, Page, PageKind, PageState, Policy,
     PrctlArgs, Proc, ReadScript, Reply, Report, Script, Seen, Signal, Situation, Stop, StopCause,
-    Text, Thread, VSlot, Version, What, Whereabouts, Who, is_text, prctl, read, words_in,
+    Text, Thread, VSlot, Version, What, Whereabouts, Who, guest_access, is_text, prctl, read,
+    words_in,
 };
 pub use making::{command_of, has_watch, is_made_by, leads_to, watches};
 pub use pasts::{ThreadPolicies, done_of, pasts_of};

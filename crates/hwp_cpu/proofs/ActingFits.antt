@@ -22,7 +22,8 @@ use Rattle.hwp_cpu_course.specs.hwp_cpu_row.CowLists.{acting_in, copied_in, cow_
 use Rattle.hwp_cpu_course.specs.hwp_cpu_row.GuestLists.{States, admission_in}
 use Rattle.hwp_cpu_course.specs.hwp_cpu_row.hwp_law_commands.Commands as access
 use Rattle.hwp_cpu_course.specs.hwp_cpu_row.hwp_law_commands.Commands.{access_of}
-use Rattle.hwp_cpu_course.specs.hwp_cpu_row.hwp_law_commands.Guests.{GuestAccess, guest_access}
+use Rattle.hwp_cpu_course.specs.hwp_cpu_row.hwp_law_commands.declared.GuestAccess.{GuestAccess}
+use Rattle.hwp_cpu_course.specs.hwp_cpu_row.hwp_law_commands.Guests.{guest_access}
 use Rattle.hwp_cpu_course.specs.hwp_cpu_row.hwp_cpu_check.hwp_guest.declared.Admit.{Admit}
 use Rattle.hwp_cpu_course.specs.hwp_cpu_row.hwp_cpu_check.hwp_guest.declared.Admit.TheVariants as admissions
 use Rattle.hwp_cpu_course.proofs.of_hwp_cpu_row.GuestListLaws.{admitted-none, of-access}

@@ -16,7 +16,8 @@ use Rattle.hwp_cpu_course.specs.hwp_cpu_row.hwp_report_text.declared.Answer.{Ans
 use Rattle.hwp_cpu_course.specs.hwp_cpu_row.hwp_report_text.declared.Answer.TheVariants as answers
 use Rattle.hwp_cpu_course.specs.hwp_cpu_row.hwp_core_rule.declared.View.{View}
 use Rattle.hwp_cpu_course.specs.hwp_cpu_row.hwp_core_task.Known.{HasMadeNone}
-use Rattle.hwp_cpu_course.specs.hwp_cpu_row.hwp_law_commands.Guests.{GuestAccess, denied, guest_access, guest_line, guest_lines}
+use Rattle.hwp_cpu_course.specs.hwp_cpu_row.hwp_law_commands.declared.GuestAccess.{GuestAccess}
+use Rattle.hwp_cpu_course.specs.hwp_cpu_row.hwp_law_commands.Guests.{denied, guest_access, guest_line, guest_lines}
 use Rattle.hwp_cpu_course.specs.hwp_cpu_row.declared.Local.{Local}
 use Rattle.hwp_cpu_course.specs.hwp_cpu_row.declared.Row.{Row}
 use Rattle.hwp_cpu_course.specs.hwp_cpu_row.CowLists.{acting_in, copied_in}

@@ -19,9 +19,9 @@ pub use hwp_claim::{
 };
 pub use hwp_law_commands::{
     Access, Acted, Admit, Answer, Collector, Command, CpuLine, Decision, EventLine, FrameLine,
-    Guest, GuestLine, How, MAX_SCRIPT, MarkLine, McgBits, Noted, OfflineResult, OfflinedLine,
-    PrctlArgs, Report, Script, Stop, StopCause, Taken, Version, Whereabouts, grade, handle,
-    is_text, kind_name, policy_word, print, read_number,
+    Guest, GuestAccess, GuestLine, How, MAX_SCRIPT, MarkLine, McgBits, Noted, OfflineResult,
+    OfflinedLine, PrctlArgs, Report, Script, Stop, StopCause, Taken, Version, Whereabouts, grade,
+    guest_access, handle, is_text, kind_name, policy_word, print, read_number,
 };
 pub use lines::ToldLines;
 pub use told::{EventOutcome, Held};

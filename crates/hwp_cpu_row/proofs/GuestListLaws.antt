@@ -27,7 +27,8 @@ use Rattle.hwp_cpu_check.specs.hwp_guest.declared.Admit.TheVariants as admission
 use Rattle.hwp_cpu_check.specs.hwp_guest.GuestState.{GuestState, admitted, after}
 use Rattle.hwp_cpu_check.specs.hwp_law_commands.Commands as access
 use Rattle.hwp_cpu_check.specs.hwp_law_commands.Commands.{access_of, arrival_of, process_of_thread}
-use Rattle.hwp_cpu_check.specs.hwp_law_commands.Guests.{GuestAccess, denial, denied, guest_access, guest_after, guest_met, guest_of, kind_of, new_guest}
+use Rattle.hwp_cpu_check.specs.hwp_law_commands.declared.GuestAccess.{GuestAccess}
+use Rattle.hwp_cpu_check.specs.hwp_law_commands.Guests.{denial, denied, guest_access, guest_after, guest_met, guest_of, kind_of, new_guest}
 use Rattle.hwp_cpu_row.specs.GuestLists.{AreGuestsOf, KnowsGuests, MayMeet, MayTell, admission_in, first_guests, guest_in, met_in, told_in}
 
 -- ---- at first

@@ -1,24 +1,20 @@
 -- What a processor remembers of guests: a list that says of each process what it is as a guest. What it makes of a command is what
 -- hwp_law_commands/specs/Guests says, with the list for the earlier commands and their answers.
-use Rattle.std.specs.Prelude.{◌≡◌, ℕ, ◌<◌, true, List, [], length, replicate, get_or, slice_set, Option, None, Some, option_and_then, option_map, if◌then◌else◌}
+use Rattle.std.specs.Prelude.{◌≡◌, ℕ, ◌<◌, true, List, [], length, replicate, get_or, slice_set, Option, None, Some, option_map, if◌then◌else◌}
 use Rattle.std.specs.Option.{option_map_or}
 use Rattle.hwp_cpu_check.specs.hwp_geom.Layout.{has_guests, is_guest}
 use Rattle.hwp_cpu_check.specs.hwp_geom.Limits.{translation_limit}
 use Rattle.hwp_cpu_check.specs.hwp_geom.declared.Layout.{Layout}
-use Rattle.hwp_cpu_check.specs.hwp_geom.declared.Mode.{Mode}
 use Rattle.hwp_cpu_check.specs.hwp_geom.declared.Proc.{Proc}
-use Rattle.hwp_cpu_check.specs.hwp_geom.declared.Thread.{Thread}
-use Rattle.hwp_cpu_check.specs.hwp_geom.declared.VSlot.{VSlot}
 use Rattle.hwp_cpu_check.specs.hwp_script_lines.declared.Command.{Command}
 use Rattle.hwp_cpu_check.specs.hwp_report_text.declared.Answer.{Answer}
 use Rattle.hwp_cpu_check.specs.hwp_report_text.declared.Answer.TheVariants as answers
 use Rattle.hwp_cpu_check.specs.hwp_report_text.declared.GuestLine.{GuestLine}
-use Rattle.hwp_cpu_check.specs.hwp_guest.declared.Access.{Access}
 use Rattle.hwp_cpu_check.specs.hwp_guest.declared.Admit.{Admit}
 use Rattle.hwp_cpu_check.specs.hwp_guest.declared.Admit.TheVariants as admissions
 use Rattle.hwp_cpu_check.specs.hwp_guest.GuestState.{GuestState, admitted, after}
-use Rattle.hwp_cpu_check.specs.hwp_law_commands.Commands.{process_of_thread}
-use Rattle.hwp_cpu_check.specs.hwp_law_commands.Guests.{GuestAccess, guest_access, guest_line, guest_of, new_guest}
+use Rattle.hwp_cpu_check.specs.hwp_law_commands.declared.GuestAccess.{GuestAccess}
+use Rattle.hwp_cpu_check.specs.hwp_law_commands.Guests.{guest_access, guest_line, guest_of, new_guest}
 
 -- what each process is as a guest
 abbrev pub States : Type 0
@@ -41,12 +37,6 @@ abbrev pub AreGuestsOf : Layout → List GuestState → Type 0
 AreGuestsOf layout guests = (process : Proc) → is_guest layout process ≡ true → process.0 < length guests
 
 -- ---- a command and its answer
-
--- the access of a thread through this translation, where the thread is one of a guest
-abbrev pub access_by : Layout → Thread → VSlot → ℕ → Access → Mode → Option GuestAccess
-access_by layout thread slot line kind mode =
-    option_and_then (λ (process : Proc). if is_guest layout process then Some (record { process = process; slot = slot; line = line; kind = kind; mode = mode }) else None)
-    (process_of_thread layout thread)
 
 -- whether its guest admits the access of a command; what is no access of a guest is admitted
 abbrev pub admission_in : Layout → List GuestState → Command → Admit

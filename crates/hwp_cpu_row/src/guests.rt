@@ -1,35 +1,15 @@
 ghost use Rattle.std.specs.Prelude.{◌≡◌, false, None, Some, replicate, IfOk, IsOk};
 ghost use Rattle.hwp_cpu_check.specs.hwp_guest.GuestState.{admitted};
-ghost use Rattle.hwp_cpu_check.specs.hwp_law_commands.Guests.{guest_access, guest_line, new_guest, stops};
+ghost use Rattle.hwp_cpu_check.specs.hwp_law_commands.Guests.{guest_line, new_guest, stops};
 ghost use Rattle.hwp_cpu_check.specs.hwp_geom.Layout.{has_guests};
-ghost use Rattle.hwp_cpu_row.specs.GuestLists.{CanMeet, MayTell, access_by, admission_in, first_guests, guest_in, line_in, met_in, told_in};
+ghost use Rattle.hwp_cpu_row.specs.GuestLists.{CanMeet, MayTell, admission_in, first_guests, guest_in, line_in, met_in, told_in};
 
 use hwp_cpu_check::{
-    Access, Admit, Answer, Command, Guest, GuestLine, Layout, Line, Mode, OutOfMemory, Proc, Taken,
-    Thread, VSlot,
+    Admit, Answer, Command, Guest, GuestAccess, GuestLine, Layout, OutOfMemory, Proc, Taken, VSlot,
+    guest_access,
 };
 use std::alloc::Global;
 use std::marker::Model;
-
-/// An access by a thread of a guest (this project's rule).
-#[derive(Clone, Copy)]
-struct GuestAccess {
-    process: Proc,
-    slot: VSlot,
-    line: Line,
-    kind: Access,
-    mode: Mode,
-}
-
-impl Model for GuestAccess {
-    ghost use Rattle.hwp_cpu_check.specs.hwp_law_commands.Guests.{GuestAccess as LawAccess};
-
-    ghost Value = { LawAccess };
-
-    ghost view = { λ a. record { process = a.process; slot = a.slot; line = a.line; kind = a.kind; mode = a.mode } };
-
-    ghost inverse = { λ a. record { process = a.process; slot = a.slot; line = a.line; kind = a.kind; mode = a.mode } };
-}
 
 /// Of each process what it is as a guest. Where no process is a guest the list is empty, and takes no memory. Clauses see the list.
 #[derive(Drop)]
@@ -148,55 +128,5 @@ fn stops(taken: Taken) -> bool
     match taken {
         Taken::Bad => false,
         Taken::Stop => true,
-    }
-}
-
-/// The access of a thread through this translation, where the thread is one of a guest.
-fn access_by(
-    layout: &Layout,
-    thread: Thread,
-    slot: VSlot,
-    line: Line,
-    kind: Access,
-    mode: Mode,
-) -> Option<GuestAccess>
-    ensures { result ≡ access_by layout.now thread slot line kind mode }
-{
-    let Some(declared) = layout.threads.as_slice().get(usize::from(thread.0)) else {
-        return None;
-    };
-    let process = declared.process;
-    if layout.is_guest(process) {
-        Some(GuestAccess {
-            process,
-            slot,
-            line,
-            kind,
-            mode,
-        })
-    } else {
-        None
-    }
-}
-
-/// The access of a command, where its thread is one of a guest.
-fn guest_access(layout: &Layout, command: &Command) -> Option<GuestAccess>
-    ensures { result ≡ guest_access layout.now command.now }
-{
-    match *command {
-        Command::Load { thread, slot, line }
-        | Command::Store {
-            thread,
-            slot,
-            line,
-            ..
-        } => { access_by(layout, thread, slot, line, Access::Plain, Mode::User) }
-        Command::Fetch { thread, slot, line } => {
-            access_by(layout, thread, slot, line, Access::Fetch, Mode::User)
-        }
-        Command::KLoad { thread, slot, line } => {
-            access_by(layout, thread, slot, line, Access::Plain, Mode::Kernel)
-        }
-        _ => None,
     }
 }

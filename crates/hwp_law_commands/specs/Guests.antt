@@ -9,6 +9,7 @@ use Rattle.hwp_script_read.specs.hwp_geom.Layout.{is_guest}
 use Rattle.hwp_script_read.specs.hwp_geom.declared.Layout.{Layout}
 use Rattle.hwp_script_read.specs.hwp_geom.declared.Mode.{Mode}
 use Rattle.hwp_script_read.specs.hwp_geom.declared.Proc.{Proc}
+use Rattle.hwp_script_read.specs.hwp_geom.declared.Thread.{Thread}
 use Rattle.hwp_script_read.specs.hwp_geom.declared.VSlot.{VSlot}
 use Rattle.hwp_script_read.specs.declared.Command.{Command}
 use Rattle.hwp_script_read.specs.declared.Command.TheVariants as commands
@@ -26,21 +27,20 @@ use Rattle.hwp_report_text.specs.hwp_guest.declared.Taken.{Taken}
 use Rattle.hwp_report_text.specs.hwp_guest.declared.Taken.TheVariants as takings
 use Rattle.hwp_report_text.specs.hwp_guest.GuestState.{GuestState, admitted, after}
 use Rattle.hwp_report_text.specs.hwp_guest.Guests.{guest_frame, origin_of, outcome, outcome_row}
+use Rattle.hwp_law_commands.specs.declared.guests.GuestAccess.{GuestAccess}
 use Rattle.hwp_law_commands.specs.Commands as access
 use Rattle.hwp_law_commands.specs.Commands.{access_of, arrival_of, process_of_thread}
-
--- an access by a thread of a guest: the guest, the guest frame, the line, whether it is a fetch, and the processor's mode
-pub record GuestAccess : Type 0 where
-  pub process : Proc
-  pub slot : VSlot
-  pub line : ℕ
-  pub kind : Access
-  pub mode : Mode
 
 -- a fetch reads an instruction; each other access is a load or a store
 abbrev pub kind_of : Command → Access
 kind_of (commands.Fetch thread slot line) = kinds.Fetch
 kind_of command = kinds.Plain
+
+-- the access of a thread through this translation, where the thread is one of a guest
+abbrev pub access_by : Layout → Thread → VSlot → ℕ → Access → Mode → Option GuestAccess
+access_by layout thread slot line kind mode =
+    option_and_then (λ (process : Proc). if is_guest layout process then Some (record { process = process; slot = slot; line = line; kind = kind; mode = mode }) else None)
+    (process_of_thread layout thread)
 
 -- the access of a command, where its thread is one of a guest
 abbrev pub guest_access : Layout → Command → Option GuestAccess

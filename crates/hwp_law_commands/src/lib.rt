@@ -1,8 +1,11 @@
 //! What a command is apart from any report: its access, its thread and process, how its machine checks arrive, which policies it sets,
-//! and what it tells the collector of corrected errors. This crate has definitions and lemmas alone; the tasks of commands cite them,
-//! and so does the report law.
+//! and what it tells the collector of corrected errors. This crate has definitions and lemmas, which the tasks of commands cite, and so
+//! does the report law; its only code is `guest_access`, which a processor and the checker call.
 #![tactic(auto)]
 
+mod guests;
+
+pub use guests::{GuestAccess, guest_access};
 pub use hwp_report_text::{
     Access, Acted, Admit, Answer, Arrival, At, Code, CpuLine, Decision, Entry, EventLine,
     FrameLine, Grade, Guest, GuestLine, How, MarkLine, McgBits, Met, OfflineResult, OfflinedLine,

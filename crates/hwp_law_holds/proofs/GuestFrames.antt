@@ -34,7 +34,8 @@ use Rattle.hwp_law_records.specs.hwp_report_text.declared.CpuLine.{CpuLine}
 use Rattle.hwp_law_records.specs.hwp_report_text.declared.Report.{Report}
 use Rattle.hwp_law_records.specs.hwp_law_commands.Commands.{Access, access, access_of, arrival_of, command_at, has_watch, process_of_thread}
 use Rattle.hwp_law_records.specs.hwp_law_commands.Cows.{acting, copied_from, cow_of, through, twin_or, written_through}
-use Rattle.hwp_law_records.specs.hwp_law_commands.Guests.{GuestAccess, denial, denied, guest_access, guest_after, guest_met, guest_of, kind_of, new_guest}
+use Rattle.hwp_law_records.specs.hwp_law_commands.declared.GuestAccess.{GuestAccess}
+use Rattle.hwp_law_records.specs.hwp_law_commands.Guests.{denial, denied, guest_access, guest_after, guest_met, guest_of, kind_of, new_guest}
 use Rattle.hwp_law_records.specs.hwp_law_commands.hwp_guest.GuestState.{GuestState, admitted, after}
 use Rattle.hwp_law_records.specs.hwp_law_commands.hwp_guest.declared.Admit.TheVariants as admissions
 use Rattle.hwp_law_records.specs.hwp_law.Acting.{acting_script, copied_at}

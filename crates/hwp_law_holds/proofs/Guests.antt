@@ -36,7 +36,8 @@ use Rattle.hwp_law_records.specs.hwp_report_text.declared.Report.{Report}
 use Rattle.hwp_law_records.specs.hwp_law_commands.hwp_guest.GuestState.{admitted}
 use Rattle.hwp_law_records.specs.hwp_law_commands.Commands.{Access, access_of, arrival_of, command_at, process_at, process_of_thread, thread_of}
 use Rattle.hwp_law_records.specs.hwp_law_commands.Cows.{acting}
-use Rattle.hwp_law_records.specs.hwp_law_commands.Guests.{GuestAccess, denial, denied, guest_access, guest_lines, guest_of, kind_of}
+use Rattle.hwp_law_records.specs.hwp_law_commands.declared.GuestAccess.{GuestAccess}
+use Rattle.hwp_law_records.specs.hwp_law_commands.Guests.{denial, denied, guest_access, guest_lines, guest_of, kind_of}
 use Rattle.hwp_law_records.specs.hwp_law.Acting.{acting_script, copied_at}
 use Rattle.hwp_law_records.specs.hwp_law.Causes.{IsCaused}
 use Rattle.hwp_law_records.specs.hwp_law.Endings.{IsGone}

@@ -1,10 +1,11 @@
-ghost use Rattle.std.specs.Prelude.{◌≡◌, option_map};
-ghost use Rattle.hwp_check_rules.specs.hwp_law_commands.Guests.{guest_access};
-ghost use Rattle.hwp_check_guests.specs.Accesses.{access_by, access_in};
+ghost use Rattle.std.specs.Prelude.{◌≡◌};
+ghost use Rattle.hwp_law_commands.specs.Guests.{access_by, guest_access};
 
-use hwp_check_rules::{Access, Command, Layout, Line, Mode, Proc, Thread, VSlot};
+use hwp_report_text::Access;
+use hwp_script_read::{Command, Layout, Line, Mode, Proc, Thread, VSlot};
 
-/// An access by a thread of a guest (this project's rule).
+/// An access by a thread of a guest: the guest, the translation, which is its guest frame, the line, whether it is a fetch, and the
+/// processor's mode (this project's rule).
 #[derive(Clone, Copy)]
 pub struct GuestAccess {
     pub process: Proc,
@@ -23,7 +24,7 @@ fn access_by(
     kind: Access,
     mode: Mode,
 ) -> Option<GuestAccess>
-    ensures { option_map access_in result ≡ access_by layout.now thread slot line kind mode }
+    ensures { result ≡ access_by layout.now thread slot line kind mode }
 {
     let Some(declared) = layout.threads.as_slice().get(usize::from(thread.0)) else {
         return None;
@@ -43,8 +44,8 @@ fn access_by(
 }
 
 /// The access of a command, where its thread is one of a guest.
-pub(crate) fn guest_access(layout: &Layout, command: &Command) -> Option<GuestAccess>
-    ensures { option_map access_in result ≡ guest_access layout.now command.now }
+pub fn guest_access(layout: &Layout, command: &Command) -> Option<GuestAccess>
+    ensures { result ≡ guest_access layout.now command.now }
 {
     match *command {
         Command::Load { thread, slot, line }
