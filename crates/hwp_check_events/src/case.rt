@@ -9,7 +9,7 @@ use std::marker::Model;
 /// A command with its event lines, and what the report says of it, by which its lines are judged. Clauses see the command, its number, its
 /// lines, the script and the report.
 #[derive(Drop)]
-pub(crate) struct Case<'a> {
+pub(crate) struct EventCase<'a> {
     pub(crate) script: &'a Script,
     pub(crate) copies: &'a [List<Option<VSlot>>],
     pub(crate) report: &'a Traced<'a>,
@@ -20,7 +20,7 @@ pub(crate) struct Case<'a> {
     pub(crate) lines: &'a [Shown],
 }
 
-impl<'a> Model for Case<'a> {
+impl<'a> Model for EventCase<'a> {
     ghost use Rattle.hwp_check_events.specs.Cases.{CaseValue, IsCase};
 
     ghost Value = { CaseValue };
@@ -30,7 +30,7 @@ impl<'a> Model for Case<'a> {
     ghost invariant = { λ c. IsCase c.script.now c.copies.now c.report.now c.who c.command.now c.known c.copied.now };
 }
 
-impl<'a> Case<'a> {
+impl<'a> EventCase<'a> {
     /// The command. The frames of a scrub are in order.
     pub(crate) fn command(&self) -> &Command
         ensures command { result.now ≡ self.now.command }

@@ -3,7 +3,7 @@ ghost use Rattle.hwp_check_acting.specs.Scripts.{IsDeclared};
 ghost use Rattle.hwp_check_events.specs.Cases.{IsCaseAt, IsOfScript};
 ghost use Rattle.hwp_check_events.specs.Indexed.{all_checkers};
 
-use crate::case::Case;
+use crate::case::EventCase;
 use crate::checks::checks_by_command;
 use crate::copied::{copied_of, list_at};
 use crate::index::{answers_by_command, events_by_command};
@@ -95,7 +95,7 @@ impl<'a> IndexedProcessor<'a> {
     }
 
     /// Its command with the number.
-    pub(crate) fn case<'b>(&'b self, number: usize) -> Case<'b>
+    pub(crate) fn case<'b>(&'b self, number: usize) -> EventCase<'b>
         requires { number < length self.now.commands }
         ensures { IsCaseAt self.now number result }
     {
@@ -105,7 +105,7 @@ impl<'a> IndexedProcessor<'a> {
             checks: self.checks[number],
             answer: self.answers[number],
         };
-        Case {
+        EventCase {
             script: self.script,
             copies: self.copies,
             report: self.report,

@@ -10,7 +10,7 @@ ghost use Rattle.hwp_check_events.specs.Copied.{copied_by};
 ghost use Rattle.hwp_check_events.specs.Judged.{IsAccessJudged, IsJudged, IsRaiseJudged, IsScrubJudged, IsTable};
 ghost use Rattle.hwp_check_events.specs.Misfits.{is_scrubbed, logged_if};
 
-use crate::case::Case;
+use crate::case::EventCase;
 use crate::faults::{access_faults, any, raise_faults};
 use crate::known::Checks;
 use hwp_banks::{Bank, Event, Origin, Status};
@@ -69,7 +69,7 @@ fn none_asked(lines: &[Shown]) -> Faults
 }
 
 /// What is wrong about the lines of an access, by what the report says of it.
-fn judge_access(case: &Case<'_>, origin: Origin, at: Line, raw: &mut Bank) -> Faults
+fn judge_access(case: &EventCase<'_>, origin: Origin, at: Line, raw: &mut Bank) -> Faults
     requires access { of_access origin ≡ true }
     ensures { IsAccessJudged case.now.script case.now.report case.now.who (arrival_of case.now.command) origin (access_lines case.now.report case.now.who at) raw.old raw.new (shown_lines case.now.lines) result }
 {
@@ -88,7 +88,7 @@ fn judge_access(case: &Case<'_>, origin: Origin, at: Line, raw: &mut Bank) -> Fa
 }
 
 /// What is wrong about the lines of a store that copied a page, and met machine checks there.
-fn judge_copy(case: &Case<'_>, at: Line, raw: &mut Bank) -> Faults
+fn judge_copy(case: &EventCase<'_>, at: Line, raw: &mut Bank) -> Faults
     ensures { IsAccessJudged case.now.script case.now.report case.now.who (arrival_of case.now.command) Access (copied_by case.now.script.layout (copies_in case.now.copies) case.now.report case.now.who case.now.command) raw.old raw.new (shown_lines case.now.lines) result }
 {
     let how = arrival_of(case.command);
@@ -106,14 +106,14 @@ fn judge_copy(case: &Case<'_>, at: Line, raw: &mut Bank) -> Faults
 }
 
 /// Whether the command copied a page.
-fn has_copied(case: &Case<'_>) -> bool
+fn has_copied(case: &EventCase<'_>) -> bool
     ensures { result ≡ is_some (copies_in case.now.copies case.now.who) }
 {
     copy_of(case.copies, case.who).is_some()
 }
 
 /// What is wrong about the lines of a store, which met machine checks in the page that it copied, if it copied one.
-fn judge_store(case: &Case<'_>, at: Line, raw: &mut Bank) -> Faults
+fn judge_store(case: &EventCase<'_>, at: Line, raw: &mut Bank) -> Faults
     ensures { IsAccessJudged case.now.script case.now.report case.now.who (arrival_of case.now.command) Access (cond (is_some (copies_in case.now.copies case.now.who)) (copied_by case.now.script.layout (copies_in case.now.copies) case.now.report case.now.who case.now.command) (access_lines case.now.report case.now.who at)) raw.old raw.new (shown_lines case.now.lines) result }
 {
     if has_copied(case) {
@@ -124,7 +124,7 @@ fn judge_store(case: &Case<'_>, at: Line, raw: &mut Bank) -> Faults
 }
 
 /// What is wrong about the lines of a scrub, by what the report says of it.
-fn judge_scrub(case: &Case<'_>, first: Frame, last: Frame, table: &[u8], raw: &mut Bank) -> Faults
+fn judge_scrub(case: &EventCase<'_>, first: Frame, last: Frame, table: &[u8], raw: &mut Bank) -> Faults
     requires table { IsTable case.now.script case.now.who table.now }
     requires fit { first.0 ≤ last.0 }
     ensures { IsScrubJudged case.now.script case.now.report case.now.who (arrival_of case.now.command) first last raw.old raw.new (shown_lines case.now.lines) result }
@@ -146,7 +146,7 @@ fn judge_scrub(case: &Case<'_>, first: Frame, last: Frame, table: &[u8], raw: &m
 }
 
 /// What is wrong about the lines of a raise, by its answer.
-fn judge_raise(case: &Case<'_>, raw: &mut Bank) -> Faults
+fn judge_raise(case: &EventCase<'_>, raw: &mut Bank) -> Faults
     ensures { IsRaiseJudged case.now.script case.now.report case.now.who (arrival_of case.now.command) raw.old raw.new (shown_lines case.now.lines) result }
 {
     let how = arrival_of(case.command);
@@ -163,7 +163,7 @@ fn judge_raise(case: &Case<'_>, raw: &mut Bank) -> Faults
 }
 
 /// What is wrong about the lines of a command that logs an event, which has none. The event is in the bank where the command was done.
-fn judge_log(case: &Case<'_>, event: Event, raw: &mut Bank) -> Faults
+fn judge_log(case: &EventCase<'_>, event: Event, raw: &mut Bank) -> Faults
     ensures scanned { IsScanned (λ number line. ⊥) (shown_lines case.now.lines) result.wrong }
     ensures lacks { result.lacks ≡ false }
     ensures left { raw.new ≡ logged_if (answer_of case.now.report case.now.who) event raw.old }
@@ -173,7 +173,7 @@ fn judge_log(case: &Case<'_>, event: Event, raw: &mut Bank) -> Faults
 }
 
 /// What is wrong about the event lines of a command, where bank 1 holds this; bank 1 is left as the command leaves it.
-pub(crate) fn command_faults(case: &Case<'_>, table: &[u8], raw: &mut Bank) -> Faults
+pub(crate) fn command_faults(case: &EventCase<'_>, table: &[u8], raw: &mut Bank) -> Faults
     requires table { IsTable case.now.script case.now.who table.now }
     ensures { IsJudged case.now.script (copies_in case.now.copies) case.now.report case.now.who case.now.command raw.old raw.new (shown_lines case.now.lines) result }
 {

@@ -21,22 +21,22 @@ use Rattle.hwp_check_rules.specs.hwp_script_read.declared.Command.{Command}
 use Rattle.hwp_check_rules.specs.hwp_report_text.declared.Answer.{Answer}
 use Rattle.hwp_check_rules.specs.hwp_report_text.declared.Answer.TheVariants as answers
 use Rattle.hwp_check_rules.specs.hwp_law_commands.declared.GuestAccess.{GuestAccess}
-use Rattle.hwp_check_rules.specs.hwp_law_commands.Guests.{denial, denied, guest_access, guest_after, guest_met, guest_of, new_guest}
-use Rattle.hwp_check_guests.specs.Admission.{AreAdmissions, admission_of, is_spoil, is_spoil_by, is_spoil_in, is_stop, is_stop_by, is_stop_in, met_by}
+use Rattle.hwp_check_rules.specs.hwp_law_commands.Guests.{denial, denied, guest_access, guest_after, guest_taken, guest_of, new_guest}
+use Rattle.hwp_check_guests.specs.Admission.{AreAdmissions, admission_of, is_spoil, is_spoil_by, is_spoil_in, is_stop, is_stop_by, is_stop_in, sigbus_by}
 
 -- ---- a command and its answer, as they were read
 
-pub met_none : (layout : Layout) (process : Proc) (p : Command × Answer) → None ≡ met_by layout p → false ≡ is_stop layout process p
-met_none layout process p is = ap (λ (o : Option GuestAccess). option_map_or (is_stop_by process) o false) is
+pub sigbus_none : (layout : Layout) (process : Proc) (p : Command × Answer) → None ≡ sigbus_by layout p → false ≡ is_stop layout process p
+sigbus_none layout process p is = ap (λ (o : Option GuestAccess). option_map_or (is_stop_by process) o false) is
 
-pub met_stop : (layout : Layout) (process : Proc) (p : Command × Answer) (a : GuestAccess) (b : Bool) → Some a ≡ met_by layout p → b ≡ is_stop_by process a → b ≡ is_stop layout process p
-met_stop layout process p a b is told = told ∙ ap (λ (o : Option GuestAccess). option_map_or (is_stop_by process) o false) is
+pub sigbus_stop : (layout : Layout) (process : Proc) (p : Command × Answer) (a : GuestAccess) (b : Bool) → Some a ≡ sigbus_by layout p → b ≡ is_stop_by process a → b ≡ is_stop layout process p
+sigbus_stop layout process p a b is told = told ∙ ap (λ (o : Option GuestAccess). option_map_or (is_stop_by process) o false) is
 
-pub spoilt_none : (layout : Layout) (process : Proc) (slot : VSlot) (p : Command × Answer) → None ≡ met_by layout p → false ≡ is_spoil layout process slot p
+pub spoilt_none : (layout : Layout) (process : Proc) (slot : VSlot) (p : Command × Answer) → None ≡ sigbus_by layout p → false ≡ is_spoil layout process slot p
 spoilt_none layout process slot p is = ap (λ (o : Option GuestAccess). option_map_or (is_spoil_by process slot) o false) is
 
-pub met_spoil : (layout : Layout) (process : Proc) (slot : VSlot) (p : Command × Answer) (a : GuestAccess) (b : Bool) → Some a ≡ met_by layout p → b ≡ is_spoil_by process slot a → b ≡ is_spoil layout process slot p
-met_spoil layout process slot p a b is told = told ∙ ap (λ (o : Option GuestAccess). option_map_or (is_spoil_by process slot) o false) is
+pub sigbus_spoil : (layout : Layout) (process : Proc) (slot : VSlot) (p : Command × Answer) (a : GuestAccess) (b : Bool) → Some a ≡ sigbus_by layout p → b ≡ is_spoil_by process slot a → b ≡ is_spoil layout process slot p
+sigbus_spoil layout process slot p a b is told = told ∙ ap (λ (o : Option GuestAccess). option_map_or (is_spoil_by process slot) o false) is
 
 -- ---- what the earlier commands made of the guest
 
@@ -71,21 +71,21 @@ module _ (layout : Layout) (process : Proc) where
   none-stops false modes.User = refl
   none-stops false modes.Kernel = refl
 
-  met-stops : (g : GuestState) (o : Option GuestAccess) → (option_map_or (guest_met process g) o g).stopped ≡ g.stopped || option_map_or (is_stop_by process) o false
-  met-stops g None = by g.stopped
+  sigbus-stops : (g : GuestState) (o : Option GuestAccess) → (option_map_or (guest_taken process g) o g).stopped ≡ g.stopped || option_map_or (is_stop_by process) o false
+  sigbus-stops g None = by g.stopped
     where
       by : (b : Bool) → b ≡ b || false
       by true = refl
       by false = refl
-  met-stops g (Some a) = by (a.process.0 == process.0)
+  sigbus-stops g (Some a) = by (a.process.0 == process.0)
     where
       by : (own : Bool) → (if own then after a.mode a.slot.0 g else g).stopped ≡ g.stopped || is_stop_in a.mode own
       by true = mode-stops g a.mode a.slot.0
       by false = none-stops g.stopped a.mode
 
   step-stops : (g : GuestState) (c : Command) (a : Answer) → (guest_after layout process g c a).stopped ≡ g.stopped || is_stop layout process (c, a)
-  step-stops g c (answers.Sigbus at) = met-stops g (guest_access layout c)
-  step-stops g c a = met-stops g None
+  step-stops g c (answers.Sigbus at) = sigbus-stops g (guest_access layout c)
+  step-stops g c a = sigbus-stops g None
 
   stops-from : (g : GuestState) (earlier : List (Command × Answer)) → (fold (λ (guest : GuestState) (p : Command × Answer). guest_after layout process guest p.0 p.1) g earlier).stopped ≡ g.stopped || list_any (is_stop layout process) earlier
   stops-from g [] = by g.stopped
@@ -114,17 +114,17 @@ module _ (layout : Layout) (process : Proc) where
         ∙ or-turned (frame == slot.0) (set.contains g.bad slot.0)
     mode-spoils g modes.Kernel frame = none-more (set.contains g.bad slot.0)
 
-    met-spoils : (g : GuestState) (o : Option GuestAccess) → set.contains (option_map_or (guest_met process g) o g).bad slot.0 ≡ set.contains g.bad slot.0 || option_map_or (is_spoil_by process slot) o false
-    met-spoils g None = none-more (set.contains g.bad slot.0)
-    met-spoils g (Some a) = by (a.process.0 == process.0)
+    sigbus-spoils : (g : GuestState) (o : Option GuestAccess) → set.contains (option_map_or (guest_taken process g) o g).bad slot.0 ≡ set.contains g.bad slot.0 || option_map_or (is_spoil_by process slot) o false
+    sigbus-spoils g None = none-more (set.contains g.bad slot.0)
+    sigbus-spoils g (Some a) = by (a.process.0 == process.0)
       where
         by : (own : Bool) → set.contains (if own then after a.mode a.slot.0 g else g).bad slot.0 ≡ set.contains g.bad slot.0 || is_spoil_in a.mode (own && (a.slot.0 == slot.0))
         by true = mode-spoils g a.mode a.slot.0
         by false = other-mode (set.contains g.bad slot.0) a.mode
 
     step-spoils : (g : GuestState) (c : Command) (a : Answer) → set.contains (guest_after layout process g c a).bad slot.0 ≡ set.contains g.bad slot.0 || is_spoil layout process slot (c, a)
-    step-spoils g c (answers.Sigbus at) = met-spoils g (guest_access layout c)
-    step-spoils g c a = met-spoils g None
+    step-spoils g c (answers.Sigbus at) = sigbus-spoils g (guest_access layout c)
+    step-spoils g c a = sigbus-spoils g None
 
     spoils-from : (g : GuestState) (earlier : List (Command × Answer)) → set.contains (fold (λ (guest : GuestState) (p : Command × Answer). guest_after layout process guest p.0 p.1) g earlier).bad slot.0
         ≡ set.contains g.bad slot.0 || list_any (is_spoil layout process slot) earlier

@@ -16,9 +16,9 @@ use Rattle.hwp_check_rules.specs.hwp_law_commands.declared.GuestAccess.{GuestAcc
 use Rattle.hwp_check_rules.specs.hwp_law_commands.Guests.{denial, denied, guest_access, guest_of}
 
 -- the access of a command with this answer, where it was one of a guest that SIGBUS answered
-abbrev pub met_by : Layout → Command × Answer → Option GuestAccess
-met_by layout (command, answers.Sigbus at) = guest_access layout command
-met_by layout p = None
+abbrev pub sigbus_by : Layout → Command × Answer → Option GuestAccess
+sigbus_by layout (command, answers.Sigbus at) = guest_access layout command
+sigbus_by layout p = None
 
 -- the access is one of the guest in kernel mode, or one through the translation in user mode
 abbrev pub is_stop_in : Mode → Bool → Bool
@@ -37,10 +37,10 @@ is_spoil_by process slot a = is_spoil_in a.mode ((a.process.0 == process.0) && (
 
 -- a command with this answer stopped the guest, or made this frame of it bad
 abbrev pub is_stop : Layout → Proc → Command × Answer → Bool
-is_stop layout process p = option_map_or (is_stop_by process) (met_by layout p) false
+is_stop layout process p = option_map_or (is_stop_by process) (sigbus_by layout p) false
 
 abbrev pub is_spoil : Layout → Proc → VSlot → Command × Answer → Bool
-is_spoil layout process slot p = option_map_or (is_spoil_by process slot) (met_by layout p) false
+is_spoil layout process slot p = option_map_or (is_spoil_by process slot) (sigbus_by layout p) false
 
 -- whether the guest admits the access
 abbrev pub admission_of : Layout → List (Command × Answer) → GuestAccess → Admit

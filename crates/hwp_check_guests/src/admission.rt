@@ -1,7 +1,7 @@
 ghost use Rattle.std.specs.Prelude.{◌≡◌, IfOk, length, take};
 ghost use Rattle.std.specs.List.{list_any};
 ghost use Rattle.hwp_check_rules.specs.hwp_law_commands.Guests.{denial, denied};
-ghost use Rattle.hwp_check_guests.specs.Admission.{AreAdmissions, admission_of, is_spoil, is_spoil_by, is_stop, is_stop_by, met_by};
+ghost use Rattle.hwp_check_guests.specs.Admission.{AreAdmissions, admission_of, is_spoil, is_spoil_by, is_stop, is_stop_by, sigbus_by};
 
 use hwp_check_rules::{
     Admit, Answer, Command, GuestAccess, Layout, Mode, OutOfMemory, Proc, VSlot, guest_access,
@@ -9,8 +9,8 @@ use hwp_check_rules::{
 use std::alloc::Global;
 
 /// The access of a command with this answer, where it was one of a guest that SIGBUS answered.
-fn met_by(layout: &Layout, pair: &(Command, Answer)) -> Option<GuestAccess>
-    ensures { result ≡ met_by layout.now pair.now }
+fn sigbus_by(layout: &Layout, pair: &(Command, Answer)) -> Option<GuestAccess>
+    ensures { result ≡ sigbus_by layout.now pair.now }
 {
     match pair.1 {
         Answer::Sigbus(_) => guest_access(layout, &pair.0),
@@ -39,22 +39,22 @@ fn is_spoil_by(process: Proc, slot: VSlot, access: &GuestAccess) -> bool
 }
 
 /// Whether a command with this answer stopped the guest.
-#[tactic(auto, using(crate::proofs::AdmissionLaws::met_none, crate::proofs::AdmissionLaws::met_stop))]
+#[tactic(auto, using(crate::proofs::AdmissionLaws::sigbus_none, crate::proofs::AdmissionLaws::sigbus_stop))]
 fn is_stop(layout: &Layout, process: Proc, pair: &(Command, Answer)) -> bool
     ensures { result ≡ is_stop layout.now process pair.now }
 {
-    match met_by(layout, pair) {
+    match sigbus_by(layout, pair) {
         Some(access) => is_stop_by(process, &access),
         None => false,
     }
 }
 
 /// Whether it made this frame of the guest bad.
-#[tactic(auto, using(crate::proofs::AdmissionLaws::spoilt_none, crate::proofs::AdmissionLaws::met_spoil))]
+#[tactic(auto, using(crate::proofs::AdmissionLaws::spoilt_none, crate::proofs::AdmissionLaws::sigbus_spoil))]
 fn is_spoil(layout: &Layout, process: Proc, slot: VSlot, pair: &(Command, Answer)) -> bool
     ensures { result ≡ is_spoil layout.now process slot pair.now }
 {
-    match met_by(layout, pair) {
+    match sigbus_by(layout, pair) {
         Some(access) => is_spoil_by(process, slot, &access),
         None => false,
     }

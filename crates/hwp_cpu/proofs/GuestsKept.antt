@@ -24,7 +24,7 @@ use Rattle.hwp_cpu_course.specs.hwp_cpu_row.CowLists.{acting_in, copied_in}
 use Rattle.hwp_cpu_course.specs.hwp_cpu_row.GuestLists as lists
 use Rattle.hwp_cpu_course.specs.hwp_cpu_row.GuestLists.{AreGuestsOf, MayTell, States, admission_in, first_guests, line_in}
 use Rattle.hwp_cpu_course.specs.hwp_cpu_row.Locals.{IsFirst, collects}
-use Rattle.hwp_cpu_course.proofs.of_hwp_cpu_row.GuestListLaws.{denied-known, first-are, first-known, may-meet, may-tell, told-are, told-known}
+use Rattle.hwp_cpu_course.proofs.of_hwp_cpu_row.GuestListLaws.{denied-known, first-are, first-known, may-take, may-tell, told-are, told-known}
 use Rattle.hwp_cpu_course.specs.hwp_cpu_command.declared.job.Job.{Job}
 use Rattle.hwp_cpu_course.specs.hwp_cpu_command.Jobs as jobs
 use Rattle.hwp_cpu_course.specs.hwp_cpu_command.Jobs.{denial_of}
@@ -98,7 +98,7 @@ admitted-now layout view cpu list rows guests c j sound commands alike kept = wh
   where
     which : (o : Option Command) → slice_get list (length rows) ≡ o → IsAsked layout (answers_by list rows) o (Some c) → IsAdmitted layout o guests j
     which None there is = absurd is
-    which (Some own) there is = λ none. may-meet layout cpu.0 guests own sound.trans kept.are (at-least (IsCommandOf layout cpu.0) list (length rows) own commands.named there)
+    which (Some own) there is = λ none. may-take layout cpu.0 guests own sound.trans kept.are (at-least (IsCommandOf layout cpu.0) list (length rows) own commands.named there)
         (denied-known layout (answers_by list rows) guests own kept.known ∙ sym is ∙ sym alike ∙ none)
 
 -- so it can where it is answered, by a turn

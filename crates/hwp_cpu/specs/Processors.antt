@@ -29,7 +29,7 @@ use Rattle.hwp_cpu_course.specs.Courses.{BeginsCourse, local_after, local_left, 
 use Rattle.hwp_cpu_course.specs.hwp_cpu_row.declared.Local.{Local}
 use Rattle.hwp_cpu_course.specs.hwp_cpu_row.CowLists.{acting_in, copied_in, told_in}
 use Rattle.hwp_cpu_course.specs.hwp_cpu_row.GuestLists as guests
-use Rattle.hwp_cpu_course.specs.hwp_cpu_row.GuestLists.{MayMeet, MayTell, States, admission_in, line_in}
+use Rattle.hwp_cpu_course.specs.hwp_cpu_row.GuestLists.{MayTake, MayTell, States, admission_in, line_in}
 use Rattle.hwp_cpu_course.specs.hwp_cpu_row.Locals.{IsFirst}
 use Rattle.hwp_cpu_course.specs.hwp_cpu_row.declared.Row.{Row}
 use Rattle.hwp_cpu_course.specs.hwp_cpu_row.hwp_report_text.declared.GuestLine.{GuestLine}
@@ -147,7 +147,7 @@ cost p words = command_weight * (length p.commands - length p.rows.items) + cost
 abbrev pub command_now : Processor → Option Command
 command_now p = slice_get p.commands (length p.rows.items)
 
--- where it is answered so, its access can meet a bad line as one of a guest
+-- where it is answered so, its access can be one that a guest is told of
 abbrev pub MayTellOf : Layout → Option Command → Answer → States → Type 0
 MayTellOf layout None answer guests = Unit {0}
 MayTellOf layout (Some command) answer guests = MayTell layout guests command answer
@@ -155,7 +155,7 @@ MayTellOf layout (Some command) answer guests = MayTell layout guests command an
 -- so it is of any answer, unless its guest doesn't admit it
 abbrev pub IsAdmitted : Layout → Option Command → States → Job → Type 0
 IsAdmitted layout None guests j = Unit {0}
-IsAdmitted layout (Some command) guests j = jobs.denial_of j ≡ None → MayMeet layout guests command
+IsAdmitted layout (Some command) guests j = jobs.denial_of j ≡ None → MayTake layout guests command
 
 -- what the command shows, where there is a command that can be answered and ended
 abbrev pub ShowsOf : Processor → Option Course → ℕ → Option BodyValue → Type 0

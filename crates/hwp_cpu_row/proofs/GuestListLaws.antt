@@ -28,8 +28,8 @@ use Rattle.hwp_cpu_check.specs.hwp_guest.GuestState.{GuestState, admitted, after
 use Rattle.hwp_cpu_check.specs.hwp_law_commands.Commands as access
 use Rattle.hwp_cpu_check.specs.hwp_law_commands.Commands.{access_of, arrival_of, process_of_thread}
 use Rattle.hwp_cpu_check.specs.hwp_law_commands.declared.GuestAccess.{GuestAccess}
-use Rattle.hwp_cpu_check.specs.hwp_law_commands.Guests.{denial, denied, guest_access, guest_after, guest_met, guest_of, kind_of, new_guest}
-use Rattle.hwp_cpu_row.specs.GuestLists.{AreGuestsOf, KnowsGuests, MayMeet, MayTell, admission_in, first_guests, guest_in, met_in, told_in}
+use Rattle.hwp_cpu_check.specs.hwp_law_commands.Guests.{denial, denied, guest_access, guest_after, guest_taken, guest_of, kind_of, new_guest}
+use Rattle.hwp_cpu_row.specs.GuestLists.{AreGuestsOf, KnowsGuests, MayTake, MayTell, admission_in, first_guests, guest_in, taken_in, told_in}
 
 -- ---- at first
 
@@ -101,21 +101,21 @@ guest-more : (layout : Layout) (earlier : List (Command × Answer)) (command : C
     → guest_of layout (earlier ++ (command, answer) ∷ []) process ≡ guest_after layout process (guest_of layout earlier process) command answer
 guest-more layout earlier command answer process = fold-append (λ (g : GuestState) (p : Command × Answer). guest_after layout process g p.0 p.1) new_guest earlier ((command, answer) ∷ [])
 
-length-met : (guests : List GuestState) (o : Option GuestAccess) → length (option_map_or (met_in guests) o guests) ≡ length guests
-length-met guests None = refl
-length-met guests (Some a) = length-set guests a.process.0 (after a.mode a.slot.0 (guest_in guests a.process))
+length-taken : (guests : List GuestState) (o : Option GuestAccess) → length (option_map_or (taken_in guests) o guests) ≡ length guests
+length-taken guests None = refl
+length-taken guests (Some a) = length-set guests a.process.0 (after a.mode a.slot.0 (guest_in guests a.process))
 
 told-length : (layout : Layout) (command : Command) (answer : Answer) (guests : List GuestState) → length (told_in layout command answer guests) ≡ length guests
-told-length layout command (answers.Sigbus at) guests = length-met guests (guest_access layout command)
+told-length layout command (answers.Sigbus at) guests = length-taken guests (guest_access layout command)
 told-length layout command answer guests = refl
 
 pub told-are : (layout : Layout) (command : Command) (answer : Answer) (guests : List GuestState) → AreGuestsOf layout guests → AreGuestsOf layout (told_in layout command answer guests)
 told-are layout command answer guests are = λ process is. let long = told-length layout command answer guests in let within = are process is in omega (arith, long, within)
 
-met-is : (guests : List GuestState) (a : GuestAccess) (process : Proc) → process.0 < length guests → guest_in (met_in guests a) process ≡ guest_met process (guest_in guests process) a
-met-is guests a process within = elim (cases_eq process.0 a.process.0) [
+taken-is : (guests : List GuestState) (a : GuestAccess) (process : Proc) → process.0 < length guests → guest_in (taken_in guests a) process ≡ guest_taken process (guest_in guests process) a
+taken-is guests a process within = elim (cases_eq process.0 a.process.0) [
   | inl same ↦
-      subst (λ (n : ℕ). get_or (set guests n (after a.mode a.slot.0 (get_or guests n new_guest))) process.0 new_guest ≡ guest_met process (guest_in guests process) a) same
+      subst (λ (n : ℕ). get_or (set guests n (after a.mode a.slot.0 (get_or guests n new_guest))) process.0 new_guest ≡ guest_taken process (guest_in guests process) a) same
       (get_or-set_same guests process.0 (after a.mode a.slot.0 (guest_in guests process)) new_guest within
       ∙ sym (ap (λ (b : Bool). if b then after a.mode a.slot.0 (guest_in guests process) else guest_in guests process) (eq-eqb a.process.0 process.0 (sym same))))
   | inr apart ↦
@@ -127,9 +127,9 @@ told-is : (layout : Layout) (command : Command) (answer : Answer) (guests : List
     → guest_in (told_in layout command answer guests) process ≡ guest_after layout process (guest_in guests process) command answer
 told-is layout command (answers.Sigbus at) guests process within = which (guest_access layout command)
   where
-    which : (o : Option GuestAccess) → guest_in (option_map_or (met_in guests) o guests) process ≡ option_map_or (guest_met process (guest_in guests process)) o (guest_in guests process)
+    which : (o : Option GuestAccess) → guest_in (option_map_or (taken_in guests) o guests) process ≡ option_map_or (guest_taken process (guest_in guests process)) o (guest_in guests process)
     which None = refl
-    which (Some a) = met-is guests a process within
+    which (Some a) = taken-is guests a process within
 told-is layout command answer guests process within = refl
 
 pub told-known : (layout : Layout) (earlier : List (Command × Answer)) (command : Command) (answer : Answer) (guests : List GuestState) → AreGuestsOf layout guests → KnowsGuests layout earlier guests
@@ -185,9 +185,9 @@ admits admissions.Stopped none = absurd (none-some _ (sym none))
 pub admitted-none : (layout : Layout) (guests : List GuestState) (command : Command) → guest_access layout command ≡ None → admission_in layout guests command ≡ admissions.Yes
 admitted-none layout guests command none = ap (λ (o : Option GuestAccess). option_map_or (λ (a : GuestAccess). admitted (guest_in guests a.process) a.slot.0) o admissions.Yes) none
 
--- one that isn't denied can meet a bad line
-pub may-meet : (layout : Layout) (cpu : ℕ) (guests : List GuestState) (command : Command) → length layout.trans ≤ translation_limit → AreGuestsOf layout guests → IsCommandOf layout cpu command → denial (admission_in layout guests command) ≡ None → MayMeet layout guests command
-may-meet layout cpu guests command few are of none a is = record {
+-- one that isn't denied can be answered by SIGBUS
+pub may-take : (layout : Layout) (cpu : ℕ) (guests : List GuestState) (command : Command) → length layout.trans ≤ translation_limit → AreGuestsOf layout guests → IsCommandOf layout cpu command → denial (admission_in layout guests command) ≡ None → MayTake layout guests command
+may-take layout cpu guests command few are of none a is = record {
   there = are a.process (of-guest layout command a is);
   admitted_is = admits (admitted (guest_in guests a.process) a.slot.0) (sym (ap (λ (o : Option GuestAccess). denial (option_map_or (λ (x : GuestAccess). admitted (guest_in guests x.process) x.slot.0) o admissions.Yes)) is) ∙ none);
   within =
@@ -197,6 +197,6 @@ may-meet layout cpu guests command few are of none a is = record {
 }
 
 -- whatever it is answered
-pub may-tell : (layout : Layout) (guests : List GuestState) (command : Command) (answer : Answer) → MayMeet layout guests command → MayTell layout guests command answer
+pub may-tell : (layout : Layout) (guests : List GuestState) (command : Command) (answer : Answer) → MayTake layout guests command → MayTell layout guests command answer
 may-tell layout guests command (answers.Sigbus at) may = may
 may-tell layout guests command answer may = tt

@@ -43,26 +43,26 @@ abbrev pub admission_in : Layout → List GuestState → Command → Admit
 admission_in layout guests command = option_map_or (λ (a : GuestAccess). admitted (guest_in guests a.process) a.slot.0) (guest_access layout command) admissions.Yes
 
 -- a guest can be told of this access: the list holds it, it admits the access, and the guest frame is one that there can be
-pub record CanMeet (guests : List GuestState) (a : GuestAccess) : Type 0 where
+pub record CanTake (guests : List GuestState) (a : GuestAccess) : Type 0 where
   pub there : a.process.0 < length guests
   pub admitted_is : admitted (guest_in guests a.process) a.slot.0 ≡ admissions.Yes
   pub within : a.slot.0 < translation_limit
 
 -- the guest can be told of the command's access, if it is one of a guest
-abbrev pub MayMeet : Layout → List GuestState → Command → Type 0
-MayMeet layout guests command = (a : GuestAccess) → guest_access layout command ≡ Some a → CanMeet guests a
+abbrev pub MayTake : Layout → List GuestState → Command → Type 0
+MayTake layout guests command = (a : GuestAccess) → guest_access layout command ≡ Some a → CanTake guests a
 
 -- the guest is told only of one that is answered by SIGBUS
 abbrev pub MayTell : Layout → List GuestState → Command → Answer → Type 0
-MayTell layout guests command (answers.Sigbus at) = MayMeet layout guests command
+MayTell layout guests command (answers.Sigbus at) = MayTake layout guests command
 MayTell layout guests command answer = Unit {0}
 
-abbrev pub met_in : List GuestState → GuestAccess → List GuestState
-met_in guests a = slice_set guests a.process.0 (after a.mode a.slot.0 (guest_in guests a.process))
+abbrev pub taken_in : List GuestState → GuestAccess → List GuestState
+taken_in guests a = slice_set guests a.process.0 (after a.mode a.slot.0 (guest_in guests a.process))
 
 -- the list after the command was answered so: an access of a guest that was answered by SIGBUS is a machine check of the guest
 abbrev pub told_in : Layout → Command → Answer → List GuestState → List GuestState
-told_in layout command (answers.Sigbus at) guests = option_map_or (met_in guests) (guest_access layout command) guests
+told_in layout command (answers.Sigbus at) guests = option_map_or (taken_in guests) (guest_access layout command) guests
 told_in layout command answer guests = guests
 
 -- the guest's line of the command

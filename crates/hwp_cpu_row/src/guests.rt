@@ -2,7 +2,7 @@ ghost use Rattle.std.specs.Prelude.{◌≡◌, false, None, Some, replicate, IfO
 ghost use Rattle.hwp_cpu_check.specs.hwp_guest.GuestState.{admitted};
 ghost use Rattle.hwp_cpu_check.specs.hwp_law_commands.Guests.{guest_line, new_guest, stops};
 ghost use Rattle.hwp_cpu_check.specs.hwp_geom.Layout.{has_guests};
-ghost use Rattle.hwp_cpu_row.specs.GuestLists.{CanMeet, MayTell, admission_in, first_guests, guest_in, line_in, met_in, told_in};
+ghost use Rattle.hwp_cpu_row.specs.GuestLists.{CanTake, MayTell, admission_in, first_guests, guest_in, line_in, taken_in, told_in};
 
 use hwp_cpu_check::{
     Admit, Answer, Command, Guest, GuestAccess, GuestLine, Layout, OutOfMemory, Proc, Taken, VSlot,
@@ -87,14 +87,14 @@ impl Guests {
         let Some(access) = guest_access(layout, command) else {
             return None;
         };
-        Some(self.meet(seq, access))
+        Some(self.take(seq, access))
     }
 
     /// A guest's machine check for this access, which was answered by SIGBUS.
-    fn meet(&mut self, seq: u32, access: GuestAccess) -> GuestLine
-        requires { CanMeet self.old access }
+    fn take(&mut self, seq: u32, access: GuestAccess) -> GuestLine
+        requires { CanTake self.old access }
         ensures line { result ≡ guest_line seq access }
-        ensures state { self.new ≡ met_in self.old access }
+        ensures state { self.new ≡ taken_in self.old access }
     {
         let guest = &mut self.guests[usize::from(access.process.0)];
         let (event, grade, taken) = guest.take(access.slot, access.line, access.kind, access.mode);

@@ -14,8 +14,8 @@ use Rattle.hwp_law_commands.specs.Cows.{acting, copied_from}
 use Rattle.hwp_law.specs.Lines.{answers_to}
 use Rattle.hwp_law.specs.Policies.{answered_before}
 
--- the commands of a list with these answers, behind earlier ones. A report is judged with an answer to each command; of a processor that
--- runs there are fewer, and a command behind the last answer is acted on as the first there
+-- the commands of a list with these answers, behind earlier ones. A report is judged with an answer to each command. A processor that
+-- runs has fewer answers than commands, and each command after the last answer is acted on as if it came right after that answer
 abbrev pub acting_from : Layout → List (Command × Answer) → List Command → List Answer → List Command
 acting_from layout earlier [] answers = []
 acting_from layout earlier (command ∷ commands) [] = acting layout earlier command ∷ acting_from layout earlier commands []

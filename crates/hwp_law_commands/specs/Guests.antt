@@ -54,12 +54,12 @@ abbrev pub new_guest : GuestState
 new_guest = record { bad = set.empty; stopped = false }
 
 -- a guest after an access of its processor that was answered by SIGBUS, if it is its own
-abbrev pub guest_met : Proc → GuestState → GuestAccess → GuestState
-guest_met process guest a = if a.process.0 == process.0 then after a.mode a.slot.0 guest else guest
+abbrev pub guest_taken : Proc → GuestState → GuestAccess → GuestState
+guest_taken process guest a = if a.process.0 == process.0 then after a.mode a.slot.0 guest else guest
 
 -- a guest after a command of its processor with this answer: an access of it that was answered by SIGBUS is its machine check
 abbrev pub guest_after : Layout → Proc → GuestState → Command → Answer → GuestState
-guest_after layout process guest command (answers.Sigbus at) = option_map_or (guest_met process guest) (guest_access layout command) guest
+guest_after layout process guest command (answers.Sigbus at) = option_map_or (guest_taken process guest) (guest_access layout command) guest
 guest_after layout process guest command answer = guest
 
 -- a guest after some commands of its processor with their answers

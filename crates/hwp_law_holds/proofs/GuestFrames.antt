@@ -35,7 +35,7 @@ use Rattle.hwp_law_records.specs.hwp_report_text.declared.Report.{Report}
 use Rattle.hwp_law_records.specs.hwp_law_commands.Commands.{Access, access, access_of, arrival_of, command_at, has_watch, process_of_thread}
 use Rattle.hwp_law_records.specs.hwp_law_commands.Cows.{acting, copied_from, cow_of, through, twin_or, written_through}
 use Rattle.hwp_law_records.specs.hwp_law_commands.declared.GuestAccess.{GuestAccess}
-use Rattle.hwp_law_records.specs.hwp_law_commands.Guests.{denial, denied, guest_access, guest_after, guest_met, guest_of, kind_of, new_guest}
+use Rattle.hwp_law_records.specs.hwp_law_commands.Guests.{denial, denied, guest_access, guest_after, guest_taken, guest_of, kind_of, new_guest}
 use Rattle.hwp_law_records.specs.hwp_law_commands.hwp_guest.GuestState.{GuestState, admitted, after}
 use Rattle.hwp_law_records.specs.hwp_law_commands.hwp_guest.declared.Admit.TheVariants as admissions
 use Rattle.hwp_law_records.specs.hwp_law.Acting.{acting_script, copied_at}
@@ -81,7 +81,7 @@ outlives-if : (b : Bool) (g h : GuestState) → Outlives g h → Outlives g (if 
 outlives-if true g h on = on
 outlives-if false g h on = outlives-self g
 
-outlives-access : (process : Proc) (g : GuestState) (o : Option GuestAccess) → Outlives g (option_map_or (guest_met process g) o g)
+outlives-access : (process : Proc) (g : GuestState) (o : Option GuestAccess) → Outlives g (option_map_or (guest_taken process g) o g)
 outlives-access process g None = outlives-self g
 outlives-access process g (Some a) = outlives-if (a.process.0 == process.0) g (after a.mode a.slot.0 g) (outlives-after a.mode a.slot.0 g)
 
@@ -158,7 +158,7 @@ open-to layout earlier command a is none =
 -- a machine check of a guest makes the frame bad, or stops the guest
 check-after : (layout : Layout) (command : Command) (a : GuestAccess) (place : At) (g : GuestState) → guest_access layout command ≡ Some a → guest_after layout a.process g command (answers.Sigbus place) ≡ after a.mode a.slot.0 g
 check-after layout command a place g is =
-    ap (λ (o : Option GuestAccess). option_map_or (guest_met a.process g) o g) is ∙ ap (λ (b : Bool). if b then after a.mode a.slot.0 g else g) (eq-eqb a.process.0 a.process.0 refl)
+    ap (λ (o : Option GuestAccess). option_map_or (guest_taken a.process g) o g) is ∙ ap (λ (b : Bool). if b then after a.mode a.slot.0 g else g) (eq-eqb a.process.0 a.process.0 refl)
 
 after-user : (mode : Mode) (slot : ℕ) (g h : GuestState) → Outlives (after mode slot g) h → h.stopped ≡ false → set.contains h.bad slot ≡ true
 after-user User slot g h on going = on.bad slot (bad-more g.bad slot slot ∙ or_left (eq_by_cmp nat_cmp slot slot) (set.contains g.bad slot) (unsigned_tied slot slot ∙ eq-eqb slot slot refl))

@@ -3,5 +3,5 @@ use Rattle.hwp_cpu_check.specs.hwp_report_text.declared.Answer.{Answer}
 use Rattle.hwp_cpu_row.specs.GuestLists.{MayTell}
 use Rattle.hwp_cpu_row.proofs.guests.Guests.told.Goals as goal
 
-pub meet-requires : goal.meet-requires
-meet-requires c = subst (λ (a : Answer). MayTell c.args.layout.now c.args.self.now c.args.command.now a) c.in-Sigbus.is c.requires c.in-Some.access (sym c.guest_access.ensures ∙ c.in-Some.is)
+pub take-requires : goal.take-requires
+take-requires c = subst (λ (a : Answer). MayTell c.args.layout.now c.args.self.now c.args.command.now a) c.in-Sigbus.is c.requires c.in-Some.access (sym c.guest_access.ensures ∙ c.in-Some.is)
