@@ -255,8 +255,8 @@ fn begin_other(
     }
 }
 
-/// The same of a command that comes seldom. To put its task in its place whole takes some 450 instructions more than a function for its kind,
-/// which writes few fields there.
+/// The same of a command whose task is put in its place whole. That is slower than a function for each kind, which writes few fields there,
+/// and much shorter to prove.
 fn begin_rare(
     alloc: Global,
     layout: &Layout,
@@ -275,7 +275,7 @@ fn begin_rare(
     set(job, rare(alloc, layout, who, command, banks));
 }
 
-/// The task that such a command begins as.
+/// The task as which such a command begins.
 fn rare(
     alloc: Global,
     layout: &Layout,

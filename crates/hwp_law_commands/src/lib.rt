@@ -1,6 +1,6 @@
 //! What a command is apart from any report: its access, its thread and process, how its machine checks arrive, which policies it sets,
-//! and what it tells the collector of corrected errors. This crate has definitions and lemmas, which the tasks of commands cite, and so
-//! does the report law; its only code is `guest_access`, which a processor and the checker call.
+//! and what it tells the collector of corrected errors. The tasks of commands cite its definitions and lemmas, and so does the report law.
+//! Its only code is `guest_access`, which a processor and the checker call.
 #![tactic(auto)]
 
 mod guests;
