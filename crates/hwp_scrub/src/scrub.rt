@@ -111,27 +111,29 @@ impl Scrub {
     }
 
     /// What follows the stop word.
+    #[inline(always)]
     fn after_stop(&mut self, found: u64)
         ensures { self.new ≡ after_stop self.old found }
     {
-        let at = if is_stopped(found) {
-            ScrubAt::Over {
+        if is_stopped(found) {
+            self.set(ScrubAt::Over {
                 answer: Some(ScrubAnswer::Stopped),
-            }
+            });
         } else {
-            ScrubAt::LoadBad { frame: self.first }
-        };
-        self.set(at);
+            self.set(ScrubAt::LoadBad { frame: self.first });
+        }
     }
 
+    /// Where it stands in the caller, which knows the state that was there, nothing of that is read out.
+    #[inline(always)]
     fn set(&mut self, at: ScrubAt)
         ensures { self.new ≡ record self.old { at = at } }
     {
-        // in one call, and not part by part
-        drop(mem::replace(&mut self.at, at));
+        self.at = at;
     }
 
     /// What follows the word of the frame's bad lines.
+    #[inline(always)]
     fn after_bad(&mut self, layout: &Layout, frame: Frame, found: u64)
         ensures { AfterBad layout.now self.old frame found self.new }
     {
@@ -142,7 +144,8 @@ impl Scrub {
     }
 
     /// The machine check of the frame's bad line begins, which leaves the banks empty. Where there is no room for its lines the
-    /// command is given up.
+    /// command is given up. It stands outside `settle`, so that the other steps need no room for a machine check.
+    #[inline(never)]
     fn check(&mut self, layout: &Layout, frame: Frame, line: Line)
         ensures { BeginsCheck layout.now self.old frame line self.new }
     {
@@ -188,6 +191,7 @@ impl Scrub {
     }
 
     /// The machine check is over, and what it told is taken over.
+    #[inline(never)]
     fn after_check(&mut self, frame: Frame, stopped: bool)
         ensures { self.new ≡ checked self.old frame stopped }
     {
@@ -202,6 +206,7 @@ impl Scrub {
     }
 
     /// What follows the word of the frame's weak lines.
+    #[inline(always)]
     fn after_weak(&mut self, frame: Frame, found: u64)
         ensures { AfterWeak self.old frame found self.new }
     {
@@ -212,6 +217,7 @@ impl Scrub {
     }
 
     /// The frame's weak line is told. Where there is no room for that the command is given up.
+    #[inline(never)]
     fn meet_weak(&mut self, frame: Frame, line: Line)
         ensures { MeetsWeak self.old frame line self.new }
     {
@@ -236,19 +242,19 @@ impl Scrub {
     }
 
     /// The next frame, or the end.
+    #[inline(always)]
     fn go_on(&mut self, frame: Frame)
         ensures { self.new ≡ gone_on self.old frame }
     {
-        let at = if frame.0 < self.last.0 {
-            ScrubAt::LoadBad {
+        if frame.0 < self.last.0 {
+            self.set(ScrubAt::LoadBad {
                 frame: Frame(frame.0 + 1),
-            }
+            });
         } else {
-            ScrubAt::Over {
+            self.set(ScrubAt::Over {
                 answer: Some(ScrubAnswer::Scrubbed),
-            }
-        };
-        self.set(at);
+            });
+        }
     }
 }
 
@@ -317,14 +323,14 @@ impl Task for Scrub {
     fn settle(&mut self, layout: &Layout, found: u64, body: Option<Body>) -> Turn {
         match &mut self.at {
             ScrubAt::LoadStop => {
-                drop(body);
                 self.after_stop(found);
+                drop(body);
                 Turn::Moved
             }
             ScrubAt::LoadBad { frame } => {
-                drop(body);
                 let frame = *frame;
                 self.after_bad(layout, frame, found);
+                drop(body);
                 Turn::Moved
             }
             ScrubAt::Handle { frame, handler } => {
@@ -337,14 +343,14 @@ impl Task for Scrub {
                 turn
             }
             ScrubAt::LoadWeak { frame } => {
-                drop(body);
                 let frame = *frame;
                 self.after_weak(frame, found);
+                drop(body);
                 Turn::Moved
             }
             ScrubAt::GiveUp => {
-                drop(body);
                 self.set(ScrubAt::Over { answer: None });
+                drop(body);
                 Turn::NoMemory
             }
             ScrubAt::Over { .. } => {
