@@ -367,7 +367,7 @@ impl Ranked for Scrub {
         }
     }
 
-    fn ranked(&self) {}
+    fn ranked() {}
 }
 
 impl Scheduled for Scrub {
@@ -382,5 +382,5 @@ impl Scheduled for Scrub {
         }
     }
 
-    fn tells(&self) {}
+    fn tells() {}
 }
