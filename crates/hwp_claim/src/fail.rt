@@ -237,7 +237,7 @@ impl Ranked for Fail {
         }
     }
 
-    fn ranked(&self) {}
+    fn ranked() {}
 }
 
 impl Scheduled for Fail {
@@ -249,5 +249,5 @@ impl Scheduled for Fail {
         }
     }
 
-    fn tells(&self) {}
+    fn tells() {}
 }

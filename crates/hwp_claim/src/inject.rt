@@ -119,7 +119,7 @@ impl Ranked for Inject {
         }
     }
 
-    fn ranked(&self) {}
+    fn ranked() {}
 }
 
 impl Scheduled for Inject {
@@ -131,5 +131,5 @@ impl Scheduled for Inject {
         }
     }
 
-    fn tells(&self) {}
+    fn tells() {}
 }

@@ -209,5 +209,5 @@ impl Ranked for Abandon {
         }
     }
 
-    fn ranked(&self) {}
+    fn ranked() {}
 }

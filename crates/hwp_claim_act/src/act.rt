@@ -330,5 +330,5 @@ impl Ranked for Act {
         }
     }
 
-    fn ranked(&self) {}
+    fn ranked() {}
 }

@@ -141,5 +141,5 @@ impl Ranked for ReadPolicies {
         1
     }
 
-    fn ranked(&self) {}
+    fn ranked() {}
 }

@@ -381,5 +381,5 @@ impl Ranked for Claim {
         }
     }
 
-    fn ranked(&self) {}
+    fn ranked() {}
 }

@@ -147,5 +147,5 @@ impl Ranked for Grab {
         }
     }
 
-    fn ranked(&self) {}
+    fn ranked() {}
 }

@@ -469,5 +469,5 @@ impl Ranked for Meet {
         }
     }
 
-    fn ranked(&self) {}
+    fn ranked() {}
 }

@@ -127,5 +127,5 @@ impl Ranked for GiveUp {
         }
     }
 
-    fn ranked(&self) {}
+    fn ranked() {}
 }

@@ -198,5 +198,5 @@ impl Ranked for Hold {
         }
     }
 
-    fn ranked(&self) {}
+    fn ranked() {}
 }

@@ -124,5 +124,5 @@ impl Ranked for Pin {
         4
     }
 
-    fn ranked(&self) {}
+    fn ranked() {}
 }

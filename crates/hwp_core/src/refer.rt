@@ -100,5 +100,5 @@ impl Ranked for Refer {
         4
     }
 
-    fn ranked(&self) {}
+    fn ranked() {}
 }

@@ -148,5 +148,5 @@ impl Ranked for Release {
         }
     }
 
-    fn ranked(&self) {}
+    fn ranked() {}
 }

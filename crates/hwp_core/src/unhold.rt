@@ -147,5 +147,5 @@ impl Ranked for Unhold {
         }
     }
 
-    fn ranked(&self) {}
+    fn ranked() {}
 }

@@ -101,5 +101,5 @@ impl Ranked for Unlock {
         }
     }
 
-    fn ranked(&self) {}
+    fn ranked() {}
 }

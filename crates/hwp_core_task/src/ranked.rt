@@ -10,6 +10,6 @@ pub trait Ranked: Task {
         ensures { result ≡ Self.task.class self.now };
 
     /// Its clause is the law of the rank for all tasks of this type. Proof only: a call tells its clauses.
-    fn ranked(&self)
+    fn ranked()
         ensures { IsRanked Self.task };
 }

@@ -12,7 +12,7 @@ pub trait Scheduled: Ranked {
 
     /// Its clauses are of all tasks of this type: the class tells what a task holds, and each turn pays for the frames that
     /// may fail again after it. Proof only: a call tells its clauses.
-    fn tells(&self)
+    fn tells()
         ensures class { TellsClass Self.task }
         ensures pays { PaysRevival Self.task };
 }

@@ -261,7 +261,7 @@ impl Ranked for Processor {
         }
     }
 
-    fn ranked(&self) {}
+    fn ranked() {}
 }
 
 impl Scheduled for Processor {
@@ -273,5 +273,5 @@ impl Scheduled for Processor {
         }
     }
 
-    fn tells(&self) {}
+    fn tells() {}
 }

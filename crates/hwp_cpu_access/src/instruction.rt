@@ -493,7 +493,7 @@ impl Ranked for Instruction {
         }
     }
 
-    fn ranked(&self) {}
+    fn ranked() {}
 }
 
 impl Scheduled for Instruction {
@@ -508,5 +508,5 @@ impl Scheduled for Instruction {
         }
     }
 
-    fn tells(&self) {}
+    fn tells() {}
 }

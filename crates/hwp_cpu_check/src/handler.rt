@@ -408,7 +408,7 @@ impl Ranked for Handler {
         }
     }
 
-    fn ranked(&self) {}
+    fn ranked() {}
 }
 
 impl Scheduled for Handler {
@@ -420,5 +420,5 @@ impl Scheduled for Handler {
         }
     }
 
-    fn tells(&self) {}
+    fn tells() {}
 }

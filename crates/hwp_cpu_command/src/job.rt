@@ -677,7 +677,7 @@ impl Ranked for Job {
         of_kind!(self, task => task.class())
     }
 
-    fn ranked(&self) {}
+    fn ranked() {}
 }
 
 impl Scheduled for Job {
@@ -686,5 +686,5 @@ impl Scheduled for Job {
         of_kind!(self, task => task.is_over())
     }
 
-    fn tells(&self) {}
+    fn tells() {}
 }

@@ -139,7 +139,7 @@ impl Ranked for Denied {
         4
     }
 
-    fn ranked(&self) {}
+    fn ranked() {}
 }
 
 impl Scheduled for Denied {
@@ -147,5 +147,5 @@ impl Scheduled for Denied {
         matches!(self.at, DeniedAt::Over { .. })
     }
 
-    fn tells(&self) {}
+    fn tells() {}
 }

@@ -225,7 +225,7 @@ impl Ranked for Fork {
         4
     }
 
-    fn ranked(&self) {}
+    fn ranked() {}
 }
 
 impl Scheduled for Fork {
@@ -233,5 +233,5 @@ impl Scheduled for Fork {
         matches!(self.at, ForkAt::Over { .. })
     }
 
-    fn tells(&self) {}
+    fn tells() {}
 }

@@ -132,7 +132,7 @@ impl Ranked for Nested {
         4
     }
 
-    fn ranked(&self) {}
+    fn ranked() {}
 }
 
 impl Scheduled for Nested {
@@ -140,5 +140,5 @@ impl Scheduled for Nested {
         matches!(self.at, NestedAt::Over { .. })
     }
 
-    fn tells(&self) {}
+    fn tells() {}
 }

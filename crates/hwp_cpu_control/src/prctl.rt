@@ -158,7 +158,7 @@ impl Ranked for Prctl {
         4
     }
 
-    fn ranked(&self) {}
+    fn ranked() {}
 }
 
 impl Scheduled for Prctl {
@@ -166,5 +166,5 @@ impl Scheduled for Prctl {
         matches!(self.at, PrctlAt::Over { .. })
     }
 
-    fn tells(&self) {}
+    fn tells() {}
 }

@@ -98,7 +98,7 @@ impl Ranked for ReadStop {
         4
     }
 
-    fn ranked(&self) {}
+    fn ranked() {}
 }
 
 impl Scheduled for ReadStop {
@@ -106,5 +106,5 @@ impl Scheduled for ReadStop {
         matches!(self.at, ReadStopAt::Over { .. })
     }
 
-    fn tells(&self) {}
+    fn tells() {}
 }

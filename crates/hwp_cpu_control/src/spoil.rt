@@ -116,7 +116,7 @@ impl Ranked for Spoil {
         4
     }
 
-    fn ranked(&self) {}
+    fn ranked() {}
 }
 
 impl Scheduled for Spoil {
@@ -124,5 +124,5 @@ impl Scheduled for Spoil {
         matches!(self.at, SpoilAt::Over { .. })
     }
 
-    fn tells(&self) {}
+    fn tells() {}
 }

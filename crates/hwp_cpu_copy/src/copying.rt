@@ -316,7 +316,7 @@ impl Ranked for Copying {
         }
     }
 
-    fn ranked(&self) {}
+    fn ranked() {}
 }
 
 impl Scheduled for Copying {
@@ -329,5 +329,5 @@ impl Scheduled for Copying {
         }
     }
 
-    fn tells(&self) {}
+    fn tells() {}
 }

@@ -329,7 +329,7 @@ impl Ranked for Course {
         }
     }
 
-    fn ranked(&self) {}
+    fn ranked() {}
 }
 
 impl Scheduled for Course {
@@ -341,5 +341,5 @@ impl Scheduled for Course {
         }
     }
 
-    fn tells(&self) {}
+    fn tells() {}
 }

@@ -106,7 +106,7 @@ impl Ranked for Log {
         4
     }
 
-    fn ranked(&self) {}
+    fn ranked() {}
 }
 
 impl Scheduled for Log {
@@ -114,5 +114,5 @@ impl Scheduled for Log {
         self.read.is_over()
     }
 
-    fn tells(&self) {}
+    fn tells() {}
 }

@@ -296,7 +296,7 @@ impl Ranked for Raise {
         }
     }
 
-    fn ranked(&self) {}
+    fn ranked() {}
 }
 
 impl Scheduled for Raise {
@@ -308,5 +308,5 @@ impl Scheduled for Raise {
         }
     }
 
-    fn tells(&self) {}
+    fn tells() {}
 }

@@ -101,5 +101,5 @@ impl Ranked for Clear {
         1
     }
 
-    fn ranked(&self) {}
+    fn ranked() {}
 }

@@ -577,7 +577,7 @@ impl Ranked for Evict {
         }
     }
 
-    fn ranked(&self) {}
+    fn ranked() {}
 }
 
 impl Scheduled for Evict {
@@ -593,5 +593,5 @@ impl Scheduled for Evict {
         }
     }
 
-    fn tells(&self) {}
+    fn tells() {}
 }

@@ -163,7 +163,7 @@ impl Ranked for Fsync {
         4
     }
 
-    fn ranked(&self) {}
+    fn ranked() {}
 }
 
 impl Scheduled for Fsync {
@@ -171,5 +171,5 @@ impl Scheduled for Fsync {
         matches!(self.at, FsyncAt::Over { .. })
     }
 
-    fn tells(&self) {}
+    fn tells() {}
 }

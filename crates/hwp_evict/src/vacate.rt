@@ -136,5 +136,5 @@ impl Ranked for Vacate {
         }
     }
 
-    fn ranked(&self) {}
+    fn ranked() {}
 }

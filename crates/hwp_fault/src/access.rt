@@ -607,7 +607,7 @@ impl Ranked for Access {
         }
     }
 
-    fn ranked(&self) {}
+    fn ranked() {}
 }
 
 impl Scheduled for Access {
@@ -627,5 +627,5 @@ impl Scheduled for Access {
         }
     }
 
-    fn tells(&self) {}
+    fn tells() {}
 }

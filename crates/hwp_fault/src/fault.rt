@@ -440,5 +440,5 @@ impl Ranked for Fault {
         }
     }
 
-    fn ranked(&self) {}
+    fn ranked() {}
 }

@@ -127,5 +127,5 @@ impl Ranked for MapIn {
         1
     }
 
-    fn ranked(&self) {}
+    fn ranked() {}
 }

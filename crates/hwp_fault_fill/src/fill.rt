@@ -159,5 +159,5 @@ impl Ranked for Fill {
         }
     }
 
-    fn ranked(&self) {}
+    fn ranked() {}
 }

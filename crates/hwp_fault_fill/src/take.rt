@@ -197,5 +197,5 @@ impl Ranked for Take {
         }
     }
 
-    fn ranked(&self) {}
+    fn ranked() {}
 }

@@ -34,17 +34,6 @@ fn levels_of<T: Scheduled>(tasks: &[T]) -> [u8; PLACES]
     levels
 }
 
-/// The law of the tasks, where there is one. Proof only: a call tells its clauses.
-fn keep_law<T: Scheduled>(tasks: &[T])
-    ensures { 0 < length tasks.now → IsScheduled T.task }
-{
-    let Some(task) = tasks.first() else {
-        return;
-    };
-    task.ranked();
-    task.tells();
-}
-
 /// The lowest-numbered of the lowest level, where one isn't over.
 fn choose(levels: &[u8]) -> Option<usize>
     ensures { IsNext levels.now result }
@@ -199,7 +188,8 @@ pub fn step_all<B: Board, T: Scheduled>(
     ensures refused { OnErr result (IsRefused (B.log board.new)) }
 {
     board.keeps();
-    keep_law(tasks);
+    T::ranked();
+    T::tells();
     for word in go {
         play_word(board, tasks, word)?;
     }

@@ -373,7 +373,7 @@ impl Ranked for Scrub {
         }
     }
 
-    fn ranked(&self) {}
+    fn ranked() {}
 }
 
 impl Scheduled for Scrub {
@@ -388,5 +388,5 @@ impl Scheduled for Scrub {
         }
     }
 
-    fn tells(&self) {}
+    fn tells() {}
 }

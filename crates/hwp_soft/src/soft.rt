@@ -529,7 +529,7 @@ impl Ranked for Soft {
         }
     }
 
-    fn ranked(&self) {}
+    fn ranked() {}
 }
 
 impl Scheduled for Soft {
@@ -550,5 +550,5 @@ impl Scheduled for Soft {
         }
     }
 
-    fn tells(&self) {}
+    fn tells() {}
 }

@@ -151,5 +151,5 @@ impl Ranked for Discard {
         }
     }
 
-    fn ranked(&self) {}
+    fn ranked() {}
 }

@@ -273,5 +273,5 @@ impl Ranked for Relocate {
         }
     }
 
-    fn ranked(&self) {}
+    fn ranked() {}
 }

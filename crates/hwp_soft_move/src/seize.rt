@@ -217,5 +217,5 @@ impl Ranked for Seize {
         }
     }
 
-    fn ranked(&self) {}
+    fn ranked() {}
 }

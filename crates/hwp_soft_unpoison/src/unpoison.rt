@@ -244,7 +244,7 @@ impl Ranked for Unpoison {
         }
     }
 
-    fn ranked(&self) {}
+    fn ranked() {}
 }
 
 impl Scheduled for Unpoison {
@@ -252,5 +252,5 @@ impl Scheduled for Unpoison {
         matches!(self.at, UnpoisonAt::Over { .. })
     }
 
-    fn tells(&self) {}
+    fn tells() {}
 }

@@ -12,7 +12,7 @@ finish-requires g c = record { play = record { ready = c.loop-word.invariant.rea
 
 pub loop-word-init : goal.loop-word-init
 loop-word-init g c = record {
-  ready = record { law = c.keep_law.ensures; rule = c.keeps.ensures.rule; seats = c.keeps.ensures.seats; crew = c.requires.crew };
+  ready = record { law = λ some. record { ranked = c.ranked.ensures; tells = c.tells.ensures.class; pays = c.tells.ensures.pays }; rule = c.keeps.ensures.rule; seats = c.keeps.ensures.seats; crew = c.requires.crew };
   count = refl;
   so_far = schedule-start g.T.Task.task (running (g.B.Board.layout c.args.board.now) (g.B.Board.seat c.args.board.now) c.args.tasks.now (g.B.Board.state c.args.board.now)) (g.B.Board.log c.args.board.now);
 }
