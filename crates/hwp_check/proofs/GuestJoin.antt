@@ -34,7 +34,7 @@ use Rattle.hwp_check_rules.specs.Rules.{AnswersFit}
 use Rattle.hwp_check_rules.specs.Standing.{cpu_line, row_line}
 use Rattle.hwp_check_rules.proofs.ActedLosses.{acted-there}
 use Rattle.hwp_check_answers.proofs.NextLaws.{count-rises, next_of}
-use Rattle.hwp_check_answers.proofs.RuleLaws.{answer-line}
+use Rattle.hwp_check_rules.proofs.StandingLaws.{answer-line}
 
 -- ---- the guests' lines among those of a processor
 

@@ -27,7 +27,7 @@ use Rattle.hwp_check_answers.specs.Facts.{at_number}
 use Rattle.hwp_check_answers.specs.Firsts.{line_of}
 use Rattle.hwp_check_answers.specs.Offlining.{AreAllDue, AreAllOfflined, AreDueTo, IsAnsweredIf, IsFirstOfflined, IsFirstUndue, IsOfflinedLine, IsUndueLine}
 use Rattle.hwp_check_answers.specs.Placing.{HasNone, HaveAnswers}
-use Rattle.hwp_check_answers.proofs.OrderLaws.{later-line, next-line}
+use Rattle.hwp_check_rules.proofs.StandingLaws.{later-line, next-line}
 use Rattle.hwp_check_evidence.specs.hwp_geom.declared.VSlot.{VSlot}
 
 abbrev cpu_of : ℕ → Cpu

@@ -1,10 +1,8 @@
 -- Where the processors of a report are disorderly first.
-use Rattle.std.proofs.Common.{◌≡◌, inl, inr, ℕ, ◌+◌, ◌<◌, ◌≤◌, min, true, false, List, Option, Some, None, MatchOption, get_or, length, slice_get, sum_by, take, refl, sym, ap, ◌∙◌, subst, true≢false, arith}
+use Rattle.std.proofs.Common.{◌≡◌, inl, inr, ℕ, ◌+◌, ◌<◌, ◌≤◌, min, true, false, List, Option, Some, None, MatchOption, get_or, length, slice_get, refl, sym, ap, ◌∙◌, subst, true≢false, arith}
 use Rattle.std.specs.Option.{is_some}
 use Rattle.std.proofs.lemmas.Bool.{cases_eq, cases_lt}
-use Rattle.std.proofs.lemmas.List.{take-take}
-use Rattle.std.proofs.lemmas.List.Sums.{sum_by-take-le, sum_by_more}
-use Rattle.std.proofs.lemmas.Option.{get_or_from_slice_get, same_Some, slice_get-get_or, slice_get_within}
+use Rattle.std.proofs.lemmas.Option.{same_Some, slice_get-get_or, slice_get_within}
 use Rattle.hwp_check_evidence.specs.hwp_script_read.declared.Command.{Command}
 use Rattle.hwp_check_evidence.specs.hwp_script_read.declared.Script.{Script}
 use Rattle.hwp_check_evidence.specs.hwp_report_text.declared.CpuLine.{CpuLine}
@@ -13,28 +11,8 @@ use Rattle.hwp_check_rules.specs.Answered.{HasAnswer, IsInPlace}
 use Rattle.hwp_check_answers.specs.Disorders.{AreAllOrderly, AreOrderly, IsDisorder, IsFirstDisorder}
 use Rattle.hwp_check_rules.specs.Firsts.{IsLeast}
 use Rattle.hwp_check_answers.specs.Placing.{HaveAnswers, IsFirstOut}
-use Rattle.hwp_check_rules.specs.Standing.{cpu_height, cpu_line, last_line}
-
--- the heading of the next processor stands behind the lines of this one
-pub next-line : (report : Report) (n : ℕ) (rows : List CpuLine) → slice_get report.cpus n ≡ Some rows → cpu_line report (n + 1) ≡ cpu_line report n + 1 + length rows
-next-line report n rows there =
-    let more : sum_by cpu_height (take (n + 1) report.cpus) ≡ sum_by cpu_height (take n report.cpus) + cpu_height rows =
-    sum_by_more cpu_height report.cpus n rows (slice_get_within report.cpus n rows there) ∙ ap (λ (r : List CpuLine). sum_by cpu_height (take n report.cpus) + cpu_height r) (get_or_from_slice_get report.cpus n rows rows there) in
-    omega (arith, more)
-
-pub later-line : (report : Report) (i j : ℕ) → i ≤ j → cpu_line report i ≤ cpu_line report j
-later-line report i j less =
-    let part : sum_by cpu_height (take i (take j report.cpus)) ≤ sum_by cpu_height (take j report.cpus) = sum_by-take-le cpu_height (take j report.cpus) i in
-    let same : sum_by cpu_height (take i (take j report.cpus)) ≡ sum_by cpu_height (take i report.cpus) = ap (sum_by cpu_height) (take-take i j report.cpus less) in
-    omega (arith, part, same)
-
--- the lines of a processor are within the report
-pub within-report : (report : Report) (n line : ℕ) (rows : List CpuLine) → slice_get report.cpus n ≡ Some rows → line ≡ cpu_line report n → line + 1 + length rows ≤ last_line report
-within-report report n line rows there is =
-    let next : cpu_line report (n + 1) ≡ cpu_line report n + 1 + length rows = next-line report n rows there in
-    let inside : n < length report.cpus = slice_get_within report.cpus n rows there in
-    let below : cpu_line report (n + 1) ≤ cpu_line report (length report.cpus) = later-line report (n + 1) (length report.cpus) (omega (arith, inside)) in
-    omega (arith, next, below, is)
+use Rattle.hwp_check_rules.specs.Standing.{cpu_line}
+use Rattle.hwp_check_rules.proofs.StandingLaws.{later-line, next-line}
 
 -- the processors below this number are orderly
 abbrev pub OrderlyBelow : Script → Report → ℕ → Type 0

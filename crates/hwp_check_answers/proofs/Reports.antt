@@ -24,7 +24,7 @@ use Rattle.hwp_check_rules.specs.Firsts.{IsLeast}
 use Rattle.hwp_check_rules.specs.Rules.{ShapeFits}
 use Rattle.hwp_check_rules.specs.Standing.{cpu_height, cpu_line, entry_height, frame_height, last_line, page_height, what_height}
 use Rattle.hwp_check_answers.specs.Joining.{BreakEvents, IsEventLine}
-use Rattle.hwp_check_answers.proofs.OrderLaws.{later-line, next-line}
+use Rattle.hwp_check_rules.proofs.StandingLaws.{later-line, next-line}
 use Rattle.hwp_check_answers.proofs.Processors.{IsFirst, cpu_of, no-lack, no-wrong}
 use Rattle.hwp_check_evidence.specs.hwp_geom.declared.VSlot.{VSlot}
 use Rattle.hwp_check_evidence.specs.hwp_geom.declared.Who.{Who}

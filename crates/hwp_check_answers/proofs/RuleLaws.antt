@@ -1,8 +1,8 @@
 -- Where each line is in place and nothing is wrong about any answer, the rule of answers holds but for the event lines.
-use Rattle.std.proofs.Common.{◌≡◌, ◌⊎◌, inl, inr, ℕ, suc, ◌<◌, ◌≤◌, ◌==◌, cond, Bool, true, false, List, [], ◌∷◌, Option, Some, None, IsSomeAnd, count_by, length, option_and_then, option_map, slice_get, take, unwrap_or, refl, sym, ap, ◌∙◌, subst, true≢false, arith}
-use Rattle.std.specs.List.{filter_map, find, list_any}
-use Rattle.std.proofs.lemmas.Bool.{cases_lt, eqb-true}
-use Rattle.std.proofs.lemmas.Option.{none-some, same_Some, slice_get_within}
+use Rattle.std.proofs.Common.{◌≡◌, ◌⊎◌, inl, inr, ℕ, ◌<◌, ◌≤◌, Bool, true, false, List, [], Option, Some, None, IsSomeAnd, count_by, length, option_and_then, slice_get, take, unwrap_or, refl, sym, ap, ◌∙◌, subst, true≢false, arith}
+use Rattle.std.specs.List.{list_any}
+use Rattle.std.proofs.lemmas.Bool.{cases_lt}
+use Rattle.std.proofs.lemmas.Option.{none-some, slice_get_within}
 use Rattle.hwp_check_evidence.specs.hwp_geom.declared.Cpu.{Cpu}
 use Rattle.hwp_check_evidence.specs.hwp_geom.declared.Proc.{Proc}
 use Rattle.hwp_check_evidence.specs.hwp_geom.declared.Who.{Who}
@@ -20,7 +20,7 @@ use Rattle.hwp_check_evidence.specs.hwp_report_text.declared.Report.{Report}
 use Rattle.hwp_check_evidence.specs.hwp_law.Answers.{AreInWindows, IsNamed}
 use Rattle.hwp_check_evidence.specs.hwp_law_commands.Commands.{command_at, process_at, process_of_thread, thread_of}
 use Rattle.hwp_check_evidence.specs.hwp_law.Endings.{EndingsStay, IsOver}
-use Rattle.hwp_check_evidence.specs.hwp_law.Lines.{AnswerLine, answer_among, answer_in, rows_of}
+use Rattle.hwp_check_evidence.specs.hwp_law.Lines.{answer_among, rows_of}
 use Rattle.hwp_check_evidence.specs.hwp_law.States.{IsInWindow, entry_named}
 use Rattle.hwp_check_evidence.specs.Firsts.{is_at, names_beside}
 use Rattle.hwp_check_evidence.proofs.NamedLaws.{at-is, named-at}
@@ -28,6 +28,7 @@ use Rattle.hwp_check_evidence.proofs.NameLaws.{beside-some, some-beside}
 use Rattle.hwp_check_evidence.proofs.ListItems.{item_at, item_of_take}
 use Rattle.hwp_check_evidence.specs.hwp_law.Offlined.{AreOfflined, IsOffline}
 use Rattle.hwp_check_rules.proofs.OfflinedFaults.{lines-offlined}
+use Rattle.hwp_check_rules.proofs.StandingLaws.{answer-line}
 use Rattle.hwp_check_rules.specs.AnswerFaults.{IsDue}
 use Rattle.hwp_check_rules.specs.Answered.{AreAnswered, HasAnswer, is_answer}
 use Rattle.hwp_check_answers.specs.Disorders.{AreOrderly}
@@ -49,19 +50,6 @@ over : (answer : Answer) → IsOver answer ⊎ (IsOver answer → ⊥)
 over (answers.Gone page) = inl (record {})
 over answers.Stopped = inl (record {})
 over answer = inr (λ o. o)
-
--- the answer of a command stands in some line
-pub answer-line : (rows : List CpuLine) (seq : ℕ) (answer : Answer) → answer_among rows seq ≡ Some answer → (row : ℕ) × (slice_get rows row ≡ Some (lines.Answer seq answer))
-answer-line [] seq answer is = absurd (none-some answer is)
-answer-line (lines.Event event ∷ rs) seq answer is = let r = answer-line rs seq answer is in (suc r.0, r.1)
-answer-line (lines.Offlined offlined ∷ rs) seq answer is = let r = answer-line rs seq answer is in (suc r.0, r.1)
-answer-line (lines.Guest guest ∷ rs) seq answer is = let r = answer-line rs seq answer is in (suc r.0, r.1)
-answer-line (lines.Answer s a ∷ rs) seq answer is = which (seq == s) refl is (λ more. answer-line rs seq answer more)
-  where
-    which : (b : Bool) → (seq == s) ≡ b → option_map (λ (l : AnswerLine). l.answer) (cond b (Some (record { seq = s; answer = a })) (find (λ (l : AnswerLine). seq == l.seq) (filter_map answer_in rs))) ≡ Some answer
-        → (answer_among rs seq ≡ Some answer → (row : ℕ) × (slice_get rs row ≡ Some (lines.Answer seq answer))) → (row : ℕ) × (slice_get (lines.Answer s a ∷ rs) row ≡ Some (lines.Answer seq answer))
-    which true here got more = (0, ap (λ (n : ℕ). Some (lines.Answer n a)) (sym (eqb-true seq s here)) ∙ ap (λ (x : Answer). Some (lines.Answer seq x)) (same_Some _ _ got))
-    which false here got more = let r = more got in (suc r.0, r.1)
 
 -- a window that isn't refused holds
 stable : (pages : List (List Entry)) (rows : List CpuLine) (who : Who) (at : At) → ((IsInWindow pages rows who at → ⊥) → ⊥) → IsInWindow pages rows who at

@@ -16,7 +16,7 @@ use Rattle.hwp_check_rules.specs.Standing.{cpu_line}
 use Rattle.hwp_check_answers.specs.Facts.{IsBadOf, IsGoodOf}
 use Rattle.hwp_check_answers.specs.Placing.{AreInPlace, IsFirstOut}
 use Rattle.hwp_check_answers.specs.Sifting.{AreAllSound, AreSound, IsBehind, IsCut, IsFirstAnswer, IsUnsound, IsWrongLine}
-use Rattle.hwp_check_answers.proofs.OrderLaws.{later-line, next-line}
+use Rattle.hwp_check_rules.proofs.StandingLaws.{later-line, next-line}
 use Rattle.hwp_check_rules.specs.Rules.{ShapeFits}
 use Rattle.hwp_check_evidence.specs.hwp_geom.declared.VSlot.{VSlot}
 use Rattle.hwp_check_evidence.specs.hwp_geom.declared.Who.{Who}

@@ -187,30 +187,8 @@ fn copied_by(
     }
 }
 
-/// The same for each command of a processor.
-#[tactic(auto, using(crate::proofs::CopyLaws::none_yet))]
-fn copied_each(
-    alloc: Global,
-    layout: &Layout,
-    copies: &[List<Option<VSlot>>],
-    report: &Report,
-    cpu: Cpu,
-    commands: &[Command],
-) -> Result<List<List<Line>>, OutOfMemory>
-    requires few { length commands.now < 2 ^ 32 }
-    ensures { IfOk result (AreCopied layout.now (copies_in copies.now) report.now cpu commands.now (length commands.now)) }
-{
-    let mut lists = Vec::new(alloc);
-    for number in 0..commands.len() {
-        let seq = number as u32;
-        let who = Who { cpu, seq };
-        lists.push(copied_by(alloc, layout, copies, report, who, &commands[number])?)?;
-    }
-    Ok(List::from_vec(lists))
-}
-
 /// The same for each command of a processor, or no lists where no processor copied.
-#[tactic(auto, using(crate::proofs::CopyLaws::none_copied))]
+#[tactic(auto, using(crate::proofs::CopyLaws::none_yet, crate::proofs::CopyLaws::none_copied))]
 pub(crate) fn copied_of(
     alloc: Global,
     layout: &Layout,
@@ -223,10 +201,15 @@ pub(crate) fn copied_of(
     ensures { IfOk result (AreCopied layout.now (copies_in copies.now) report.now cpu commands.now (length commands.now)) }
 {
     if copies.is_empty() {
-        Ok(List::new(alloc))
-    } else {
-        copied_each(alloc, layout, copies, report, cpu, commands)
+        return Ok(List::new(alloc));
     }
+    let mut lists = Vec::new(alloc);
+    for number in 0..commands.len() {
+        let seq = number as u32;
+        let who = Who { cpu, seq };
+        lists.push(copied_by(alloc, layout, copies, report, who, &commands[number])?)?;
+    }
+    Ok(List::from_vec(lists))
 }
 
 /// The list with the number, or an empty one.

@@ -19,14 +19,10 @@ use Rattle.hwp_law.specs.hwp_page.Refusals.{IsAway, IsDirty, IsLockedIn, IsMappe
 use Rattle.hwp_law.specs.hwp_page.Step.{after, opening_of}
 use Rattle.hwp_law.specs.hwp_page.declared.At.{At}
 use Rattle.hwp_law.specs.hwp_page.declared.Entry.{Entry}
-use Rattle.hwp_law.specs.hwp_page.declared.Met.TheVariants.{Sigbus, Word}
 use Rattle.hwp_law.specs.hwp_page.declared.PageState.{PageState}
-use Rattle.hwp_law.specs.hwp_page.declared.Situation.{Situation}
-use Rattle.hwp_law.specs.hwp_page.declared.Situation.TheVariants as situations
-use Rattle.hwp_law.specs.hwp_page.declared.What.{What}
 use Rattle.hwp_law.specs.hwp_page.declared.What.TheVariants as entries
-use Rattle.hwp_law.specs.hwp_page.Actions.{acted}
 use Rattle.hwp_law.specs.States.{HadState}
+use Rattle.hwp_law.proofs.PageLocks.{locked-stays}
 use Rattle.hwp_check_evidence.specs.declared.glances.Glance.{Glance}
 use Rattle.hwp_check_evidence.specs.declared.glances.PageGlances.{PageGlances}
 use Rattle.hwp_check_evidence.specs.Glances.{AreGlances, IsPage, glance_at, glance_of, glances_from, is_held}
@@ -77,37 +73,6 @@ pub last-pushed : (list : List Glance) (g : Glance) → slice_get (list ++ g ∷
 last-pushed list g =
     let place : length (list ++ g ∷ []) - 1 ≡ length list = omega (arith, length_push list g) in
     ap (slice_get (list ++ g ∷ [])) place ∙ held-last list g
-
--- no entry locks a page, or takes back that it is locked
-acted-locked : (s : PageState) (situation : Situation) → (acted s situation).locked ≡ s.locked
-acted-locked s situations.Free = refl
-acted-locked s situations.Kernel = refl
-acted-locked s situations.FileClean = refl
-acted-locked s situations.FileDirty = refl
-acted-locked s situations.AnonOnly = refl
-acted-locked s situations.SwapClean = refl
-acted-locked s situations.SwapDirty = refl
-acted-locked s situations.LockedClean = refl
-acted-locked s situations.LockedFile = refl
-acted-locked s situations.LockedAnon = refl
-
-after-locked : (s : PageState) (what : What) → (after s what).locked ≡ s.locked
-after-locked s (entries.Load slot line met) = refl
-after-locked s (entries.Store slot line (Word mask word)) = refl
-after-locked s (entries.Store slot line (Sigbus thread)) = refl
-after-locked s entries.FaultIn = refl
-after-locked s (entries.Map slot) = refl
-after-locked s (entries.Free slot) = refl
-after-locked s entries.Drop = refl
-after-locked s entries.Sync = refl
-after-locked s entries.Out = refl
-after-locked s (entries.Mce slot line mask) = refl
-after-locked s (entries.Fail situation required seen signals) = acted-locked s situation
-after-locked s entries.Soft = refl
-
-pub locked-stays : (s : PageState) (es : List Entry) → (state_after s es).locked ≡ s.locked
-locked-stays s [] = refl
-locked-stays s (e ∷ es) = locked-stays (after s e.what) es ∙ after-locked s e.what
 
 -- the state that was there
 pub record StoodAt (layout : Layout) (pages : List (List Entry)) (at : At) (state : PageState) : Type 1 where

@@ -1,17 +1,14 @@
 -- What stands where in a report: the marks of a frame, and the headings of frames, which rise.
-use Rattle.std.proofs.Common.{◌≡◌, ℕ, ◌+◌, ◌≤◌, ◌==◌, ◌&&◌, ◌||◌, Bool, cond, true, false, [], Option, Some, None, length, option_map, slice_get, sum_by, take, true≢false, unwrap_or, refl, sym, ap, ◌∙◌, subst, arith}
+use Rattle.std.proofs.Common.{◌≡◌, ℕ, ◌+◌, ◌≤◌, ◌&&◌, ◌||◌, Bool, true, false, [], Option, Some, None, length, option_map, slice_get, sum_by, take, true≢false, unwrap_or, refl, sym, ap, ◌∙◌, subst, arith}
 use Rattle.std.proofs.lemmas.Bool.{eq-eqb, eqb-true}
 use Rattle.std.proofs.lemmas.List.{take-take}
 use Rattle.std.proofs.lemmas.List.Sums.{sum_by_more, sum_by-take-le}
 use Rattle.std.proofs.lemmas.Option.{get_or_from_slice_get, none-some, slice_get_within}
 use Rattle.hwp_check_rules.specs.hwp_geom.declared.Who.{Who}
-use Rattle.hwp_check_rules.specs.hwp_page.declared.Situation.{Situation}
-use Rattle.hwp_check_rules.specs.hwp_page.declared.Situation.TheVariants as situations
 use Rattle.hwp_check_rules.specs.hwp_report_text.declared.FrameLine.{FrameLine}
 use Rattle.hwp_check_rules.specs.hwp_report_text.declared.MarkLine.{MarkLine}
 use Rattle.hwp_check_rules.specs.hwp_report_text.declared.Report.{Report}
 use Rattle.hwp_check_rules.specs.hwp_law.Lines.{is_same_command, marks_of}
-use Rattle.hwp_check_rules.specs.hwp_law.Pairings.{situation_number}
 use Rattle.hwp_check_rules.specs.Standing.{frame_height, frame_line}
 
 pub and-left : (a b : Bool) → (a && b) ≡ true → a ≡ true
@@ -71,24 +68,3 @@ frame-rises report a b low =
     let rises : sum_by frame_height (take a report.frames) ≤ sum_by frame_height (take b report.frames) =
     subst (λ t. sum_by frame_height t ≤ sum_by frame_height (take b report.frames)) (take-take a b report.frames low) (sum_by-take-le frame_height (take b report.frames) a) in
     omega (arith, rises)
-
--- situations of one number are one
-situation-of : ℕ → Situation
-situation-of n =
-    cond (n == 0) situations.Free (cond (n == 1) situations.Kernel (cond (n == 2) situations.FileClean (cond (n == 3) situations.FileDirty (cond (n == 4) situations.AnonOnly (cond (n == 5) situations.SwapClean (cond (n == 6) situations.SwapDirty (cond (n == 7) situations.LockedClean (cond (n == 8) situations.LockedFile situations.LockedAnon))))))))
-
-situation-back : (s : Situation) → situation-of (situation_number s) ≡ s
-unfolding situation-of
-situation-back situations.Free = refl
-situation-back situations.Kernel = refl
-situation-back situations.FileClean = refl
-situation-back situations.FileDirty = refl
-situation-back situations.AnonOnly = refl
-situation-back situations.SwapClean = refl
-situation-back situations.SwapDirty = refl
-situation-back situations.LockedClean = refl
-situation-back situations.LockedFile = refl
-situation-back situations.LockedAnon = refl
-
-pub same-situation : (s t : Situation) → (situation_number s == situation_number t) ≡ true → s ≡ t
-same-situation s t is = sym (situation-back s) ∙ ap situation-of (eqb-true (situation_number s) (situation_number t) is) ∙ situation-back t

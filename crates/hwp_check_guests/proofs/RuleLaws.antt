@@ -1,15 +1,12 @@
 -- The processors one after another: the first line of a report that breaks the rule of guests, or none does.
-use Rattle.std.proofs.Common.{◌≡◌, ◌⊎◌, inl, inr, ℕ, zero, suc, ◌+◌, ◌<◌, ◌≤◌, min, Bool, true, false, List, [], ◌∷◌, Option, Some, None, MatchOption, if◌then◌else◌, get_or, length, option_and_then, option_map, slice_get, slice_index_or, take, unwrap_or, refl, sym, ap, subst, ◌∙◌, true≢false, arith}
-use Rattle.std.specs.List.{cons_option, list_any, sum_by}
+use Rattle.std.proofs.Common.{◌≡◌, inl, inr, ℕ, zero, suc, ◌+◌, ◌<◌, ◌≤◌, min, Bool, false, List, [], ◌∷◌, Option, Some, None, if◌then◌else◌, get_or, length, option_and_then, option_map, slice_get, slice_index_or, take, refl, sym, ap, subst, ◌∙◌, arith}
+use Rattle.std.specs.List.{cons_option, list_any}
 use Rattle.std.proofs.lemmas.Bool.{cases_lt, or_parts}
-use Rattle.std.proofs.lemmas.List.{take-take}
-use Rattle.std.proofs.lemmas.List.Sums.{sum_by-take-le, sum_by_more}
-use Rattle.std.proofs.lemmas.Option.{get_or_from_slice_get, none-some, same_Some, slice_get-get_or, slice_get_within, unwrap_or-slice_get}
+use Rattle.std.proofs.lemmas.Option.{none-some, same_Some, slice_get_within}
 use Rattle.hwp_check_rules.specs.hwp_geom.Layout.{has_guests, is_guest}
 use Rattle.hwp_check_rules.specs.hwp_geom.declared.Cpu.{Cpu}
 use Rattle.hwp_check_rules.specs.hwp_geom.declared.Layout.{Layout}
 use Rattle.hwp_check_rules.specs.hwp_geom.declared.Proc.{Proc}
-use Rattle.hwp_check_rules.specs.hwp_geom.declared.Who.{Who}
 use Rattle.hwp_check_rules.specs.hwp_report_text.declared.Answer.{Answer}
 use Rattle.hwp_check_rules.specs.hwp_report_text.declared.Answer.TheVariants as answers
 use Rattle.hwp_check_rules.specs.hwp_report_text.declared.CpuLine.{CpuLine}
@@ -25,13 +22,14 @@ use Rattle.hwp_check_rules.specs.hwp_law_commands.declared.GuestAccess.{GuestAcc
 use Rattle.hwp_check_rules.specs.hwp_law_commands.Guests.{denial, denied, guest_access, guest_line, guest_lines, guest_of, kind_of}
 use Rattle.hwp_check_rules.specs.Firsts.{IsLeast}
 use Rattle.hwp_check_rules.specs.GuestFaults.{IsAdmitted, IsGuestFault, IsGuestLacking, IsGuestWrong, IsMisadmitted}
-use Rattle.hwp_check_rules.specs.Standing.{cpu_height, cpu_line, last_line, row_line}
+use Rattle.hwp_check_rules.specs.Standing.{cpu_line, row_line}
 use Rattle.hwp_check_rules.specs.hwp_guest.declared.Admit.{Admit}
 use Rattle.hwp_check_rules.specs.hwp_guest.declared.Admit.TheVariants as admissions
 use Rattle.hwp_check_rules.specs.hwp_guest.GuestState.{admitted}
+use Rattle.hwp_check_rules.proofs.StandingLaws.{later-line, next-line}
 use Rattle.hwp_check_guests.specs.Admission.{AreAdmissions}
 use Rattle.hwp_check_guests.specs.Busy.{busy_by, guests_by}
-use Rattle.hwp_check_guests.specs.Judging.{AreEnough, AreRight, HasNoFault, HasNoFaultOn, IsFirstIn, IsFirstLacking, IsFirstOn, IsFirstWrong, IsKnown, IsMisadmittedBy, IsWrongBy}
+use Rattle.hwp_check_guests.specs.Judging.{AreEnough, AreRight, HasNoFault, HasNoFaultOn, IsFirstIn, IsFirstOn, IsFirstWrong, IsKnown, IsMisadmittedBy, IsWrongBy}
 use Rattle.hwp_check_guests.proofs.BusyLaws.{idle-nothing, nothing-idle, told-guests}
 
 -- ---- where no process is a guest
@@ -142,19 +140,6 @@ module _ (script : Script) (report : Report) (cpu : Cpu) (commands : List Comman
     wrong = wrong-law row f.line f.wrong;
     before = λ other line less there wrong. f.before other line less there (law-wrong other line wrong);
   }
-
--- the lines of processors
-next-line : (report : Report) (n : ℕ) (rows : List CpuLine) → slice_get report.cpus n ≡ Some rows → cpu_line report (n + 1) ≡ cpu_line report n + 1 + length rows
-next-line report n rows is =
-    let more : sum_by cpu_height (take (n + 1) report.cpus) ≡ sum_by cpu_height (take n report.cpus) + cpu_height rows =
-    sum_by_more cpu_height report.cpus n rows (slice_get_within report.cpus n rows is) ∙ ap (λ (r : List CpuLine). sum_by cpu_height (take n report.cpus) + cpu_height r) (get_or_from_slice_get report.cpus n rows rows is) in
-    omega (arith, more)
-
-later-line : (report : Report) (i j : ℕ) → i ≤ j → cpu_line report i ≤ cpu_line report j
-later-line report i j low =
-    let rises : sum_by cpu_height (take i report.cpus) ≤ sum_by cpu_height (take j report.cpus) =
-    subst (λ (t : List (List CpuLine)). sum_by cpu_height t ≤ sum_by cpu_height (take j report.cpus)) (take-take i j report.cpus low) (sum_by-take-le cpu_height (take j report.cpus) i) in
-    omega (arith, rises)
 
 module _ (script : Script) (report : Report) where
   -- a processor was judged
@@ -289,15 +274,3 @@ module _ (script : Script) (report : Report) where
         ]
       ];
     }
-
--- a list that was read where it is
-pub read-at : {X : Type 0} (xs : List (List X)) (n : ℕ) (l : List X) → n < length xs → l ≡ unwrap_or (slice_get xs n) [] → slice_get xs n ≡ Some l
-read-at xs n l within is = slice_get-get_or xs n [] within ∙ ap Some (sym (is ∙ unwrap_or-slice_get xs n []))
-
--- the lines of a report are no more than its last
-pub row-room : (report : Report) (n row : ℕ) (rows : List CpuLine) → slice_get report.cpus n ≡ Some rows → row < length rows → cpu_line report n + 1 + row < last_line report
-row-room report n row rows is inside =
-    let next : cpu_line report (n + 1) ≡ cpu_line report n + 1 + length rows = next-line report n rows is in
-    let within : n < length report.cpus = slice_get_within report.cpus n rows is in
-    let most : cpu_line report (n + 1) ≤ cpu_line report (length report.cpus) = later-line report (n + 1) (length report.cpus) (omega (arith, within)) in
-    omega (arith, next, most, inside)

@@ -3,7 +3,7 @@ ghost use Rattle.hwp_check_rules.specs.hwp_check_acting.Scripts.{IsDeclared};
 ghost use Rattle.hwp_check_rules.specs.hwp_geom.Layout.{has_guests};
 ghost use Rattle.hwp_check_rules.specs.Firsts.{IsLeast};
 ghost use Rattle.hwp_check_rules.specs.GuestFaults.{IsGuestFault};
-ghost use Rattle.hwp_check_rules.specs.Standing.{last_line, row_line};
+ghost use Rattle.hwp_check_rules.specs.Standing.{last_line};
 ghost use Rattle.hwp_check_guests.specs.Judging.{HasNoFaultOn, IsFirstOn, IsKnown};
 
 use crate::admission::admissions;
@@ -11,7 +11,7 @@ use crate::busy::{busy, with_guests};
 use crate::judging::{first_lacking, first_wrong};
 use hwp_check_rules::{
     Admit, Command, Cpu, CpuLine, Layout, OutOfMemory, Report, Script, commands_of, cpu_at,
-    pairs_of, rows_on,
+    pairs_of, row_at, rows_on,
 };
 use std::alloc::Global;
 
@@ -55,16 +55,6 @@ fn known_of(
     })
 }
 
-/// Where a line of a processor stands in the report.
-fn row_at(report: &Report, cpu: Cpu, rows: &[CpuLine], row: usize) -> u64
-    requires room { last_line report.now < 2 ^ 64 }
-    requires of_report { slice_get report.now.cpus cpu.0 ≡ Some rows.now }
-    requires inside { row < length rows.now }
-    ensures { result ≡ row_line report.now cpu.0 row }
-{
-    cpu_at(report, usize::from(cpu.0)) + 1 + row as u64
-}
-
 /// The first line of a processor that breaks the rule, if one does: its heading, where a guest's line lacks.
 fn fault_on(
     alloc: Global,
@@ -92,7 +82,7 @@ fn fault_on(
         known.admits.as_slice(),
         known.flags.as_slice(),
     ) {
-        Some(row) => Ok(Some(row_at(report, cpu, rows, row))),
+        Some(row) => Ok(Some(row_at(report, cpu, row))),
         None => Ok(None),
     }
 }

@@ -24,7 +24,8 @@ use Rattle.hwp_check_marks.specs.Unpaired.{in_frames, in_pages}
 use Rattle.hwp_check_marks.specs.Walks.{IsAskedIn, IsLowest, walk_entries, walk_pages}
 use Rattle.hwp_check_marks.specs.declared.kinds.Kind.{Kind}
 use Rattle.hwp_check_marks.specs.declared.kinds.Kind.TheVariants as kinds
-use Rattle.hwp_check_frames.proofs.FramePlaces.{and-left, and-right, frame-rises, same-situation, same-who}
+use Rattle.hwp_check_rules.proofs.of_hwp_law.Situations.{same-situation}
+use Rattle.hwp_check_frames.proofs.FramePlaces.{and-left, and-right, frame-rises, same-who}
 use Rattle.hwp_check_marks.proofs.TallyLaws.{frames-kind, pages-kind}
 use Rattle.hwp_check_marks.proofs.WalkLaws.{other-words, walked}
 

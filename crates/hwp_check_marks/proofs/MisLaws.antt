@@ -21,7 +21,8 @@ use Rattle.hwp_check_marks.specs.Tallies.{key_of}
 use Rattle.hwp_check_marks.specs.Walks.{IsAskedIn, IsLowest, walk_pages}
 use Rattle.hwp_check_marks.specs.declared.kinds.Kind.TheVariants as kinds
 use Rattle.hwp_check_marks.proofs.NeededLaws.{needed-is}
-use Rattle.hwp_check_frames.proofs.FramePlaces.{and-both, and-left, and-right, same-situation}
+use Rattle.hwp_check_rules.proofs.of_hwp_law.Situations.{same-situation}
+use Rattle.hwp_check_frames.proofs.FramePlaces.{and-both, and-left, and-right}
 use Rattle.hwp_check_marks.proofs.UrgentLaws.{urgent-is}
 use Rattle.hwp_check_marks.proofs.WalkLaws.{other-words, walked}
 use Rattle.hwp_check_frames.specs.declared.Noted.{Noted}

@@ -19,7 +19,8 @@ use Rattle.hwp_check_marks.specs.declared.kinds.Kind.TheVariants as kinds
 use Rattle.hwp_check_rules.specs.MarkFaults.{marks_before}
 use Rattle.hwp_check_rules.specs.Standing.{frame_line}
 use Rattle.hwp_check_marks.specs.Unpaired.{AllFew, IsExtra, IsFirstExtra, IsTooMany, NoneExtra, allowed, before_in, exceeds, is_extra}
-use Rattle.hwp_check_frames.proofs.FramePlaces.{and-both, and-left, and-right, frame-next, frame-rises, marks-are, same-self, same-situation, same-who, shown-in}
+use Rattle.hwp_check_rules.proofs.of_hwp_law.Situations.{same-situation}
+use Rattle.hwp_check_frames.proofs.FramePlaces.{and-both, and-left, and-right, frame-next, frame-rises, marks-are, same-self, same-who, shown-in}
 use Rattle.hwp_check_rules.specs.Firsts.{IsFirstFault, IsClear}
 
 abbrev flag : Bool → ℕ

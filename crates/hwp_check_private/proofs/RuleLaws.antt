@@ -1,10 +1,7 @@
 -- The processors one after another: the first line that answers a load by another word, or none does.
-use Rattle.std.proofs.Common.{◌≡◌, ◌⊎◌, inl, inr, ℕ, suc, ◌+◌, ◌<◌, ◌≤◌, ◌==◌, min, Bool, true, false, cond, List, [], ◌∷◌, Option, Some, None, length, option_and_then, option_map, slice_get, take, unwrap_or, refl, sym, ap, subst, ◌∙◌, arith}
-use Rattle.std.specs.List.{filter_map, find, sum_by}
-use Rattle.std.proofs.lemmas.Bool.{cases_eq, cases_lt, eqb-true}
-use Rattle.std.proofs.lemmas.List.{take-take}
-use Rattle.std.proofs.lemmas.List.Sums.{sum_by-take-le, sum_by_more}
-use Rattle.std.proofs.lemmas.Option.{get_or_from_slice_get, none-some, same_Some, slice_get-get_or, slice_get_within, unwrap_or-slice_get}
+use Rattle.std.proofs.Common.{◌≡◌, ◌⊎◌, inl, inr, ℕ, ◌+◌, ◌<◌, ◌≤◌, min, List, [], Option, Some, None, length, option_and_then, option_map, slice_get, take, unwrap_or, refl, sym, ap, subst, ◌∙◌, arith}
+use Rattle.std.proofs.lemmas.Bool.{cases_eq, cases_lt}
+use Rattle.std.proofs.lemmas.Option.{none-some, same_Some, slice_get_within}
 use Rattle.hwp_check_rules.specs.hwp_geom.declared.Cpu.{Cpu}
 use Rattle.hwp_check_rules.specs.hwp_geom.declared.VSlot.{VSlot}
 use Rattle.hwp_check_rules.specs.hwp_geom.declared.Who.{Who}
@@ -15,40 +12,15 @@ use Rattle.hwp_check_rules.specs.hwp_report_text.declared.CpuLine.TheVariants as
 use Rattle.hwp_check_rules.specs.hwp_report_text.declared.Report.{Report}
 use Rattle.hwp_check_rules.specs.hwp_script_read.declared.Command.{Command}
 use Rattle.hwp_check_rules.specs.hwp_script_read.declared.Script.{Script}
-use Rattle.hwp_check_rules.specs.hwp_law.Lines.{AnswerLine, answer_among, answer_in, answered}
+use Rattle.hwp_check_rules.specs.hwp_law.Lines.{answer_among, answered}
 use Rattle.hwp_check_rules.specs.hwp_law.Policies.{answered_before}
 use Rattle.hwp_check_rules.specs.hwp_law.Private.{ArePrivate, freeze_from, loaded, private_word}
 use Rattle.hwp_check_rules.specs.hwp_law_commands.Commands.{command_at}
 use Rattle.hwp_check_rules.specs.AnswerFaults.{IsPrivateFault}
 use Rattle.hwp_check_rules.specs.Firsts.{IsLeast}
-use Rattle.hwp_check_rules.specs.Standing.{cpu_height, cpu_line, last_line, row_line}
+use Rattle.hwp_check_rules.specs.Standing.{cpu_line, row_line}
+use Rattle.hwp_check_rules.proofs.StandingLaws.{answer-line, later-line, next-line}
 use Rattle.hwp_check_private.specs.Judging.{AreKept, AreKeptOn, IsFirstOn, IsFirstWrong, IsWordWrong, IsWrongRow, expected, word_expected}
-
--- the answer of a command stands in some line
-answer-line : (rows : List CpuLine) (seq : ℕ) (answer : Answer) → answer_among rows seq ≡ Some answer → (row : ℕ) × (slice_get rows row ≡ Some (lines.Answer seq answer))
-answer-line [] seq answer is = absurd (none-some answer is)
-answer-line (lines.Event event ∷ rs) seq answer is = let r = answer-line rs seq answer is in (suc r.0, r.1)
-answer-line (lines.Offlined offlined ∷ rs) seq answer is = let r = answer-line rs seq answer is in (suc r.0, r.1)
-answer-line (lines.Guest guest ∷ rs) seq answer is = let r = answer-line rs seq answer is in (suc r.0, r.1)
-answer-line (lines.Answer s a ∷ rs) seq answer is = which (seq == s) refl is (λ more. answer-line rs seq answer more)
-  where
-    which : (b : Bool) → (seq == s) ≡ b → option_map (λ (l : AnswerLine). l.answer) (cond b (Some (record { seq = s; answer = a })) (find (λ (l : AnswerLine). seq == l.seq) (filter_map answer_in rs))) ≡ Some answer
-        → (answer_among rs seq ≡ Some answer → (row : ℕ) × (slice_get rs row ≡ Some (lines.Answer seq answer))) → (row : ℕ) × (slice_get (lines.Answer s a ∷ rs) row ≡ Some (lines.Answer seq answer))
-    which true here got more = (0, ap (λ (n : ℕ). Some (lines.Answer n a)) (sym (eqb-true seq s here)) ∙ ap (λ (x : Answer). Some (lines.Answer seq x)) (same_Some _ _ got))
-    which false here got more = let r = more got in (suc r.0, r.1)
-
--- the lines of processors
-next-line : (report : Report) (n : ℕ) (rows : List CpuLine) → slice_get report.cpus n ≡ Some rows → cpu_line report (n + 1) ≡ cpu_line report n + 1 + length rows
-next-line report n rows is =
-    let more : sum_by cpu_height (take (n + 1) report.cpus) ≡ sum_by cpu_height (take n report.cpus) + cpu_height rows =
-    sum_by_more cpu_height report.cpus n rows (slice_get_within report.cpus n rows is) ∙ ap (λ (r : List CpuLine). sum_by cpu_height (take n report.cpus) + cpu_height r) (get_or_from_slice_get report.cpus n rows rows is) in
-    omega (arith, more)
-
-later-line : (report : Report) (i j : ℕ) → i ≤ j → cpu_line report i ≤ cpu_line report j
-later-line report i j low =
-    let rises : sum_by cpu_height (take i report.cpus) ≤ sum_by cpu_height (take j report.cpus) =
-    subst (λ (t : List (List CpuLine)). sum_by cpu_height t ≤ sum_by cpu_height (take j report.cpus)) (take-take i j report.cpus low) (sum_by-take-le cpu_height (take j report.cpus) i) in
-    omega (arith, rises)
 
 module _ (script : Script) (report : Report) where
   abbrev Kept : Cpu → List Command → List CpuLine → Type 0
@@ -270,15 +242,3 @@ module _ (script : Script) (report : Report) where
 
   pub fault-is : (n line : ℕ) → KeptUnder n → IsFirstOn script report (record { 0 = n }) line → IsLeast (IsPrivateFault script report) line
   fault-is n line under f = subst (IsLeast (IsPrivateFault script report)) (sym f.line_is) (first-fault n (cpu_line report n) f.row f.list f.rows f.of_script f.of_report refl under f.wrong)
-
--- a list that was read where it is
-pub read-at : {X : Type 0} (xs : List (List X)) (n : ℕ) (l : List X) → n < length xs → l ≡ unwrap_or (slice_get xs n) [] → slice_get xs n ≡ Some l
-read-at xs n l within is = slice_get-get_or xs n [] within ∙ ap Some (sym (is ∙ unwrap_or-slice_get xs n []))
-
--- the lines of a report are no more than its last
-pub row-room : (report : Report) (n row : ℕ) (rows : List CpuLine) → slice_get report.cpus n ≡ Some rows → row < length rows → cpu_line report n + 1 + row < last_line report
-row-room report n row rows is inside =
-    let next : cpu_line report (n + 1) ≡ cpu_line report n + 1 + length rows = next-line report n rows is in
-    let within : n < length report.cpus = slice_get_within report.cpus n rows is in
-    let most : cpu_line report (n + 1) ≤ cpu_line report (length report.cpus) = later-line report (n + 1) (length report.cpus) (omega (arith, within)) in
-    omega (arith, next, most, inside)

@@ -1,27 +1,17 @@
-ghost use Rattle.std.specs.Prelude.{◌≡◌, ◌<◌, ◌≤◌, ◌^◌, false, None, Ok, Some, IfOk, MatchOption, length, slice_get};
+ghost use Rattle.std.specs.Prelude.{◌≡◌, ◌<◌, ◌≤◌, ◌^◌, false, None, Ok, Some, IfOk, MatchOption, length};
 ghost use Rattle.hwp_check_rules.specs.hwp_check_acting.Scripts.{IsDeclared};
 ghost use Rattle.hwp_check_rules.specs.hwp_law.Private.{ArePrivate};
 ghost use Rattle.hwp_check_rules.specs.hwp_law_commands.Commands.{has_fork};
 ghost use Rattle.hwp_check_rules.specs.AnswerFaults.{IsPrivateFault};
 ghost use Rattle.hwp_check_rules.specs.Firsts.{IsLeast};
-ghost use Rattle.hwp_check_rules.specs.Standing.{last_line, row_line};
+ghost use Rattle.hwp_check_rules.specs.Standing.{last_line};
 ghost use Rattle.hwp_check_private.specs.Judging.{AreKeptOn, IsFirstOn};
 
 use crate::judging::first_wrong;
 use hwp_check_rules::{
-    Cpu, CpuLine, OutOfMemory, Report, Script, commands_of, cpu_at, has_fork, pairs_of, rows_on,
+    Cpu, OutOfMemory, Report, Script, commands_of, has_fork, pairs_of, row_at, rows_on,
 };
 use std::alloc::Global;
-
-/// Where a line of a processor stands in the report.
-fn row_at(report: &Report, cpu: Cpu, rows: &[CpuLine], row: usize) -> u64
-    requires room { last_line report.now < 2 ^ 64 }
-    requires of_report { slice_get report.now.cpus cpu.0 ≡ Some rows.now }
-    requires inside { row < length rows.now }
-    ensures { result ≡ row_line report.now cpu.0 row }
-{
-    cpu_at(report, usize::from(cpu.0)) + 1 + row as u64
-}
 
 /// The first line of a processor that answers a load by a word that isn't private.
 fn fault_on(
@@ -46,7 +36,7 @@ fn fault_on(
         rows,
         pairs.as_slice(),
     ) {
-        Some(row) => Ok(Some(row_at(report, cpu, rows, row))),
+        Some(row) => Ok(Some(row_at(report, cpu, row))),
         None => Ok(None),
     }
 }

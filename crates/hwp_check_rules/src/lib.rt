@@ -28,6 +28,6 @@ pub use pasts::{ThreadPolicies, done_of, pasts_of};
 pub use policies::policy_before;
 pub use rows::{answer_among, answer_of, commands_of, is_answer, rows_of, rows_on};
 pub use standing::{
-    cpu_at, entries_height, entry_height, file_at, first_page_line, frame_at, page_at,
+    cpu_at, entries_height, entry_height, file_at, first_page_line, frame_at, page_at, row_at,
 };
 pub use verdicts::{Rule, Verdict};

@@ -1,8 +1,8 @@
-ghost use Rattle.std.specs.Prelude.{◌≡◌, ◌<◌, ◌≤◌, ◌^◌, length};
+ghost use Rattle.std.specs.Prelude.{◌≡◌, [], ◌<◌, ◌≤◌, ◌^◌, length, slice_get, unwrap_or};
 ghost use Rattle.std.specs.List.{sum_by};
-ghost use Rattle.hwp_check_rules.specs.Standing.{cpu_height, cpu_line, entry_height, file_line, frame_height, frame_line, last_line, page_height, page_line};
+ghost use Rattle.hwp_check_rules.specs.Standing.{cpu_height, cpu_line, entry_height, file_line, frame_height, frame_line, last_line, page_height, page_line, row_line};
 
-use hwp_law::{CpuLine, Entry, FrameLine, List, Report, What};
+use hwp_law::{Cpu, CpuLine, Entry, FrameLine, List, Report, What};
 
 /// The lines of an entry.
 pub fn entry_height(entry: &Entry) -> u64
@@ -111,4 +111,13 @@ pub fn cpu_at(report: &Report, at: usize) -> u64
         + frames_height(report.frames.as_slice())
         + pages_height(report.pages.as_slice())
         + cpus_height(&report.cpus.as_slice()[..at])
+}
+
+/// The line of a processor's answer or event.
+pub fn row_at(report: &Report, cpu: Cpu, row: usize) -> u64
+    requires room { last_line report.now < 2 ^ 64 }
+    requires inside { row < length (unwrap_or (slice_get report.now.cpus cpu.0) []) }
+    ensures { result ≡ row_line report.now cpu.0 row }
+{
+    cpu_at(report, usize::from(cpu.0)) + 1 + row as u64
 }

@@ -39,11 +39,13 @@ use Rattle.hwp_fork.specs.declared.cow.Sub.TheVariants as subs
 use Rattle.hwp_fork.specs.Cows.{sub_of, told_all, told_by}
 use Rattle.hwp_cpu_access.specs.Checks.{AreChecks}
 use Rattle.hwp_cpu_access.specs.declared.instruction.InstructionAnswer.{InstructionAnswer}
+use Rattle.hwp_cpu_access.specs.declared.instruction.InstructionAt.{InstructionAt}
 use Rattle.hwp_cpu_access.specs.declared.instruction.InstructionAt.TheVariants as instruction_at
 use Rattle.hwp_cpu_access.specs.Fits.{FitsBehind, LetsGoOn, banks_at, checks_in, checks_made}
 use Rattle.hwp_cpu_access.specs.Instructions as instructions
 use Rattle.hwp_cpu_access.proofs.InstructionLaws.{begins-behind}
 use Rattle.hwp_cpu_copy.specs.declared.copying.Copying.{Copying}
+use Rattle.hwp_cpu_copy.specs.declared.copying.CopyingAt.{CopyingAt}
 use Rattle.hwp_cpu_copy.specs.declared.copying.CopyingAt.TheVariants as at
 use Rattle.hwp_cpu_copy.specs.Copyings.{going_on, load_of, request_by, store_of, went}
 use Rattle.hwp_cpu_copy.specs.Fits.{FitsAt, FitsFrom, HasRun, IsGoing, begun}
@@ -53,24 +55,9 @@ use Rattle.hwp_cpu_copy.proofs.RunLaws.{checks-append, checks-more, made-more, r
 
 -- ---- names
 
--- a load of another line of the page
-declared-load : {layout : Layout} (store : Request) (page : Page) (slot : VSlot) (line : ℕ) → accesses.IsDeclared layout (load_of store page slot 0) → line < line_limit → accesses.IsDeclared layout (load_of store page slot line)
-declared-load store page slot line o within = record {
-  decl = o.decl;
-  declared = o.declared;
-  page_is = o.page_is;
-  process_is = o.process_is;
-  page = o.page;
-  process = o.process;
-  thread = o.thread;
-  thread_declared = o.thread_declared;
-  thread_of = o.thread_of;
-  line = within;
-}
-
--- a store of another word on another line
-declared-store : {layout : Layout} (store : Request) (line word : ℕ) → accesses.IsDeclared layout store → line < line_limit → accesses.IsDeclared layout (store_of store store.slot line word)
-declared-store store line word o within = record {
+-- an access of the same thread through the same translation, on another line
+declared-line : {layout : Layout} (a : Request) (kind : AccessKind) (line : ℕ) → accesses.IsDeclared layout a → line < line_limit → accesses.IsDeclared layout (record a { kind = kind; line = line })
+declared-line a kind line o within = record {
   decl = o.decl;
   declared = o.declared;
   page_is = o.page_is;
@@ -185,8 +172,9 @@ module _ (base : List Made) (layout : Layout) (view : View) (c : Copying) (runs 
   told-is : c.instruction.lines.told ≡ lines_of (checks_by more)
   told-is = fits.told_is ∙ ap lines_of (sym (checks-more runs run))
 
-  has-more : HasRun layout view next more
-  has-more = record {
+  -- whatever the access under way, and wherever the copy
+  has-next : (request : Request) (instruction : InstructionAt) (x : CopyingAt) → HasRun layout view (record next { instruction = record c.instruction { request = request; at = instruction }; at = x }) more
+  has-next request instruction x = record {
     sound = has.sound;
     names = has.names;
     own = has.own;
@@ -202,6 +190,9 @@ module _ (base : List Made) (layout : Layout) (view : View) (c : Copying) (runs 
         (run-of layout view c.store c.page (left_by c.instruction.before.value (checks_by runs)) run (sub_of c.cow) request_is is-run));
     lets = subst LetsGoOn told-is lets;
   }
+
+  has-more : HasRun layout view next more
+  has-more = has-next c.instruction.request c.instruction.at c.at
 
   banks-are : c.instruction.banks ≡ left_by c.instruction.before.value (checks_by more)
   banks-are = fits.banks_are ∙ ap (banks_at c.instruction.before.value (checks_by runs ++ fits.checks)) over ∙ ap (left_by c.instruction.before.value) (sym (checks-more runs run))
@@ -225,20 +216,7 @@ module _ (base : List Made) (layout : Layout) (view : View) (c : Copying) (runs 
     on_turn = on;
     unchecked = unchecked;
     runs = more;
-    has = record {
-      sound = has-more.sound;
-      names = has-more.names;
-      own = has-more.own;
-      kind = has-more.kind;
-      twin = has-more.twin;
-      line = has-more.line;
-      user = has-more.user;
-      origin = has-more.origin;
-      three = has-more.three;
-      cow_is = has-more.cow_is;
-      are = has-more.are;
-      lets = has-more.lets;
-    };
+    has = has-next request (instructions.first request) c.at;
     at = subst (FitsAt base layout view (record next { instruction = instructions.again_with c.instruction request }) more) (sym at_is) (record {
       since = [];
       such = λ i m there. absurd (none-some m there);
@@ -258,20 +236,7 @@ module _ (base : List Made) (layout : Layout) (view : View) (c : Copying) (runs 
     on_turn = on;
     unchecked = unchecked;
     runs = more;
-    has = record {
-      sound = has-more.sound;
-      names = has-more.names;
-      own = has-more.own;
-      kind = has-more.kind;
-      twin = has-more.twin;
-      line = has-more.line;
-      user = has-more.user;
-      origin = has-more.origin;
-      three = has-more.three;
-      cow_is = has-more.cow_is;
-      are = has-more.are;
-      lets = has-more.lets;
-    };
+    has = has-next c.instruction.request c.instruction.at (at.Free (evicts.begin c.store.who c.page (evictions.Free cow.v)) place);
     at = record {
       evict = record { on_turn = on; page = has.own.page; kind = of-page c.store c.page c.cow.v has.own; at = (hand_is, all) };
       evict_is = refl;
@@ -294,8 +259,8 @@ module _ (base : List Made) (layout : Layout) (view : View) (c : Copying) (runs 
 
       which : (s : Sub) → sub_of cow ≡ s → IsOwn cow s → FitsFrom base layout view (going_on next place s)
       which (subs.Load slot line) is (slot_is, within) = begins (load_of c.store c.page slot line) refl
-          (subst (λ (x : VSlot). accesses.IsDeclared layout (load_of c.store c.page x line)) (sym slot_is) (declared-load c.store c.page c.cow.v line has.own within)) (ap (request_by c.store c.page) is)
+          (subst (λ (x : VSlot). accesses.IsDeclared layout (load_of c.store c.page x line)) (sym slot_is) (declared-line (load_of c.store c.page c.cow.v 0) kinds.Load line has.own within)) (ap (request_by c.store c.page) is)
       which (subs.Store slot line w) is (slot_is, within) = begins (store_of c.store slot line w) refl
-          (subst (λ (x : VSlot). accesses.IsDeclared layout (store_of c.store x line w)) (sym (slot_is ∙ has.twin)) (declared-store c.store line w has.names (line-within line within))) (ap (request_by c.store c.page) is)
+          (subst (λ (x : VSlot). accesses.IsDeclared layout (store_of c.store x line w)) (sym (slot_is ∙ has.twin)) (declared-line c.store (kinds.Store w) line has.names (line-within line within))) (ap (request_by c.store c.page) is)
       which (subs.Free slot) is slot_is = subst (λ (x : VSlot). FitsFrom base layout view (record next { at = at.Free (evicts.begin c.store.who c.page (evictions.Free x)) place })) (sym slot_is) (frees (is ∙ ap subs.Free slot_is))
       which subs.Switched is any = absurd (goes-on c.store c.page word c.cow request_is is)

@@ -60,7 +60,7 @@ use Rattle.hwp_law_records.proofs.of_hwp_law_served.HadStates.{had}
 use Rattle.hwp_law_records.proofs.of_hwp_law_served.OfflineCames.{came-of}
 use Rattle.hwp_law_holds.proofs.AllowedThere.{had-so}
 use Rattle.hwp_law_holds.proofs.Ample.{not-ample}
-use Rattle.hwp_law_holds.proofs.PageLocks.{had-unlocked}
+use Rattle.hwp_law_records.proofs.of_hwp_law_run.of_hwp_law.PageLocks.{had-unlocked}
 use Rattle.hwp_law_records.proofs.of_hwp_law_served.RunEnds.{IsEnd}
 use Rattle.hwp_law_sights.proofs.endings.Gone.{is-gone}
 use Rattle.hwp_law_records.proofs.of_hwp_law_served.deeds.Made.{some-so}

@@ -11,7 +11,6 @@ pub mod copied
 pub mod Settled
 pub mod Retired
 pub mod AllowedThere
-mod PageLocks
 pub mod Signals
 pub mod lines
 pub mod loads

@@ -17,10 +17,10 @@ use Rattle.hwp_law.specs.hwp_page.declared.Entry.{Entry}
 use Rattle.hwp_law.specs.hwp_page.declared.Met.{Met}
 use Rattle.hwp_law.specs.hwp_page.declared.Met.TheVariants.{Word, Sigbus}
 use Rattle.hwp_law.specs.hwp_page.declared.Situation.{Situation}
-use Rattle.hwp_law.specs.hwp_page.declared.Situation.TheVariants as situations
 use Rattle.hwp_law.specs.hwp_page.declared.What.{What}
 use Rattle.hwp_law.specs.hwp_page.declared.What.TheVariants as entries
 use Rattle.hwp_law.specs.Pairings.{situation_number}
+use Rattle.hwp_law.proofs.Situations.{situation-back, situation_from}
 
 -- ---- parts of entries, as numbers and back
 
@@ -101,11 +101,6 @@ signals_of _ = []
 abbrev met_from : ℕ → ℕ → ℕ → Met
 met_from kind a b = cond (kind == 0) (Word (record { 0 = a }) b) (Sigbus (record { 0 = a }))
 
-abbrev situation_from : ℕ → Situation
-situation_from n = cond (n == 0) situations.Free (cond (n == 1) situations.Kernel (cond (n == 2) situations.FileClean (cond (n == 3) situations.FileDirty
-    (cond (n == 4) situations.AnonOnly (cond (n == 5) situations.SwapClean (cond (n == 6) situations.SwapDirty
-    (cond (n == 7) situations.LockedClean (cond (n == 8) situations.LockedFile situations.LockedAnon))))))))
-
 abbrev required_from : ℕ → ℕ → Option Thread
 required_from kind thread = cond (kind == 0) None (Some (record { 0 = thread }))
 
@@ -122,18 +117,6 @@ what_from (tag ∷ a ∷ b ∷ c ∷ d ∷ e ∷ []) seen signals =
     (cond (tag == 8) (entries.Mce (record { 0 = a }) b (record { 0 = d }))
     (cond (tag == 9) (entries.Fail (situation_from a) (required_from c d) seen signals) entries.Soft)))))))))
 what_from _ seen signals = entries.Soft
-
-situation-back : (s : Situation) → situation_from (situation_number s) ≡ s
-situation-back situations.Free = refl
-situation-back situations.Kernel = refl
-situation-back situations.FileClean = refl
-situation-back situations.FileDirty = refl
-situation-back situations.AnonOnly = refl
-situation-back situations.SwapClean = refl
-situation-back situations.SwapDirty = refl
-situation-back situations.LockedClean = refl
-situation-back situations.LockedFile = refl
-situation-back situations.LockedAnon = refl
 
 what-back : (w : What) → what_from (what_numbers w) (seen_of w) (signals_of w) ≡ w
 what-back (entries.Load slot line (Word mask word)) = refl

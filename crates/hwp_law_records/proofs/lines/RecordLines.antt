@@ -1,6 +1,6 @@
 -- The record of a frame is what is gathered of the notes of all processors: each of its lines tells a failure of the frame by an event
 -- which a command told, or what the command did to the frame itself.
-use Rattle.std.proofs.Common.{◌≡◌, ◌⊎◌, inl, inr, ℕ, zero, suc, ◌+◌, ◌<◌, ◌==◌, Bool, true, List, Option, Some, None, filter, slice_get, refl, sym, ap, ◌∙◌, subst, arith}
+use Rattle.std.proofs.Common.{◌≡◌, ◌⊎◌, inl, inr, ℕ, ◌+◌, ◌<◌, ◌==◌, Bool, true, List, Option, Some, None, filter, slice_get, refl, sym, ap, ◌∙◌, subst, arith}
 use Rattle.std.proofs.lemmas.Bool.{and_from, eq-eqb, eqb-true}
 use Rattle.std.proofs.lemmas.List.Sorted.{IsPermutation-sym}
 use Rattle.std.proofs.lemmas.Option.{none-some, slice_get_within}
@@ -9,8 +9,6 @@ use Rattle.hwp_law_served.specs.hwp_geom.declared.Cpu.{Cpu}
 use Rattle.hwp_law_served.specs.hwp_geom.declared.Frame.{Frame}
 use Rattle.hwp_law_served.specs.hwp_geom.declared.Who.{Who}
 use Rattle.hwp_law_served.specs.hwp_geom.Pairs.{Pairs}
-use Rattle.hwp_law_served.specs.hwp_page.declared.Situation.{Situation}
-use Rattle.hwp_law_served.specs.hwp_page.declared.Situation.TheVariants as situations
 use Rattle.hwp_law_served.specs.hwp_page.Situations.{outcome_of}
 use Rattle.hwp_law_served.specs.hwp_core_rule.declared.State.{State}
 use Rattle.hwp_law_served.specs.hwp_core_rule.Lists.{SomeMember}
@@ -22,7 +20,6 @@ use Rattle.hwp_law_served.specs.hwp_report_text.declared.How.TheVariants as hows
 use Rattle.hwp_law_served.specs.hwp_report_text.declared.MarkLine.{MarkLine}
 use Rattle.hwp_law_served.specs.hwp_report_text.declared.MarkLine.TheVariants as marks
 use Rattle.hwp_law_served.specs.hwp_report_text.declared.Report.{Report}
-use Rattle.hwp_law_served.specs.hwp_law.Pairings.{situation_number}
 use Rattle.hwp_law_served.specs.hwp_law.Records.{who_in}
 use Rattle.hwp_law_served.specs.hwp_claim.declared.Found.{Found}
 use Rattle.hwp_law_served.specs.hwp_cpu_row.declared.FrameChange.{FrameChange}
@@ -38,35 +35,6 @@ use Rattle.hwp_law_served.proofs.Seen.{filter-is}
 use Rattle.hwp_law_served.proofs.lines.FrameRecords.{AreNoted}
 use Rattle.hwp_law_served.proofs.marks.OrderedLists.{moved-has}
 use Rattle.hwp_law_records.proofs.marks.RowNotes.{all_notes, each-note, is_noted, notes-at, notes-fit, notes-of-command, notes_at, record-flat}
-
--- ---- a situation by its number
-
-abbrev situation_at : ℕ → Situation
-situation_at zero = situations.Free
-situation_at (suc zero) = situations.Kernel
-situation_at (suc (suc zero)) = situations.FileClean
-situation_at (suc (suc (suc zero))) = situations.FileDirty
-situation_at (suc (suc (suc (suc zero)))) = situations.AnonOnly
-situation_at (suc (suc (suc (suc (suc zero))))) = situations.SwapClean
-situation_at (suc (suc (suc (suc (suc (suc zero)))))) = situations.SwapDirty
-situation_at (suc (suc (suc (suc (suc (suc (suc zero))))))) = situations.LockedClean
-situation_at (suc (suc (suc (suc (suc (suc (suc (suc zero)))))))) = situations.LockedFile
-situation_at (suc (suc (suc (suc (suc (suc (suc (suc (suc n))))))))) = situations.LockedAnon
-
-at-number : (s : Situation) → situation_at (situation_number s) ≡ s
-at-number situations.Free = refl
-at-number situations.Kernel = refl
-at-number situations.FileClean = refl
-at-number situations.FileDirty = refl
-at-number situations.AnonOnly = refl
-at-number situations.SwapClean = refl
-at-number situations.SwapDirty = refl
-at-number situations.LockedClean = refl
-at-number situations.LockedFile = refl
-at-number situations.LockedAnon = refl
-
-pub same-situation : (s t : Situation) → (situation_number s == situation_number t) ≡ true → s ≡ t
-same-situation s t is = sym (at-number s) ∙ ap situation_at (eqb-true (situation_number s) (situation_number t) is) ∙ at-number t
 
 -- ---- the lines of a record
 

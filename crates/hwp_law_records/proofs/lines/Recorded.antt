@@ -74,7 +74,7 @@ use Rattle.hwp_law_records.proofs.marks.CountedMarks.{marks-of-command, marks-on
 use Rattle.hwp_law_records.proofs.marks.RowNotes.{notes_at}
 use Rattle.hwp_law_served.proofs.lines.OfRows.{OfRow, offlined-of, own-of, right-of, row-of}
 use Rattle.hwp_law_served.proofs.Acts.{sum-acts}
-use Rattle.hwp_law_records.proofs.lines.RecordLines.{same-situation}
+use Rattle.hwp_law_served.proofs.of_hwp_law_run.of_hwp_law.Situations.{same-situation}
 use Rattle.hwp_law_records.proofs.lines.Records.{hardware-are, results-of, told-line}
 use Rattle.hwp_law_records.proofs.lines.SoftLines.{no-soft, soft_by, soft-said}
 use Rattle.hwp_law_records.proofs.lines.RowEvents.{found_on, hardware_line, on-frames, urgent-counts, urgent_weight, weigh}

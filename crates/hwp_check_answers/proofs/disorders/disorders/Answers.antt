@@ -1,6 +1,7 @@
 use Rattle.std.proofs.Common.{◌≡◌, ◌+◌, ◌≤◌, Some, length, slice_get, sym, arith}
 use Rattle.hwp_check_rules.specs.Standing.{cpu_line, last_line}
-use Rattle.hwp_check_answers.proofs.OrderLaws.{all-orderly, found-first, next-line, none-of, one-more, orderly-none, read-at, within-report}
+use Rattle.hwp_check_rules.proofs.StandingLaws.{next-line, within-report}
+use Rattle.hwp_check_answers.proofs.OrderLaws.{all-orderly, found-first, none-of, one-more, orderly-none, read-at}
 use Rattle.hwp_check_answers.proofs.disorders.disorders.Goals as goal
 
 pub overflow_add-line-in-loop-cpu : goal.overflow_add-line-in-loop-cpu

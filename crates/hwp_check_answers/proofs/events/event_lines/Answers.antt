@@ -2,7 +2,8 @@ use Rattle.std.proofs.Common.{◌≡◌, ◌+◌, ◌≤◌, ℕ, Option, Some, 
 use Rattle.hwp_check_evidence.specs.hwp_banks.Banks.{empty_banks}
 use Rattle.hwp_check_evidence.specs.hwp_law.Events.{AreEventsFrom}
 use Rattle.hwp_check_rules.specs.Standing.{cpu_line, last_line}
-use Rattle.hwp_check_answers.proofs.OrderLaws.{next-line, read-at, within-report}
+use Rattle.hwp_check_rules.proofs.StandingLaws.{next-line, within-report}
+use Rattle.hwp_check_answers.proofs.OrderLaws.{read-at}
 use Rattle.hwp_check_answers.proofs.Processors.{IsFirst, cpu_of, first-line, row-room}
 use Rattle.hwp_check_answers.proofs.Reports.{all-legal, found, legal, one-more, pages-room, row-fits}
 use Rattle.hwp_check_answers.proofs.events.event_lines.Goals as goal

@@ -1,6 +1,7 @@
 use Rattle.std.proofs.Common.{◌≡◌, ◌+◌, ◌≤◌, Some, length, slice_get, sym, ◌∙◌, arith}
 use Rattle.hwp_check_rules.specs.Standing.{cpu_line, last_line}
-use Rattle.hwp_check_answers.proofs.OrderLaws.{next-line, none-of, read-at, within-report}
+use Rattle.hwp_check_rules.proofs.StandingLaws.{next-line, within-report}
+use Rattle.hwp_check_answers.proofs.OrderLaws.{none-of, read-at}
 use Rattle.hwp_check_answers.proofs.OfflinedOrder.{all-due, due-none, found-due, one-due}
 use Rattle.hwp_check_answers.proofs.offlines.offlined_lines.Goals as goal
 

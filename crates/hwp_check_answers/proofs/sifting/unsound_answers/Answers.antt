@@ -2,7 +2,8 @@ use Rattle.std.proofs.Common.{◌≡◌, ℕ, ◌+◌, ◌<◌, ◌≤◌, ◌^�
 use Rattle.hwp_check_rules.specs.Standing.{cpu_line, last_line}
 use Rattle.hwp_check_answers.specs.Values.{ProcessorValue}
 use Rattle.hwp_check_answers.specs.Walk.{AreSoundLines, IsUnsoundLine}
-use Rattle.hwp_check_answers.proofs.OrderLaws.{next-line, none-of, within-report}
+use Rattle.hwp_check_rules.proofs.StandingLaws.{next-line, within-report}
+use Rattle.hwp_check_answers.proofs.OrderLaws.{none-of}
 use Rattle.hwp_check_answers.proofs.SiftLaws.{all_sound, cpus_fit, found_answer, list_there, none_sound, sound_more}
 use Rattle.hwp_check_answers.proofs.sifting.unsound_answers.Goals as goal
 use Rattle.hwp_check_rules.specs.hwp_check_acting.ActedOn.{copies_in}

@@ -1,5 +1,14 @@
-use Rattle.hwp_check_guests.proofs.RuleLaws.{judged-first, judged-none, read-at}
+use Rattle.std.proofs.Common.{◌<◌, List, length, subst}
+use Rattle.std.proofs.lemmas.Option.{slice_get_within}
+use Rattle.hwp_check_rules.specs.hwp_report_text.declared.CpuLine.{CpuLine}
+use Rattle.hwp_check_rules.proofs.StandingLaws.{read-at}
+use Rattle.hwp_check_guests.proofs.RuleLaws.{judged-first, judged-none}
 use Rattle.hwp_check_guests.proofs.rule.fault_on.Goals as goal
+
+pub row_at-requires-clause-inside : goal.row_at-requires-clause-inside
+row_at-requires-clause-inside c =
+    let found = rw c.in-Some-first_wrong.is at c.first_wrong.ensures in
+    subst (λ (rows : List CpuLine). c.in-Some-first_wrong.row < length rows) c.rows_on-rows.ensures (slice_get_within c.rows_on-rows.result.now c.in-Some-first_wrong.row found.line found.there)
 
 pub returns-in-Some-first_wrong-clause-judged : goal.returns-in-Some-first_wrong-clause-judged
 returns-in-Some-first_wrong-clause-judged c =

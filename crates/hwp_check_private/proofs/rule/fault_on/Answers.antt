@@ -1,13 +1,14 @@
-use Rattle.std.proofs.Common.{◌∙◌}
+use Rattle.std.proofs.Common.{◌<◌, List, length, subst, ◌∙◌}
 use Rattle.std.proofs.lemmas.Option.{slice_get_within}
-use Rattle.hwp_check_private.proofs.RuleLaws.{first-on, read-at}
+use Rattle.hwp_check_rules.specs.hwp_report_text.declared.CpuLine.{CpuLine}
+use Rattle.hwp_check_rules.proofs.StandingLaws.{read-at}
+use Rattle.hwp_check_private.proofs.RuleLaws.{first-on}
 use Rattle.hwp_check_private.proofs.rule.fault_on.Goals as goal
 
-pub row_at-requires-clause-of_report : goal.row_at-requires-clause-of_report
-row_at-requires-clause-of_report c = read-at c.args.report.now.cpus c.args.cpu.0 c.rows_on-rows.result.now c.requires.of_report c.rows_on-rows.ensures
-
 pub row_at-requires-clause-inside : goal.row_at-requires-clause-inside
-row_at-requires-clause-inside c = let found = rw c.in-Some.is at c.first_wrong.ensures in slice_get_within c.rows_on-rows.result.now c.in-Some.row found.line found.there
+row_at-requires-clause-inside c =
+    let found = rw c.in-Some.is at c.first_wrong.ensures in
+    subst (λ (rows : List CpuLine). c.in-Some.row < length rows) c.rows_on-rows.ensures (slice_get_within c.rows_on-rows.result.now c.in-Some.row found.line found.there)
 
 pub returns-in-Some : goal.returns-in-Some
 returns-in-Some c =

@@ -1,7 +1,7 @@
 use Rattle.std.proofs.Common.{◌≡◌, length}
 use Rattle.hwp_check_acting.specs.ActedOn.{copies_in}
 use Rattle.hwp_check_events.specs.Copied.{AreCopied}
-use Rattle.hwp_check_events.proofs.copied.copied_each.Given as goal
+use Rattle.hwp_check_events.proofs.copied.copied_of.Given as goal
 
 abbrev pub invariant-loop-number : goal.invariant-loop-number
 invariant-loop-number l = (length l.lists.items ≡ l.number) × AreCopied l.fn.layout (copies_in l.fn.copies) l.fn.report l.fn.cpu l.fn.commands l.number l.lists.items

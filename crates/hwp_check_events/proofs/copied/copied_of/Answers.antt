@@ -4,7 +4,7 @@ use Rattle.std.proofs.lemmas.Option.{slice_get-get_or}
 use Rattle.hwp_check_acting.specs.ActedOn.{copies_in}
 use Rattle.hwp_check_events.specs.Copied.{AreCopied}
 use Rattle.hwp_check_events.proofs.CopyLaws.{copied-more}
-use Rattle.hwp_check_events.proofs.copied.copied_each.Goals as goal
+use Rattle.hwp_check_events.proofs.copied.copied_of.Goals as goal
 
 pub loop-number-preserved : goal.loop-number-preserved
 loop-number-preserved c = (
