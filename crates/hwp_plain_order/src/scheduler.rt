@@ -80,13 +80,17 @@ fn is_none<T: Scheduled>(turn: Turn, task: &T) -> bool
     is_finished(turn) && task.is_over()
 }
 
-/// The level of a task after its turn: its class, or `OVER` where there was no turn. A task that is over is asked nothing more
-/// than its class until its next turn finds none.
+/// The level of a task after its turn: its class, or `OVER` where there was no turn. A task that came to its end by the turn
+/// keeps a class until it is chosen once more.
 fn level_after<T: Scheduled>(turn: Turn, task: &T) -> u8
     ensures over { IsFinished turn → T.task.plan task.now ≡ None → result ≡ 5 }
     ensures on { T.task.plan task.now ≢ None → result ≡ T.task.class task.now }
 {
-    if is_none(turn, task) { OVER } else { task.class() }
+    if is_none(turn, task) {
+        OVER
+    } else {
+        task.class()
+    }
 }
 
 /// Whether the task gave up because memory ran out.

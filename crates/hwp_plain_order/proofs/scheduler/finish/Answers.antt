@@ -19,8 +19,8 @@ loop-next-preserved g c = record {
   play = c.in_ok-make_turn.ensures.play;
   next = c.choose-next-in-Some.ensures;
   so_far = told-finishes g.T.Task.task (running (g.B.Board.layout c.loop-next.board) (g.B.Board.seat c.loop-next.board) c.loop-next.tasks (g.B.Board.state c.loop-next.board)) (running (g.B.Board.layout c.make_turn.new.board) (g.B.Board.seat c.make_turn.new.board) c.make_turn.new.tasks (g.B.Board.state c.make_turn.new.board)) c.in-Some.cpu (g.B.Board.log c.loop-next.board) (g.B.Board.log c.make_turn.new.board) c.loop-next.levels c.make_turn.new.levels c.in_ok-make_turn.field-0 c.loop-next.invariant.play c.in_ok-make_turn.ensures.play
-    (subst (λ (o : Option ℕ). IsNext (take (length c.loop-next.tasks) c.loop-next.levels) o) c.in-Some.is c.loop-next.invariant.next)
-    c.in_ok-make_turn.ensures.turn
+      (subst (λ (o : Option ℕ). IsNext (take (length c.loop-next.tasks) c.loop-next.levels) o) c.in-Some.is c.loop-next.invariant.next)
+      c.in_ok-make_turn.ensures.turn
       (running (g.B.Board.layout c.args.board.now) (g.B.Board.seat c.args.board.now) c.args.tasks.now (g.B.Board.state c.args.board.now)) (g.B.Board.log c.args.board.now) c.loop-next.invariant.so_far;
 }
 
