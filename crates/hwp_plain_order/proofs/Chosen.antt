@@ -1,5 +1,6 @@
 -- Who comes next: what is known of the levels of the others.
 use Rattle.std.proofs.Common.{◌≡◌, ◌≢◌, ℕ, zero, suc, ◌<◌, ◌≤◌, ◌⊎◌, inl, inr, true, List, [], ◌∷◌, map, length, get_or, set, Option, Some, None, refl, sym, ap, ◌∙◌, subst, arith}
+use Rattle.std.proofs.lemmas.Bool.{cases_lt}
 use Rattle.std.proofs.lemmas.List.{get_or-set_same, get_or-set_other, length-set, get_or-map, length-map}
 use Rattle.hwp_script_read.specs.hwp_geom.declared.Frame.{Frame}
 use Rattle.hwp_core_task.specs.hwp_core_rule.declared.Step.{Step}
@@ -7,9 +8,9 @@ use Rattle.hwp_core_task.specs.Boards.{view_of}
 use Rattle.hwp_core_task.specs.Ranks.{HasFrame, HasPage, Pending, Quiet}
 use Rattle.hwp_core_task.specs.Turns.{Member}
 use Rattle.hwp_core_task.specs.Classes.{IsScheduled}
-use Rattle.hwp_plain_order.specs.Order.{Running, IsAt, IsOver, AreOver, level_by, level, levels, IsChosen, seat_of}
+use Rattle.hwp_plain_order.specs.Order.{Running, IsAt, AreOver, level_by, level, levels, IsChosen, seat_of}
 use Rattle.hwp_plain_order.specs.Rank.{has_one, words_in}
-use Rattle.hwp_plain_order.specs.Ready.{Ready, Claimed, IsNext}
+use Rattle.hwp_plain_order.specs.Ready.{Ready, AreLevels, Claimed, IsNext}
 use Rattle.hwp_plain_order.proofs.Gaps.{has_one-where}
 use Rattle.hwp_plain_order.proofs.Seats.{frame-held, page-held, seat-held}
 
@@ -31,14 +32,7 @@ first-elsewhere ls p h one = (r.0, omega (arith, r.1, length-set ls p 5), differ
     differs : r.0 ≢ p
     differs same = omega (arith, r.2, get_or-set_same ls p 5 5 h, ap (λ (k : ℕ). get_or (set ls p 5) k 5) same)
 
--- while another has level 1, not all are over after a turn of p
-pub abort-none : (ls : List ℕ) (p y : ℕ) → p < length ls → has_one (set ls p 5) ≡ true → IsNext (set ls p y) None → ⊥
-abort-none ls p y h one over = omega (arith, over r.0 (rw length-set r.1), get_or-set_other ls p r.0 y 5 r.2, r.3)
-  where
-    r : (i : ℕ) × (i < length ls) × (i ≢ p) × (get_or ls i 5 ≡ 1)
-    r = first-elsewhere ls p h one
-
--- and p is not chosen again with a level above 1
+-- while another has level 1, p is not chosen again with a level above 1
 pub abort-same : (ls : List ℕ) (p y : ℕ) → p < length ls → has_one (set ls p 5) ≡ true → 1 < y → IsChosen (set ls p y) p → ⊥
 abort-same ls p y h one above chosen = omega (arith, least-level (set ls p y) p r.0 chosen (rw length-set r.1), get_or-set_same ls p y 5 h, get_or-set_other ls p r.0 y 5 r.2, r.3, above)
   where
@@ -78,11 +72,10 @@ level-of (Some step) class going = refl
 pub planned-going : {A : Type 0} → (o : Option A) (step : A) → o ≡ Some step → o ≢ None
 planned-going o step is none = absurd (cc)
 
--- the level of a task after a step that leaves class 1 or ends
-pub level-left : {A : Type 0} → (o : Option A) (class : ℕ) → (o ≡ None) ⊎ (1 < class) → 1 < level_by o class
-level-left None class left = omega arith
-level-left (Some step) class (inl over) = absurd (cc)
-level-left (Some step) class (inr above) = above
+-- a task that isn't over after a step that leaves class 1 or ends
+pub class-left : {A : Type 0} → (o : Option A) (class : ℕ) → o ≢ None → (o ≡ None) ⊎ (1 < class) → 1 < class
+class-left o class going (inl over) = absurd (going over)
+class-left o class going (inr above) = above
 
 -- where a view lists a frame, it is that of a processor with level 1
 pub frame-level : {S : Type 0} (m : Member S) (a : Running S) (i : ℕ) → IsScheduled m → Ready m a → HasFrame (view_of a.state i) → (cpu : ℕ) × (cpu < length a.tasks) × (i ≡ seat_of a cpu) × (get_or (levels m a.tasks) cpu 5 ≡ 1)
@@ -132,13 +125,39 @@ quiet m a p s step law ready chosen at planned = record {
     least : (i : ℕ) → i < length a.tasks → get_or (levels m a.tasks) p 5 ≤ get_or (levels m a.tasks) i 5
     least i h = least-level (levels m a.tasks) p i chosen (rw length-map h)
 
--- a task whose level is above all classes is over
-level-over : {A : Type 0} (o : Option A) (class : ℕ) → class ≤ 4 → 5 ≤ level_by o class → o ≡ None
-level-over None class most over = refl
-level-over (Some step) class most over = absurd (omega arith)
+module _ {S : Type 0} (m : Member S) (tasks : List S) (ls : List ℕ) (are : AreLevels m tasks ls) where
+  -- a task below the level of those that are over has its level in the array
+  pub level-array : (i : ℕ) → i < length tasks → get_or (levels m tasks) i 5 < 5 → get_or ls i 5 ≡ get_or (levels m tasks) i 5
+  level-array i h below = by (m.plan u.0) refl
+    where
+      u : (s : S) × IsAt tasks i s
+      u = task-at tasks i h
 
-pub task-over : {S : Type 0} (m : Member S) (tasks : List S) (p : ℕ) → IsScheduled m → 5 ≤ get_or (levels m tasks) p 5 → IsOver m tasks p
-task-over m tasks p law over s at = level-over (m.plan s) (m.class s) (law.ranked.classes s).1 (omega (arith, over, value-at (level m) tasks p s 5 at))
+      value : get_or (levels m tasks) i 5 ≡ level_by (m.plan u.0) (m.class u.0)
+      value = value-at (level m) tasks i u.0 5 u.1
 
-pub all-over : {S : Type 0} (m : Member S) (tasks : List S) → (0 < length tasks → IsScheduled m) → IsNext (levels m tasks) None → AreOver m tasks
-all-over m tasks law over p s at = task-over m tasks p (law (omega (arith, at.within))) (over p (rw length-map at.within)) s at
+      by : (o : Option Step) → m.plan u.0 ≡ o → get_or ls i 5 ≡ get_or (levels m tasks) i 5
+      by None over = absurd (omega (arith, below, value, ap (λ (o : Option Step). level_by o (m.class u.0)) over))
+      by (Some step) planned = are.class i u.0 u.1 (planned-going (m.plan u.0) step planned) ∙ sym (value ∙ level-of (m.plan u.0) (m.class u.0) (planned-going (m.plan u.0) step planned))
+
+  -- a task that is chosen by the array, and isn't over, is the chosen one
+  pub chosen-level : (p : ℕ) (s : S) → IsChosen ls p → IsAt tasks p s → m.plan s ≢ None → IsChosen (levels m tasks) p
+  chosen-level p s chosen at goes = record { within = rw length-map at.within; going = omega (arith, own, chosen.going); least = λ i h. by i (omega (arith, h, length-map tasks (level m))) (cases_lt (get_or (levels m tasks) i 5) 5) }
+    where
+      own : get_or (levels m tasks) p 5 ≡ get_or ls p 5
+      own = value-at (level m) tasks p s 5 at ∙ level-of (m.plan s) (m.class s) goes ∙ sym (are.class p s at goes)
+
+      by : (i : ℕ) → i < length tasks → (get_or (levels m tasks) i 5 < 5) ⊎ (5 ≤ get_or (levels m tasks) i 5) → (get_or (levels m tasks) p 5 < get_or (levels m tasks) i 5) ⊎ ((get_or (levels m tasks) p 5 ≡ get_or (levels m tasks) i 5) × (p ≤ i))
+      by i h (inl below) = elim (chosen.least i (omega (arith, h, are.count))) [
+        | inl less ↦ inl (omega (arith, less, own, level-array i h below))
+        | inr equal ↦ inr (own ∙ equal.0 ∙ level-array i h below, equal.1)
+      ]
+      by i h (inr above) = inl (omega (arith, own, chosen.going, above))
+
+  -- where none is chosen, all are over
+  pub all-over : (0 < length tasks → IsScheduled m) → IsNext ls None → AreOver m tasks
+  all-over law none p s at = by (m.plan s) refl
+    where
+      by : (o : Option Step) → m.plan s ≡ o → m.plan s ≡ None
+      by None over = over
+      by (Some step) planned = absurd (omega (arith, none p (omega (arith, at.within, are.count)), are.class p s at (planned-going (m.plan s) step planned), ((law (omega (arith, at.within))).ranked.classes s).1))

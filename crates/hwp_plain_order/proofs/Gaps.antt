@@ -4,7 +4,7 @@ use Rattle.std.proofs.lemmas.Bool.{eqb-true, eq-eqb}
 use Rattle.std.proofs.lemmas.List.{get_or-set_same, length-set}
 use Rattle.hwp_core_task.specs.Ranks.{cpu_room}
 use Rattle.hwp_plain_order.specs.Order.{IsChosen}
-use Rattle.hwp_plain_order.specs.Rank.{gap, gaps, phi, has_one, yields, ceiling, number_of}
+use Rattle.hwp_plain_order.specs.Rank.{gap, gaps, phi, has_one, stage, ceiling, number_of}
 
 pub gaps-set : (from : ℕ) (ls : List ℕ) (i y : ℕ) → i < length ls → gaps from (set ls i y) + gap (from + i) (get_or ls i 5) ≡ gaps from ls + gap (from + i) y
 gaps-set from [] i y h = absurd (omega arith)
@@ -61,33 +61,56 @@ has_one-where (l ∷ ls) is = by (l == 1) refl is (has_one-where ls)
     by true e h rest = (0, omega arith, eqb-true l 1 e)
     by false e h rest = let r = rest h in (suc r.0, omega (arith, r.1), r.2)
 
-pub yields-most : (aborts : Bool) (ls : List ℕ) (p : ℕ) → yields aborts ls p ≤ 1
-yields-most true ls p = by (has_one (set ls p 5))
+-- the stages are 1 to 3
+pub stage-most : (over aborts : Bool) (ls : List ℕ) (p : ℕ) → (1 ≤ stage over aborts ls p) × (stage over aborts ls p ≤ 3)
+stage-most true aborts ls p = (omega arith, omega arith)
+stage-most false false ls p = (omega arith, omega arith)
+stage-most false true ls p = by (has_one (set ls p 5))
   where
-    by : (b : Bool) → cond {A = ℕ} b 0 1 ≤ 1
+    by : (b : Bool) → (1 ≤ cond {A = ℕ} b 2 3) × (cond {A = ℕ} b 2 3 ≤ 3)
+    by true = (omega arith, omega arith)
+    by false = (omega arith, omega arith)
+
+-- that of a task that is over
+pub stage-over : (over aborts : Bool) (ls : List ℕ) (p : ℕ) → over ≡ true → stage over aborts ls p ≡ 1
+stage-over over aborts ls p is = ap (λ (b : Bool). cond {A = ℕ} b 1 (cond aborts (cond (has_one (set ls p 5)) 2 3) 3)) is
+
+-- of one that isn't
+pub stage-going : (over aborts : Bool) (ls : List ℕ) (p : ℕ) → over ≡ false → 2 ≤ stage over aborts ls p
+stage-going true aborts ls p is = absurd (cc)
+stage-going false false ls p is = omega arith
+stage-going false true ls p is = by (has_one (set ls p 5))
+  where
+    by : (b : Bool) → 2 ≤ cond {A = ℕ} b 2 3
     by true = omega arith
     by false = omega arith
-yields-most false ls p = omega arith
 
--- with no yield to make, the number is 1
-pub yields-one : (aborts : Bool) (ls : List ℕ) (p : ℕ) → (aborts ≡ true → has_one (set ls p 5) ≡ true → ⊥) → yields aborts ls p ≡ 1
-yields-one true ls p none = by (has_one (set ls p 5)) (none refl)
+-- of one that has nobody to leave its class to
+pub stage-stays : (over aborts : Bool) (ls : List ℕ) (p : ℕ) → over ≡ false → (aborts ≡ true → has_one (set ls p 5) ≡ true → ⊥) → stage over aborts ls p ≡ 3
+stage-stays true aborts ls p is none = absurd (cc)
+stage-stays false false ls p is none = refl
+stage-stays false true ls p is none = by (has_one (set ls p 5)) (none refl)
   where
-    by : (b : Bool) → (b ≡ true → ⊥) → cond {A = ℕ} b 0 1 ≡ 1
+    by : (b : Bool) → (b ≡ true → ⊥) → cond {A = ℕ} b 2 3 ≡ 3
     by true no_one = absurd (no_one refl)
     by false no_one = refl
-yields-one false ls p none = refl
 
--- a yield to make
-pub yields-none : (aborts : Bool) (ls : List ℕ) (p : ℕ) → aborts ≡ true → has_one (set ls p 5) ≡ true → yields aborts ls p ≡ 0
-yields-none aborts ls p a h = ap (λ (b : Bool). cond b (cond (has_one (set ls p 5)) 0 1) 1) a ∙ ap (λ (b : Bool). cond {A = ℕ} b 0 1) h
+-- and of one that is about to leave it
+pub stage-leaves : (over aborts : Bool) (ls : List ℕ) (p : ℕ) → aborts ≡ true → has_one (set ls p 5) ≡ true → stage over aborts ls p ≤ 2
+stage-leaves true aborts ls p a h = omega arith
+stage-leaves false false ls p a h = absurd (cc)
+stage-leaves false true ls p a h = by (has_one (set ls p 5)) h
+  where
+    by : (b : Bool) → b ≡ true → cond {A = ℕ} b 2 3 ≤ 2
+    by true is = omega arith
+    by false is = absurd (cc)
 
 -- the three ways in which the number falls
-pub number-by-phi : (f f2 y y2 c c2 : ℕ) → f2 < f → y2 ≤ 1 → c2 < ceiling → number_of f2 y2 c2 < number_of f y c
-number-by-phi f f2 y y2 c c2 h hy hc = omega arith
+pub number-by-phi : (f f2 y y2 c c2 : ℕ) → f2 < f → 1 ≤ y → y2 ≤ 3 → c2 < ceiling → number_of f2 y2 c2 < number_of f y c
+number-by-phi f f2 y y2 c c2 h some hy hc = omega arith
 
-pub number-by-yield : (f f2 y y2 c c2 : ℕ) → f2 ≡ f → y2 < y → c2 < ceiling → number_of f2 y2 c2 < number_of f y c
-number-by-yield f f2 y y2 c c2 h hy hc = omega arith
+pub number-by-stage : (f f2 y y2 c c2 : ℕ) → f2 ≡ f → y2 < y → c2 < ceiling → number_of f2 y2 c2 < number_of f y c
+number-by-stage f f2 y y2 c c2 h hy hc = omega arith
 
 pub number-by-cost : (f f2 y y2 c c2 : ℕ) → f2 ≡ f → y2 ≤ y → c2 < c → number_of f2 y2 c2 < number_of f y c
 number-by-cost f f2 y y2 c c2 h hy hc = omega arith

@@ -1,11 +1,12 @@
 -- One turn keeps what the scheduler needs; one of the chosen processor lowers the rank.
 use Rattle.std.proofs.Common.{◌≡◌, ◌≢◌, ℕ, ◌<◌, ◌≤◌, ◌⊎◌, inl, inr, Bool, true, false, List, length, get_or, set, Option, Some, None, refl, sym, ap, ◌∙◌, subst, arith}
 use Rattle.std.proofs.lemmas.Bool.{cases_eq}
-use Rattle.std.proofs.lemmas.List.{get_or-set_other, length-set, length-map, map-set}
+use Rattle.std.proofs.lemmas.List.{get_or-set_same, get_or-set_other, length-set}
 use Rattle.hwp_script_read.specs.hwp_geom.declared.Cpu.{Cpu}
 use Rattle.hwp_script_read.specs.hwp_geom.declared.Frame.{Frame}
 use Rattle.hwp_script_read.specs.hwp_geom.declared.Layout.{Layout}
 use Rattle.hwp_script_read.specs.hwp_geom.Limits.{cpu_limit}
+use Rattle.hwp_core_task.specs.hwp_core_rule.declared.Step.{Step}
 use Rattle.hwp_core_task.specs.hwp_core_rule.declared.View.{View}
 use Rattle.hwp_core_task.specs.hwp_core_rule.Rule.{Holds}
 use Rattle.hwp_core_task.specs.declared.Turn.{Turn}
@@ -15,12 +16,12 @@ use Rattle.hwp_core_task.specs.Ranks.{CostFalls, HasFailed, OtherHand, Pending, 
 use Rattle.hwp_core_task.specs.Turns.{Member}
 use Rattle.hwp_core_task.specs.Classes.{IsScheduled}
 use Rattle.hwp_core_task.proofs.Failures.{failures-few}
-use Rattle.hwp_plain_order.specs.Order.{Running, IsAt, IsNoMemory, TurnOf, level, levels, IsChosen, cpu_of, seat_of}
-use Rattle.hwp_plain_order.specs.Rank.{words_in, phi, has_one, yields, aborts_at, cost_at, need_at, ceiling, number_of, rank}
-use Rattle.hwp_plain_order.specs.Ready.{Claimed, Ready, IsNext}
+use Rattle.hwp_plain_order.specs.Order.{Running, IsAt, IsNoMemory, TurnOf, levels, IsChosen, cpu_of, seat_of}
+use Rattle.hwp_plain_order.specs.Rank.{words_in, phi, has_one, stage, is_none, over_at, aborts_at, cost_at, need_at, ceiling, number_of, rank}
+use Rattle.hwp_plain_order.specs.Ready.{AreLevels, Claimed, Ready, IsNext}
 use Rattle.hwp_plain_order.proofs.Seats.{few-tasks}
-use Rattle.hwp_plain_order.proofs.Gaps.{phi-stays, phi-falls, has_one-at, yields-most, yields-one, yields-none, number-by-phi, number-by-yield, number-by-cost}
-use Rattle.hwp_plain_order.proofs.Chosen.{abort-none, abort-same, task-at, value-at, IsAt-set, IsAt-other, IsAt-before, IsAt-same, level-left, frame-level, quiet}
+use Rattle.hwp_plain_order.proofs.Gaps.{phi-stays, phi-falls, has_one-at, stage-most, stage-over, stage-going, stage-stays, stage-leaves, number-by-phi, number-by-stage, number-by-cost}
+use Rattle.hwp_plain_order.proofs.Chosen.{abort-same, task-at, value-at, IsAt-set, IsAt-other, IsAt-before, IsAt-same, planned-going, class-left, frame-level, quiet, level-array, chosen-level}
 
 -- a turn for which memory wasn't refused
 not-refused : (turn : Turn) → (IsNoMemory turn → ⊥) → is_refused turn ≡ false
@@ -126,29 +127,40 @@ need-small {S} m a p law ready h =
     u : (s : S) × IsAt a.tasks p s
     u = task-at a.tasks p h
 
+few-levels : {S : Type 0} (m : Member S) (a : Running S) (ls : List ℕ) → Ready m a → AreLevels m a.tasks ls → length ls ≤ cpu_room
+few-levels m a ls ready are = let most : length a.tasks ≤ cpu_limit = few-tasks a.layout (length a.tasks) ready.rule.sound ready.crew.count in omega (arith, most, are.count)
+
+-- a task that is over is found out: its place gets the level above all classes, and that lowers the rank
+pub none-lowers : {S : Type 0} (m : Member S) (a : Running S) (p : ℕ) (ls : List ℕ) (q : Option ℕ)
+    → Ready m a → AreLevels m a.tasks ls → IsChosen ls p → IsNext (set ls p 5) q → rank m a (set ls p 5) q < rank m a ls (Some p)
+none-lowers m a p ls q ready are chosen next = by q next
+  where
+    stage-a : ℕ
+    stage-a = stage (over_at m a.tasks p) (aborts_at m a.tasks p) ls p
+
+    some : (1 ≤ stage-a) × (stage-a ≤ 3)
+    some = stage-most (over_at m a.tasks p) (aborts_at m a.tasks p) ls p
+
+    differs : (i : ℕ) → IsChosen (set ls p 5) i → i ≢ p
+    differs i again same = omega (arith, again.going, ap (λ (k : ℕ). get_or (set ls p 5) k 5) same, get_or-set_same ls p 5 5 chosen.within)
+
+    by : (r : Option ℕ) → IsNext (set ls p 5) r → rank m a (set ls p 5) r < number_of (phi ls p) stage-a (need_at m a.tasks (words_in a) p)
+    by None over = omega (arith, some.0)
+    by (Some i) again = number-by-phi (phi ls p) (phi (set ls p 5) i) stage-a (stage (over_at m a.tasks i) (aborts_at m a.tasks i) (set ls p 5) i) (need_at m a.tasks (words_in a) p) (need_at m a.tasks (words_in a) i)
+        (phi-falls ls p 5 i chosen.within (few-levels m a ls ready are) (differs i again) again) some.0 (stage-most (over_at m a.tasks i) (aborts_at m a.tasks i) (set ls p 5) i).1
+        (need-small m a i (ready.law (omega (arith, chosen.within, are.count))) ready (omega (arith, again.within, length-set ls p 5, are.count)))
+
 -- THE TURN OF THE CHOSEN ONE LOWERS THE RANK
-pub turn-lowers : {S : Type 0} (m : Member S) (a b : Running S) (p : ℕ) (played : Played) (q : Option ℕ)
-    → Ready m a → Ready m b → IsChosen (levels m a.tasks) p → TurnOf m a p played b → IsNext (levels m b.tasks) q
-    → rank m b q < rank m a (Some p)
-turn-lowers {S} m a b p played q ready ready-b chosen turn next = by q (subst (λ (ls : List ℕ). IsNext ls q) changed next)
+pub turn-lowers : {S : Type 0} (m : Member S) (a b : Running S) (p : ℕ) (played : Played) (ls : List ℕ) (y : ℕ) (q : Option ℕ)
+    → Ready m a → Ready m b → AreLevels m a.tasks ls → AreLevels m b.tasks (set ls p y) → IsChosen ls p → TurnOf m a p played b → IsNext (set ls p y) q
+    → rank m b (set ls p y) q < rank m a ls (Some p)
+turn-lowers {S} m a b p played ls y q ready ready-b are are-b chosen turn next = by q next
   where
     law : IsScheduled m
     law = law-of m a b p played ready turn
 
-    ls : List ℕ
-    ls = levels m a.tasks
-
-    y : ℕ
-    y = level m turn.after
-
-    changed : levels m b.tasks ≡ set ls p y
-    changed = ap (λ (ts : List S). levels m ts) (tasks_are m a b p played ready turn) ∙ map-set (level m) a.tasks p turn.after
-
     h : p < length ls
     h = chosen.within
-
-    few : length ls ≤ cpu_room
-    few = let most : length a.tasks ≤ cpu_limit = few-tasks a.layout (length a.tasks) ready.rule.sound ready.crew.count in omega (arith, most, length-map a.tasks (level m))
 
     small : (i : ℕ) → i < length a.tasks → need_at m b.tasks (words_in b) i < ceiling
     small i g = need-small m b i law ready-b (omega (arith, g, same_length m a b p played ready turn))
@@ -156,62 +168,93 @@ turn-lowers {S} m a b p played q ready ready-b chosen turn next = by q (subst (�
     aborting : aborts_at m a.tasks p ≡ m.aborts turn.before
     aborting = value-at m.aborts a.tasks p turn.before false turn.at
 
-    yield-a : ℕ
-    yield-a = yields (aborts_at m a.tasks p) ls p
+    going : m.plan turn.before ≢ None
+    going = planned-going (m.plan turn.before) turn.made.step turn.made.planned
+
+    on : over_at m a.tasks p ≡ false
+    on = value-at (λ (x : S). is_none (m.plan x)) a.tasks p turn.before false turn.at ∙ ap is_none turn.made.planned
+
+    stage-a : ℕ
+    stage-a = stage (over_at m a.tasks p) (aborts_at m a.tasks p) ls p
 
     need-a : ℕ
     need-a = need_at m a.tasks (words_in a) p
 
+    stage-b : ℕ → ℕ
+    stage-b i = stage (over_at m b.tasks i) (aborts_at m b.tasks i) (set ls p y) i
+
+    most : (i : ℕ) → stage-b i ≤ 3
+    most i = (stage-most (over_at m b.tasks i) (aborts_at m b.tasks i) (set ls p y) i).1
+
     rank-b : ℕ → ℕ
-    rank-b i = number_of (phi (set ls p y) i) (yields (aborts_at m b.tasks i) (set ls p y) i) (need_at m b.tasks (words_in b) i)
+    rank-b i = number_of (phi (set ls p y) i) (stage-b i) (need_at m b.tasks (words_in b) i)
 
-    left : m.aborts turn.before ≡ true → 1 < y
-    left aborts = level-left (m.plan turn.after) (m.class turn.after) (law.ranked.leaves a.layout (seat_of a p) a.state b.state turn.before turn.after played.turn turn.made aborts)
+    some : 2 ≤ stage-a
+    some = stage-going (over_at m a.tasks p) (aborts_at m a.tasks p) ls p on
 
-    -- where p is chosen again, it had no yield to make
-    one : IsChosen (set ls p y) p → yield-a ≡ 1
-    one again = yields-one (aborts_at m a.tasks p) ls p (λ aborts first. abort-same ls p y h first (left (sym aborting ∙ aborts)) again)
+    at : IsAt b.tasks p turn.after
+    at = at-after m a b p played ready turn
+
+    left : m.plan turn.after ≢ None → m.aborts turn.before ≡ true → 1 < y
+    left goes aborts = omega (
+      arith,
+      class-left (m.plan turn.after) (m.class turn.after) goes (law.ranked.leaves a.layout (seat_of a p) a.state b.state turn.before turn.after played.turn turn.made aborts),
+      are-b.class p turn.after at goes,
+      get_or-set_same ls p y 5 h,
+    )
+
+    -- where p is chosen again and isn't over, it had nobody to leave its class to
+    three : IsChosen (set ls p y) p → m.plan turn.after ≢ None → stage-a ≡ 3
+    three again goes = stage-stays (over_at m a.tasks p) (aborts_at m a.tasks p) ls p on (λ aborts first. abort-same ls p y h first (left goes (sym aborting ∙ aborts)) again)
 
     -- the other whose hand a step met has class 1
     met : OtherHand a.state (seat_of a p) → has_one (set (set ls p y) p 5) ≡ true
     met o = has_one-at (set (set ls p y) p 5) f.0 (rw (length-set, length-set) within)
-        (get_or-set_other (set ls p y) p f.0 5 5 differs ∙ (get_or-set_other ls p f.0 y 5 differs ∙ f.3))
+        (get_or-set_other (set ls p y) p f.0 5 5 differs ∙ (get_or-set_other ls p f.0 y 5 differs ∙ (level-array m a.tasks ls are f.0 f.1 (omega (arith, f.3)) ∙ f.3)))
       where
-        f : (cpu : ℕ) × (cpu < length a.tasks) × (o.other ≡ seat_of a cpu) × (get_or ls cpu 5 ≡ 1)
+        f : (cpu : ℕ) × (cpu < length a.tasks) × (o.other ≡ seat_of a cpu) × (get_or (levels m a.tasks) cpu 5 ≡ 1)
         f = frame-level m a o.other law ready (inr (inl o.has))
 
         differs : f.0 ≢ p
         differs same = o.differs (f.2 ∙ ap (λ (k : ℕ). seat_of a k) same)
 
         within : f.0 < length ls
-        within = rw length-map f.1
+        within = omega (arith, f.1, are.count)
 
-    aborts-b : aborts_at m b.tasks p ≡ m.aborts turn.after
-    aborts-b = value-at m.aborts b.tasks p turn.after false (at-after m a b p played ready turn)
+    by-need : IsChosen (set ls p y) p → m.plan turn.after ≢ None → need_at m b.tasks (words_in b) p < need_at m a.tasks (words_in a) p → rank-b p < number_of (phi ls p) stage-a need-a
+    by-need again goes fall = number-by-cost (phi ls p) (phi (set ls p y) p) stage-a (stage-b p) need-a (need_at m b.tasks (words_in b) p)
+        (phi-stays ls p y h) (omega (arith, three again goes, most p)) fall
 
-    by-need : IsChosen (set ls p y) p → need_at m b.tasks (words_in b) p < need_at m a.tasks (words_in a) p → rank-b p < number_of (phi ls p) yield-a need-a
-    by-need again fall = number-by-cost (phi ls p) (phi (set ls p y) p) yield-a (yields (aborts_at m b.tasks p) (set ls p y) p) need-a (need_at m b.tasks (words_in b) p)
-        (phi-stays ls p y h) (omega (arith, one again, yields-most (aborts_at m b.tasks p) (set ls p y) p)) fall
+    by-stage : stage-b p < stage-a → rank-b p < number_of (phi ls p) stage-a need-a
+    by-stage less = number-by-stage (phi ls p) (phi (set ls p y) p) stage-a (stage-b p) need-a (need_at m b.tasks (words_in b) p) (phi-stays ls p y h) less (small p turn.at.within)
 
-    by-waits : IsChosen (set ls p y) p → CostFalls m a.layout a.state b.state turn.before turn.after ⊎ ((m.aborts turn.after ≡ true) × OtherHand a.state (seat_of a p)) → rank-b p < number_of (phi ls p) yield-a need-a
-    by-waits again (inl fall) = by-need again (by-less m a b p played ready turn fall)
-    by-waits again (inr hand) = number-by-yield (phi ls p) (phi (set ls p y) p) yield-a (yields (aborts_at m b.tasks p) (set ls p y) p) need-a (need_at m b.tasks (words_in b) p)
-        (phi-stays ls p y h) (omega (arith, one again, yields-none (aborts_at m b.tasks p) (set ls p y) p (aborts-b ∙ hand.0) (met hand.1)))
-        (small p turn.at.within)
+    leaves : m.aborts turn.after ≡ true → has_one (set (set ls p y) p 5) ≡ true → stage-b p ≤ 2
+    leaves aborts one = stage-leaves (over_at m b.tasks p) (aborts_at m b.tasks p) (set ls p y) p (value-at m.aborts b.tasks p turn.after false at ∙ aborts) one
 
-    by-turn : IsChosen (set ls p y) p → (w : Bool) → is_waits played.turn ≡ w → rank-b p < number_of (phi ls p) yield-a need-a
-    by-turn again false is = by-need again (need-falls m a b p played ready turn is)
-    by-turn again true is = by-waits again (law.ranked.waits a.layout (seat_of a p) a.state b.state turn.before turn.after played.turn turn.made is
-        (quiet m a p turn.before turn.made.step law ready chosen turn.at turn.made.planned))
+    by-waits : IsChosen (set ls p y) p → m.plan turn.after ≢ None → CostFalls m a.layout a.state b.state turn.before turn.after ⊎ ((m.aborts turn.after ≡ true) × OtherHand a.state (seat_of a p)) → rank-b p < number_of (phi ls p) stage-a need-a
+    by-waits again goes (inl fall) = by-need again goes (by-less m a b p played ready turn fall)
+    by-waits again goes (inr hand) = by-stage (omega (arith, three again goes, leaves hand.0 (met hand.1)))
 
-    by-next : (i : ℕ) → IsChosen (set ls p y) i → (i ≡ p) ⊎ (i ≢ p) → rank-b i < number_of (phi ls p) yield-a need-a
-    by-next i again (inl same) = subst (λ (k : ℕ). rank-b k < number_of (phi ls p) yield-a need-a) (sym same)
-        (by-turn (subst (λ (k : ℕ). IsChosen (set ls p y) k) same again) (is_waits played.turn) refl)
-    by-next i again (inr ne) = number-by-phi (phi ls p) (phi (set ls p y) i) yield-a (yields (aborts_at m b.tasks i) (set ls p y) i) need-a (need_at m b.tasks (words_in b) i)
-        (phi-falls ls p y i h few ne again) (yields-most (aborts_at m b.tasks i) (set ls p y) i)
-        (small i (omega (arith, again.within, length-set ls p y, length-map a.tasks (level m))))
+    by-turn : IsChosen (set ls p y) p → m.plan turn.after ≢ None → (w : Bool) → is_waits played.turn ≡ w → rank-b p < number_of (phi ls p) stage-a need-a
+    by-turn again goes false is = by-need again goes (need-falls m a b p played ready turn is)
+    by-turn again goes true is = by-waits again goes (law.ranked.waits a.layout (seat_of a p) a.state b.state turn.before turn.after played.turn turn.made is
+        (quiet m a p turn.before turn.made.step law ready (chosen-level m a.tasks ls are p turn.before chosen turn.at going) turn.at turn.made.planned))
 
-    by : (r : Option ℕ) → IsNext (set ls p y) r → rank m b r < number_of (phi ls p) yield-a need-a
-    by None over = omega (arith, yields-one (aborts_at m a.tasks p) ls p (λ aborts first. abort-none ls p y h first over))
-    by (Some i) again = subst (λ (l : List ℕ). number_of (phi l i) (yields (aborts_at m b.tasks i) l i) (need_at m b.tasks (words_in b) i) < number_of (phi ls p) yield-a need-a)
-        (sym changed) (by-next i again (cases_eq i p))
+    last : m.plan turn.after ≡ None → stage-b p ≡ 1
+    last over = stage-over (over_at m b.tasks p) (aborts_at m b.tasks p) (set ls p y) p (value-at (λ (x : S). is_none (m.plan x)) b.tasks p turn.after false at ∙ ap is_none over)
+
+    -- p again: it is over, or goes on
+    by-same : IsChosen (set ls p y) p → (o : Option Step) → m.plan turn.after ≡ o → rank-b p < number_of (phi ls p) stage-a need-a
+    by-same again None over = by-stage (omega (arith, some, last over))
+    by-same again (Some step) planned = by-turn again (planned-going (m.plan turn.after) step planned) (is_waits played.turn) refl
+
+    by-next : (i : ℕ) → IsChosen (set ls p y) i → (i ≡ p) ⊎ (i ≢ p) → rank-b i < number_of (phi ls p) stage-a need-a
+    by-next i again (inl same) = subst (λ (k : ℕ). rank-b k < number_of (phi ls p) stage-a need-a) (sym same)
+        (by-same (subst (λ (k : ℕ). IsChosen (set ls p y) k) same again) (m.plan turn.after) refl)
+    by-next i again (inr ne) = number-by-phi (phi ls p) (phi (set ls p y) i) stage-a (stage-b i) need-a (need_at m b.tasks (words_in b) i)
+        (phi-falls ls p y i h (few-levels m a ls ready are) ne again) (omega (arith, some)) (most i)
+        (small i (omega (arith, again.within, length-set ls p y, are.count)))
+
+    by : (r : Option ℕ) → IsNext (set ls p y) r → rank m b (set ls p y) r < number_of (phi ls p) stage-a need-a
+    by None over = omega (arith, some)
+    by (Some i) again = by-next i again (cases_eq i p)

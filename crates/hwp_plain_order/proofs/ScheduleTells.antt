@@ -45,6 +45,10 @@ module _ {S : Type 0} (m : Member S) (a : Running S) (was : List Played) (b : Ru
   pub finish-more : (c : Running S) (after : List Played) (cpu : ℕ) (p : Played) → SoFar (Finishing m) a was b now → IsChosen (levels m b.tasks) cpu → TurnOf m b cpu p c → after ≡ p ∷ now → SoFar (Finishing m) a was c after
   finish-more c after cpu p s chosen turn one = sofar-more (Finishing m) a was b now s c after p one (λ rest end q. (cpu, chosen, (c, turn, q)))
 
+  -- nothing changed
+  pub finish-same : (c : Running S) (after : List Played) → SoFar (Finishing m) a was b now → c ≡ b → after ≡ now → SoFar (Finishing m) a was c after
+  finish-same c after s board log = subst (λ (l : List Played). SoFar (Finishing m) a was c l) (sym log) (subst (λ (r : Running S). SoFar (Finishing m) a was r now) (sym board) s)
+
   pub finish-end : SoFar (Finishing m) a was b now → AreOver m b.tasks → Grows was now (λ ps. Finishing m a ps b)
   finish-end s over = sofar-end (Finishing m) a was b now s b (over, refl)
 

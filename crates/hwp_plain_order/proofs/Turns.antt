@@ -1,6 +1,7 @@
 -- What one turn of the scheduler makes.
-use Rattle.std.proofs.Common.{◌≡◌, ◌≢◌, ℕ, ◌<◌, inl, inr, List, length, take, get_or, set, false, Option, Some, None, refl, sym, ap, ◌∙◌, subst, arith}
-use Rattle.std.proofs.lemmas.List.{get_or-take, length-set, map-set, set-get_or}
+use Rattle.std.proofs.Common.{◌≡◌, ◌≢◌, ℕ, ◌<◌, ◌⊎◌, inl, inr, List, map, length, take, get_or, set, false, Option, Some, None, refl, sym, ap, ◌∙◌, subst, arith}
+use Rattle.std.proofs.lemmas.Bool.{cases_eq}
+use Rattle.std.proofs.lemmas.List.{get_or-set_same, get_or-set_other, length-map, length-set, set-get_or}
 use Rattle.std.proofs.Math.Seq.{take-set-lt}
 use Rattle.hwp_script_read.specs.hwp_geom.declared.Cpu.{Cpu}
 use Rattle.hwp_script_read.specs.hwp_geom.declared.Kind.{Kind}
@@ -8,6 +9,7 @@ use Rattle.hwp_script_read.specs.hwp_geom.declared.Layout.{Layout}
 use Rattle.hwp_core_task.specs.hwp_core_rule.declared.State.{State}
 use Rattle.hwp_core_task.specs.hwp_core_rule.declared.Step.{Step}
 use Rattle.hwp_core_task.specs.hwp_core_rule.Rule.{Holds}
+use Rattle.hwp_script_read.specs.hwp_geom.Limits.{cpu_limit}
 use Rattle.hwp_script_read.specs.declared.Go.{Go}
 use Rattle.hwp_script_read.specs.declared.Until.{Until}
 use Rattle.hwp_script_read.specs.declared.Until.TheVariants as untils
@@ -17,29 +19,18 @@ use Rattle.hwp_core_task.specs.Boards.{Played, TakesTurn, TakesTurnBy, view_of, 
 use Rattle.hwp_core_task.specs.Calls.{logs, rec_of}
 use Rattle.hwp_core_task.specs.Ranks.{is_waits}
 use Rattle.hwp_core_task.specs.Turns.{Member}
-use Rattle.hwp_plain_order.specs.Order.{Running, running, IsAt, IsNoMemory, IsOver, IsRefused, EndsCommand, Word, Grows, EndsWord, told_of, level_by, level, levels, IsChosen, cpu_of, seat_of}
+use Rattle.hwp_plain_order.specs.Order.{Running, running, IsAt, IsNoMemory, IsOver, IsRefused, EndsCommand, Word, Grows, EndsWord, Finishing, told_of, IsChosen, cpu_of, seat_of}
 use Rattle.hwp_plain_order.specs.Rank.{words_in, rank, need_at}
-use Rattle.hwp_plain_order.specs.Ready.{Goes, InPlay, IsFinished, IsNext, NoneTold, Ready, TurnOrNone, TurnTold}
-use Rattle.hwp_plain_order.proofs.Chosen.{value-at, IsAt-set, IsAt-same, task-at}
-use Rattle.hwp_plain_order.proofs.RankFalls.{ready-after, turn-lowers, need-falls}
-use Rattle.hwp_plain_order.proofs.ScheduleTells.{SoFar, word-more, word-last, word-over}
-
--- the array has the task's level
-array-level : {S : Type 0} (m : Member S) (ls : List ℕ) (a : Running S) (p : ℕ) (s : S) → InPlay m ls a → IsAt a.tasks p s → get_or ls p 5 ≡ level m s
-array-level m ls a p s play at = sym (get_or-take (length a.tasks) ls p 5 at.within) ∙ (ap (λ (l : List ℕ). get_or l p 5) play.are ∙ value-at (level m) a.tasks p s 5 at)
-
-going-plan : {S : Type 0} (m : Member S) (s : S) → level m s < 5 → m.plan s ≢ None
-going-plan m s going over = omega (arith, ap (λ o. level_by o (m.class s)) over, going)
+use Rattle.hwp_plain_order.specs.Ready.{AreLevels, InPlay, IsFinished, IsNext, NoneTold, Ready, TurnOrNone, TurnOrOver, TurnTold}
+use Rattle.hwp_plain_order.proofs.Chosen.{value-at, IsAt-set, IsAt-before, IsAt-same, planned-going, chosen-level}
+use Rattle.hwp_plain_order.proofs.RankFalls.{ready-after, none-lowers, turn-lowers, need-falls}
+use Rattle.hwp_plain_order.proofs.ScheduleTells.{SoFar, finish-same, finish-more, word-more, word-last, word-over}
 
 -- a read is read again
 pub read-again : {S : Type 0} (tasks : List S) (p : ℕ) (d : S) → d ≡ get_or tasks p d → get_or tasks p d ≡ get_or tasks p (get_or tasks p d)
 read-again tasks p d is = ap (get_or tasks p) is
 
--- a task that isn't over, by the array
-pub array-goes : {S : Type 0} (m : Member S) (ls : List ℕ) (a : Running S) (p : ℕ) → InPlay m ls a → get_or ls p 5 < 5 → Goes m a.tasks p
-array-goes m ls a p play going s at = going-plan m s (subst (λ (k : ℕ). k < 5) (array-level m ls a p s play at) going)
-
--- the same, and that it is over, by what the task itself tells
+-- a task is over, by what it tells itself
 pub task-done : {S : Type 0} (m : Member S) (tasks : List S) (p : ℕ) (s : S) → p < length tasks → s ≡ get_or tasks p s → m.plan s ≡ None → IsOver m tasks p
 task-done m tasks p s h is over t at = ap m.plan (IsAt-same tasks p t s at (record { within = h; is = sym is })) ∙ over
 
@@ -110,37 +101,96 @@ ready-told {S} m a b p t was now told ready h (inr made) seats own fits others c
     mine x at = subst (λ (z : S). ((m.who z).cpu ≡ cpu_of p) × m.fits b.layout (view_of b.state (seat_of b p)) z)
         (IsAt-same (set a.tasks p t) p t x after (subst (λ (ts : List S). IsAt ts p x) changed at)) (own, fits)
 
+-- the array of levels with a new one, as far as there are tasks
+array-after : {S : Type 0} (a b : Running S) (ls : List ℕ) (p y : ℕ) → p < length a.tasks → length b.tasks ≡ length a.tasks → take (length b.tasks) (set ls p y) ≡ set (take (length a.tasks) ls) p y
+array-after a b ls p y h count = ap (λ (n : ℕ). take n (set ls p y)) count ∙ take-set-lt (length a.tasks) ls p y h
+
+-- the others' tasks stay
+others-stay : {S : Type 0} (m : Member S) (a b : Running S) (p : ℕ) (was now : List Played) (told : Turn × Option Kind) → TurnOrNone m a p was now told b → (i : ℕ) (u : S) → i ≢ p → IsAt b.tasks i u → IsAt a.tasks i u
+others-stay {S} m a b p was now told (inl none) i u ne at = subst (λ (r : Running S). IsAt r.tasks i u) none.board at
+others-stay {S} m a b p was now told (inr made) i u ne at = IsAt-before a.tasks p i made.turn.after u ne (subst (λ (r : Running S). IsAt r.tasks i u) made.turn.next at)
+
 -- with the array of levels, in which the one task's is new
 pub play-after : {S : Type 0} (m : Member S) (ls : List ℕ) (a b : Running S) (p y : ℕ) (u : S) (was now : List Played) (told : Turn × Option Kind)
-    → InPlay m ls a → p < length a.tasks → TurnTold m a p was now told b → Ready m b → u ≡ get_or b.tasks p u → y ≡ level m u → InPlay m (set ls p y) b
-play-after {S} m ls a b p y u was now told play h made ready there value = record {
+    → InPlay m ls a → p < length a.tasks → length b.tasks ≡ length a.tasks → TurnOrNone m a p was now told b → Ready m b → u ≡ get_or b.tasks p u
+    → (m.plan u ≢ None → y ≡ m.class u) → InPlay m (set ls p y) b
+play-after {S} m ls a b p y u was now told play h count turn ready there value = record {
   ready = ready;
   places = length-set ls p y ∙ play.places;
-  are = ap (λ (ts : List S). take (length ts) (set ls p y)) changed ∙ ap (λ (n : ℕ). take n (set ls p y)) (length-set a.tasks p t)
-      ∙ (take-set-lt (length a.tasks) ls p y h ∙ (ap (λ (l : List ℕ). set l p y) play.are ∙ (ap (λ (k : ℕ). set (levels m a.tasks) p k) y-is
-      ∙ (sym (map-set (level m) a.tasks p t) ∙ ap (levels m) (sym changed)))));
+  are = subst (AreLevels m b.tasks) (sym (array-after a b ls p y h count)) (record { count = length-set tasks-levels p y ∙ (room ∙ sym count); class = λ i s at goes. class-by i s at goes (cases_eq i p) });
 }
   where
-    t : S
-    t = made.turn.after
+    tasks-levels : List ℕ
+    tasks-levels = take (length a.tasks) ls
 
-    changed : b.tasks ≡ set a.tasks p t
-    changed = ap (λ (r : Running S). r.tasks) made.turn.next
+    room : length tasks-levels ≡ length a.tasks
+    room = play.are.count
 
-    after : IsAt b.tasks p t
-    after = subst (λ (ts : List S). IsAt ts p t) (sym changed) (IsAt-set a.tasks p t h)
+    within : p < length tasks-levels
+    within = omega (arith, h, room)
 
-    y-is : y ≡ level m t
-    y-is = value ∙ ap (level m) (IsAt-same b.tasks p u t (record { within = after.within; is = sym there }) after)
+    mine : (s : S) → IsAt b.tasks p s → m.plan s ≢ None → y ≡ m.class s
+    mine s at = subst (λ (x : S). m.plan x ≢ None → y ≡ m.class x) (IsAt-same b.tasks p u s (record { within = at.within; is = sym there }) at) value
 
--- who comes next, by the array
-pub next-of : {S : Type 0} (m : Member S) (ls : List ℕ) (a : Running S) (q : Option ℕ) → InPlay m ls a → IsNext (take (length a.tasks) ls) q → IsNext (levels m a.tasks) q
-next-of m ls a q play next = subst (λ (l : List ℕ). IsNext l q) play.are next
+    class-by : (i : ℕ) (s : S) → IsAt b.tasks i s → m.plan s ≢ None → (i ≡ p) ⊎ (i ≢ p) → get_or (set tasks-levels p y) i 5 ≡ m.class s
+    class-by i s at goes (inl same) = ap (λ (k : ℕ). get_or (set tasks-levels p y) k 5) same ∙ (get_or-set_same tasks-levels p y 5 within ∙ mine s (subst (λ (k : ℕ). IsAt b.tasks k s) same at) goes)
+    class-by i s at goes (inr ne) = get_or-set_other tasks-levels p i y 5 ne ∙ play.are.class i s (others-stay m a b p was now told turn i s ne at) goes
 
--- the chosen one's turn lowers the rank
-pub told-lowers : {S : Type 0} (m : Member S) (a b : Running S) (p : ℕ) (was now : List Played) (told : Turn × Option Kind) (q : Option ℕ)
-    → Ready m a → Ready m b → IsChosen (levels m a.tasks) p → TurnTold m a p was now told b → IsNext (levels m b.tasks) q → rank m b q < rank m a (Some p)
-told-lowers m a b p was now told q ready ready-b chosen made next = turn-lowers m a b p made.played q ready ready-b chosen made.turn next
+-- at first the array has the classes of all tasks
+pub play-start : {S : Type 0} (m : Member S) (ls : List ℕ) (a : Running S) → Ready m a → length ls ≡ cpu_limit → take (length a.tasks) ls ≡ map m.class a.tasks → InPlay m ls a
+play-start m ls a ready places are = record {
+  ready = ready;
+  places = places;
+  are = subst (AreLevels m a.tasks) (sym are) (record { count = length-map a.tasks m.class; class = λ cpu s at goes. value-at m.class a.tasks cpu s 5 at });
+}
+
+module _ {S : Type 0} (m : Member S) (b c : Running S) (p : ℕ) (now after : List Played) (ls ls2 : List ℕ) (told : Turn × Option Kind)
+    (play : InPlay m ls b) (play-c : InPlay m ls2 c) (chosen : IsChosen (take (length b.tasks) ls) p) (turn : TurnOrOver m b p now after ls ls2 told c) where
+  chosen-within : p < length b.tasks
+  chosen-within = omega (arith, chosen.within, play.are.count)
+
+  length-none : NoneTold m b p now after told c → length c.tasks ≡ length b.tasks
+  length-none none = ap (λ (r : Running S). length r.tasks) none.board
+
+  length-made : TurnTold m b p now after told c → length c.tasks ≡ length b.tasks
+  length-made made = ap (λ (r : Running S). length r.tasks) made.turn.next ∙ length-set b.tasks p made.turn.after
+
+  array-is : (y : ℕ) → ls2 ≡ set ls p y → length c.tasks ≡ length b.tasks → take (length c.tasks) ls2 ≡ set (take (length b.tasks) ls) p y
+  array-is y is count = ap (take (length c.tasks)) is ∙ array-after b c ls p y chosen-within count
+
+  -- the turn, or its want, lowers the rank
+  pub told-lowers : (q : Option ℕ) → IsNext (take (length c.tasks) ls2) q → rank m c (take (length c.tasks) ls2) q < rank m b (take (length b.tasks) ls) (Some p)
+  told-lowers q next = by turn
+    where
+      by : TurnOrOver m b p now after ls ls2 told c → rank m c (take (length c.tasks) ls2) q < rank m b (take (length b.tasks) ls) (Some p)
+      by (inl none) = subst (λ (r : Running S). rank m r (take (length c.tasks) ls2) q < rank m b (take (length b.tasks) ls) (Some p)) (sym none.0.board)
+          (subst (λ (l : List ℕ). rank m b l q < rank m b (take (length b.tasks) ls) (Some p)) (sym (array-is 5 none.1 (length-none none.0)))
+          (none-lowers m b p (take (length b.tasks) ls) q play.ready play.are chosen (subst (λ (l : List ℕ). IsNext l q) (array-is 5 none.1 (length-none none.0)) next)))
+      by (inr made) = subst (λ (l : List ℕ). rank m c l q < rank m b (take (length b.tasks) ls) (Some p)) (sym (array-is made.1.level made.1.is (length-made made.0)))
+          (turn-lowers m b c p made.0.played (take (length b.tasks) ls) made.1.level q play.ready play-c.ready play.are (subst (AreLevels m c.tasks) (array-is made.1.level made.1.is (length-made made.0)) play-c.are) chosen made.0.turn
+          (subst (λ (l : List ℕ). IsNext l q) (array-is made.1.level made.1.is (length-made made.0)) next))
+
+  -- and the finishing order goes on
+  pub told-finishes : (a : Running S) (was : List Played) → SoFar (Finishing m) a was b now → SoFar (Finishing m) a was c after
+  told-finishes a was s = by turn
+    where
+      by : TurnOrOver m b p now after ls ls2 told c → SoFar (Finishing m) a was c after
+      by (inl none) = finish-same m a was b now c after s none.0.board none.0.log
+      by (inr made) = finish-more m a was b now c after p made.0.played s
+          (chosen-level m b.tasks (take (length b.tasks) ls) play.are p made.0.turn.before chosen made.0.turn.at (planned-going (m.plan made.0.turn.before) made.0.turn.made.step made.0.turn.made.planned))
+          made.0.turn made.0.logged
+
+-- the level of a task without a turn is above all classes
+pub told-level : {S : Type 0} (m : Member S) (a b : Running S) (p y : ℕ) (u : S) (was now : List Played) (ls : List ℕ) (told : Turn × Option Kind)
+    → p < length a.tasks → u ≡ get_or b.tasks p u → (IsFinished told.0 → m.plan u ≡ None → y ≡ 5) → TurnOrNone m a p was now told b → TurnOrOver m a p was now ls (set ls p y) told b
+told-level {S} m a b p y u was now ls told h there value (inl none) = inl (none, ap (set ls p) (value finished over))
+  where
+    finished : IsFinished told.0
+    finished = subst IsFinished (sym (ap (λ (k : Turn × Option Kind). k.0) none.told_is)) tt
+
+    over : m.plan u ≡ None
+    over = none.over u (subst (λ (r : Running S). IsAt r.tasks p u) none.board (record { within = subst (λ (r : Running S). p < length r.tasks) (sym none.board) h; is = sym there }))
+told-level m a b p y u was now ls told h there value (inr made) = inr (made, record { level = y; is = refl })
 
 not-ends : (turn : Turn) → (EndsCommand turn → ⊥) → is_waits turn ≡ false
 not-ends turns.Moved h = refl
@@ -166,11 +216,6 @@ goes-told m a b p was now told until made on ends = on (subst (EndsWord until) (
 pub told-cheaper : {S : Type 0} (m : Member S) (a b : Running S) (p : ℕ) (was now : List Played) (told : Turn × Option Kind) (until : Until)
     → Ready m a → TurnTold m a p was now told b → (EndsWord until told → ⊥) → need_at m b.tasks (words_in b) p < need_at m a.tasks (words_in a) p
 told-cheaper m a b p was now told until ready made on = need-falls m a b p made.played ready made.turn (not-waits until (told_of made.played) (goes-told m a b p was now told until made on))
-
--- a task that isn't over has a turn
-pub told-of : {S : Type 0} (m : Member S) (a b : Running S) (p : ℕ) (was now : List Played) (told : Turn × Option Kind) → p < length a.tasks → Goes m a.tasks p → TurnOrNone m a p was now told b → TurnTold m a p was now told b
-told-of m a b p was now told h goes (inl none) = let r = task-at a.tasks p h in absurd (goes r.0 r.1 (none.over r.0 r.1))
-told-of m a b p was now told h goes (inr made) = made
 
 -- there was a turn where none isn't told, or the task isn't over after it
 module _ {S : Type 0} (m : Member S) (a b c : Running S) (go : Go) (was now after : List Played) (told : Turn × Option Kind) (turn : TurnOrNone m b go.cpu.0 now after told c) where

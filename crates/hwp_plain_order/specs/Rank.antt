@@ -3,7 +3,7 @@ use Rattle.std.specs.Prelude.{ℕ, ◌+◌, ◌-◌, ◌*◌, ◌==◌, Bool, tr
 use Rattle.hwp_core_task.specs.hwp_core_rule.Words.{Words}
 use Rattle.hwp_core_task.specs.Ranks.{cpu_room, failure_weight, failures_left, top, words_at}
 use Rattle.hwp_core_task.specs.Turns.{Member}
-use Rattle.hwp_plain_order.specs.Order.{Running, levels}
+use Rattle.hwp_plain_order.specs.Order.{Running}
 
 abbrev pub words_in : {S : Type 0} → Running S → Words
 words_in a = words_at a.layout a.state
@@ -26,9 +26,16 @@ abbrev pub has_one : List ℕ → Bool
 has_one [] = false
 has_one (l ∷ ls) = cond (l == 1) true (has_one ls)
 
--- 0 where the chosen one is about to leave its class to another of class 1
-abbrev pub yields : Bool → List ℕ → ℕ → ℕ
-yields aborts ls cpu = cond aborts (cond (has_one (set ls cpu 5)) 0 1) 1
+-- how soon another is chosen: 1 where the chosen one is over, 2 where it is about to leave its class to another of class 1
+abbrev pub stage : Bool → Bool → List ℕ → ℕ → ℕ
+stage over aborts ls cpu = cond over 1 (cond aborts (cond (has_one (set ls cpu 5)) 2 3) 3)
+
+abbrev pub is_none : {A : Type 0} → Option A → Bool
+is_none None = true
+is_none (Some step) = false
+
+abbrev pub over_at : {S : Type 0} → Member S → List S → ℕ → Bool
+over_at m tasks cpu = get_or (map (λ s. is_none (m.plan s)) tasks) cpu false
 
 abbrev pub aborts_at : {S : Type 0} → Member S → List S → ℕ → Bool
 aborts_at m tasks cpu = get_or (map m.aborts tasks) cpu false
@@ -45,9 +52,9 @@ abbrev pub ceiling : ℕ
 ceiling = 2 * top
 
 abbrev pub number_of : ℕ → ℕ → ℕ → ℕ
-number_of phi yield need = (2 * phi + yield) * ceiling + need
+number_of phi stage need = (3 * phi + stage) * ceiling + need
 
--- first what the others have left, then whether the chosen one yields, then what it may need; 0 where none is left
-abbrev pub rank : {S : Type 0} → Member S → Running S → Option ℕ → ℕ
-rank m a None = 0
-rank m a (Some cpu) = number_of (phi (levels m a.tasks) cpu) (yields (aborts_at m a.tasks cpu) (levels m a.tasks) cpu) (need_at m a.tasks (words_in a) cpu)
+-- with these levels: first what the others have left, then the stage of the chosen one, then what it may need; 0 where none is left
+abbrev pub rank : {S : Type 0} → Member S → Running S → List ℕ → Option ℕ → ℕ
+rank m a ls None = 0
+rank m a ls (Some cpu) = number_of (phi ls cpu) (stage (over_at m a.tasks cpu) (aborts_at m a.tasks cpu) ls cpu) (need_at m a.tasks (words_in a) cpu)

@@ -1,5 +1,5 @@
 -- What a scheduler asks of tasks and board, and what it keeps between turns.
-use Rattle.std.specs.Prelude.{◌≡◌, ◌≢◌, ℕ, ◌<◌, ◌≤◌, ◌⊎◌, List, ◌∷◌, length, take, get_or, Option, Some, None}
+use Rattle.std.specs.Prelude.{◌≡◌, ◌≢◌, ℕ, ◌<◌, ◌≤◌, ◌⊎◌, List, ◌∷◌, length, take, get_or, set, Option, Some, None}
 use Rattle.hwp_script_read.specs.hwp_geom.declared.Frame.{Frame}
 use Rattle.hwp_script_read.specs.hwp_geom.declared.Kind.{Kind}
 use Rattle.hwp_script_read.specs.hwp_geom.Limits.{cpu_limit}
@@ -10,7 +10,7 @@ use Rattle.hwp_core_task.specs.Boards.{Played, view_of, AreSeated}
 use Rattle.hwp_core_task.specs.Ranks.{Pending}
 use Rattle.hwp_core_task.specs.Turns.{Member}
 use Rattle.hwp_core_task.specs.Classes.{IsScheduled}
-use Rattle.hwp_plain_order.specs.Order.{Running, IsAt, IsChosen, IsOver, TurnOf, cpu_of, levels, seat_of, told_of}
+use Rattle.hwp_plain_order.specs.Order.{Running, IsAt, IsChosen, IsOver, TurnOf, cpu_of, seat_of, told_of}
 use Rattle.hwp_plain_order.specs.Rank.{words_in}
 
 -- a failure is the claim of a task
@@ -35,15 +35,16 @@ pub record Ready {S : Type 0} (m : Member S) (a : Running S) : Type 0 where
   pub seats : AreSeated a.layout a.state a.seat
   pub crew : IsCrew m a
 
--- the task of the processor isn't over
-abbrev pub Goes : {S : Type 0} → Member S → List S → ℕ → Type 0
-Goes {S} m tasks cpu = (s : S) → IsAt tasks cpu s → m.plan s ≢ None
+-- A level for each task: the class of each that isn't over. One that is over may still have the level that it had.
+pub record AreLevels {S : Type 0} (m : Member S) (tasks : List S) (ls : List ℕ) : Type 0 where
+  pub count : length ls ≡ length tasks
+  pub class : (cpu : ℕ) (s : S) → IsAt tasks cpu s → m.plan s ≢ None → get_or ls cpu 5 ≡ m.class s
 
 -- what the scheduler keeps between turns of the finishing order, with its array of levels
 pub record InPlay {S : Type 0} (m : Member S) (ls : List ℕ) (a : Running S) : Type 0 where
   pub ready : Ready m a
   pub places : length ls ≡ cpu_limit
-  pub are : take (length a.tasks) ls ≡ levels m a.tasks
+  pub are : AreLevels m a.tasks (take (length a.tasks) ls)
 
 -- a turn as the board logs it and as it tells it
 pub record TurnTold {S : Type 0} (m : Member S) (a : Running S) (cpu : ℕ) (was now : List Played) (told : Turn × Option Kind) (b : Running S) : Type 0 where
@@ -67,6 +68,15 @@ pub record NoneTold {S : Type 0} (m : Member S) (a : Running S) (cpu : ℕ) (was
 -- a turn, or none where the task is over
 abbrev pub TurnOrNone : {S : Type 0} → Member S → Running S → ℕ → List Played → List Played → Turn × Option Kind → Running S → Type 0
 TurnOrNone m a cpu was now told b = NoneTold m a cpu was now told b ⊎ TurnTold m a cpu was now told b
+
+-- one of the levels is new
+pub record IsSet (ls : List ℕ) (cpu : ℕ) (after : List ℕ) : Type 0 where
+  pub level : ℕ
+  pub is : after ≡ set ls cpu level
+
+-- the same, and the levels after it; that of a task without a turn is above all classes
+abbrev pub TurnOrOver : {S : Type 0} → Member S → Running S → ℕ → List Played → List Played → List ℕ → List ℕ → Turn × Option Kind → Running S → Type 0
+TurnOrOver m a cpu was now ls after told b = (NoneTold m a cpu was now told b × (after ≡ set ls cpu 5)) ⊎ (TurnTold m a cpu was now told b × IsSet ls cpu after)
 
 -- who comes next, by the levels: none where all are over
 abbrev pub IsNext : List ℕ → Option ℕ → Type 0

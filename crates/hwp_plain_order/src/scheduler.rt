@@ -1,35 +1,28 @@
-ghost use Rattle.std.specs.Prelude.{◌≡◌, None, ℕ, ◌<◌, ◌≤◌, ◌↔◌, List, length, take, get_or, All, IfOk, OnOk, OnErr, IsTrue};
+ghost use Rattle.std.specs.Prelude.{◌≡◌, ◌≢◌, None, ℕ, ◌<◌, ◌≤◌, ◌↔◌, List, length, map, take, All, IfOk, OnOk, OnErr, IsTrue};
 ghost use Rattle.hwp_script_read.specs.hwp_geom.Limits.{cpu_limit};
 ghost use Rattle.hwp_script_read.specs.declared.Go.{Go as GoOf};
 ghost use Rattle.hwp_core_task.specs.Classes.{IsScheduled};
-ghost use Rattle.hwp_plain_order.specs.Order.{running, level, levels, IsNoMemory, EndsWord, Word, Finishing, InOrder, Grows, IsRefused, AreOver};
-ghost use Rattle.hwp_plain_order.specs.Ready.{IsCrew, InPlay, Ready, TurnTold, TurnOrNone, IsFinished, IsNext};
+ghost use Rattle.hwp_plain_order.specs.Order.{running, IsNoMemory, EndsWord, Word, Finishing, InOrder, Grows, IsRefused, AreOver};
+ghost use Rattle.hwp_plain_order.specs.Ready.{IsCrew, InPlay, Ready, TurnOrNone, TurnOrOver, IsFinished, IsNext};
 
 use hwp_core_task::{Board, Scheduled, Turn};
 use hwp_script_read::{Cpu, Go, Kind, MAX_CPUS, OutOfMemory, Until};
 use std::alloc::AllocError;
 
-/// The level of a task that is over, above all classes.
+/// The level of a task that was found to be over, above all classes.
 const OVER: u8 = 5;
 
 /// A place for each processor of the largest machine.
 const PLACES: usize = MAX_CPUS as usize;
 
-/// The class of a task, or `OVER`.
-fn level_of<T: Scheduled>(task: &T) -> u8
-    ensures { result ≡ level T.task task.now }
-{
-    if task.is_over() { OVER } else { task.class() }
-}
-
-/// The levels of the tasks, and `OVER` in the places that are left.
+/// The classes of the tasks, and `OVER` in the places that are left.
 fn levels_of<T: Scheduled>(tasks: &[T]) -> [u8; PLACES]
     requires few { length tasks.now ≤ cpu_limit }
-    ensures { (length result ≡ cpu_limit) × (take (length tasks.now) result ≡ levels T.task tasks.now) }
+    ensures { (length result ≡ cpu_limit) × (take (length tasks.now) result ≡ map T.task.class tasks.now) }
 {
     let mut levels = [OVER; PLACES];
     for (i, task) in tasks.iter().enumerate() {
-        levels[i] = level_of(task);
+        levels[i] = task.class();
     }
     levels
 }
@@ -76,6 +69,19 @@ fn is_none<T: Scheduled>(turn: Turn, task: &T) -> bool
     is_finished(turn) && task.is_over()
 }
 
+/// The level of a task after its turn: its class, or `OVER` where there was no turn. A task that came to its end by the turn
+/// keeps a class until it is chosen once more.
+fn level_after<T: Scheduled>(turn: Turn, task: &T) -> u8
+    ensures over { IsFinished turn → T.task.plan task.now ≡ None → result ≡ 5 }
+    ensures on { T.task.plan task.now ≢ None → result ≡ T.task.class task.now }
+{
+    if is_none(turn, task) {
+        OVER
+    } else {
+        task.class()
+    }
+}
+
 /// Whether the task gave up because memory ran out.
 fn is_refused(turn: Turn) -> bool
     ensures { IsTrue result ↔ IsNoMemory turn }
@@ -105,7 +111,7 @@ fn take_turn<B: Board, T: Scheduled>(
     Ok((turn, kind))
 }
 
-/// A turn of a processor that isn't over, and the array of levels as it is after it.
+/// A turn of a processor, or none where it is over, and the array of levels as it is after it.
 fn make_turn<B: Board, T: Scheduled>(
     board: &mut B,
     tasks: &mut [T],
@@ -114,14 +120,13 @@ fn make_turn<B: Board, T: Scheduled>(
 ) -> Result<(Turn, Option<Kind>), OutOfMemory>
     requires play { InPlay T.task levels.old (running (B.layout board.old) (B.seat board.old) tasks.old (B.state board.old)) }
     requires cpu { cpu < length tasks.old }
-    requires going { get_or levels.old cpu 5 < 5 }
     ensures play { OnOk result (InPlay T.task levels.new (running (B.layout board.new) (B.seat board.new) tasks.new (B.state board.new))) }
     ensures count { length tasks.new ≡ length tasks.old }
-    ensures turn { IfOk result (λ told. TurnTold T.task (running (B.layout board.old) (B.seat board.old) tasks.old (B.state board.old)) cpu (B.log board.old) (B.log board.new) told (running (B.layout board.new) (B.seat board.new) tasks.new (B.state board.new))) }
+    ensures turn { IfOk result (λ told. TurnOrOver T.task (running (B.layout board.old) (B.seat board.old) tasks.old (B.state board.old)) cpu (B.log board.old) (B.log board.new) levels.old levels.new told (running (B.layout board.new) (B.seat board.new) tasks.new (B.state board.new))) }
     ensures refused { OnErr result (IsRefused (B.log board.new)) }
 {
     let told = take_turn(board, tasks, Cpu(cpu as u8))?;
-    levels[cpu] = level_of(&tasks[cpu]);
+    levels[cpu] = level_after(told.0, &tasks[cpu]);
     Ok(told)
 }
 
@@ -150,7 +155,8 @@ fn play_word<B: Board, T: Scheduled>(
     }
 }
 
-/// The turns of the finishing order: each goes to the lowest-numbered processor of the lowest class.
+/// The turns of the finishing order: each goes to the lowest-numbered processor of the lowest class. A task that is over is
+/// chosen once more, and is found out by its turn.
 fn finish<B: Board, T: Scheduled>(
     board: &mut B,
     tasks: &mut [T],

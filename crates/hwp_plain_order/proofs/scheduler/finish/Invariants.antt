@@ -1,4 +1,5 @@
-use Rattle.hwp_plain_order.specs.Order.{running, levels, Finishing}
+use Rattle.std.proofs.Common.{length, take}
+use Rattle.hwp_plain_order.specs.Order.{running, Finishing}
 use Rattle.hwp_plain_order.specs.Rank.{rank}
 use Rattle.hwp_plain_order.specs.Ready.{InPlay, IsNext}
 use Rattle.hwp_plain_order.proofs.ScheduleTells.{SoFar}
@@ -7,9 +8,9 @@ use Rattle.hwp_plain_order.proofs.scheduler.finish.Given as goal
 abbrev pub invariant-loop-next : goal.invariant-loop-next
 invariant-loop-next g l = record {
   play : InPlay g.T.Task.task l.levels (running (g.B.Board.layout l.board) (g.B.Board.seat l.board) l.tasks (g.B.Board.state l.board));
-  next : IsNext (levels g.T.Task.task l.tasks) l.next;
+  next : IsNext (take (length l.tasks) l.levels) l.next;
   so_far : SoFar (Finishing g.T.Task.task) (running (g.B.Board.layout l.fn.board) (g.B.Board.seat l.fn.board) l.fn.tasks (g.B.Board.state l.fn.board)) (g.B.Board.log l.fn.board) (running (g.B.Board.layout l.board) (g.B.Board.seat l.board) l.tasks (g.B.Board.state l.board)) (g.B.Board.log l.board);
 }
 
 abbrev pub decreases-loop-next : goal.decreases-loop-next
-decreases-loop-next g l = rank g.T.Task.task (running (g.B.Board.layout l.board) (g.B.Board.seat l.board) l.tasks (g.B.Board.state l.board)) l.next
+decreases-loop-next g l = rank g.T.Task.task (running (g.B.Board.layout l.board) (g.B.Board.seat l.board) l.tasks (g.B.Board.state l.board)) (take (length l.tasks) l.levels) l.next

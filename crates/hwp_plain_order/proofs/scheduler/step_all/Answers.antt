@@ -2,13 +2,14 @@ use Rattle.std.proofs.Common.{refl, ◌∙◌}
 use Rattle.hwp_plain_order.specs.Order.{running}
 use Rattle.hwp_plain_order.proofs.Seats.{few-tasks}
 use Rattle.hwp_plain_order.proofs.ScheduleTells.{schedule-start, schedule-next, in-order}
+use Rattle.hwp_plain_order.proofs.Turns.{play-start}
 use Rattle.hwp_plain_order.proofs.scheduler.step_all.Goals as goal
 
 pub levels_of-levels-requires : goal.levels_of-levels-requires
 levels_of-levels-requires g c = record { few = few-tasks _ _ c.loop-word.invariant.ready.rule.sound c.loop-word.invariant.ready.crew.count }
 
 pub finish-requires : goal.finish-requires
-finish-requires g c = record { play = record { ready = c.loop-word.invariant.ready; places = c.levels_of-levels.ensures.0; are = c.levels_of-levels.ensures.1 } }
+finish-requires g c = record { play = play-start g.T.Task.task c.levels_of-levels.result (running (g.B.Board.layout c.loop-word.board) (g.B.Board.seat c.loop-word.board) c.loop-word.tasks (g.B.Board.state c.loop-word.board)) c.loop-word.invariant.ready c.levels_of-levels.ensures.0 c.levels_of-levels.ensures.1 }
 
 pub loop-word-init : goal.loop-word-init
 loop-word-init g c = record {
