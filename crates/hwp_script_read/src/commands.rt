@@ -5,7 +5,7 @@ ghost use Rattle.hwp_script_read.specs.Forks.{is_wrong_fork};
 ghost use Rattle.hwp_script_read.specs.Reasons.{IsClean, IsLowest, IsForeign, IsNoFilePage, IsNoAnonPage, IsUndeclared, IsNewer, IsBeyond, IsElsewhere, IsMisused};
 ghost use Rattle.hwp_script_read.specs.Sums.{Sums};
 
-use crate::context::Summary;
+use crate::context::{Summary, at};
 use crate::faults::is_misplaced;
 use crate::forks::{actor_of, is_again, is_wrong_fork, names_twin};
 use crate::why::Why;
@@ -15,8 +15,8 @@ use hwp_script_lines::{Command, MAX_COMMANDS, Page, PageKind, ScriptLine, Thread
 fn is_foreign(summary: &Summary, thread: Thread, slot: VSlot) -> bool
     ensures { IsTrue result ↔ IsForeign (slice_get summary.now.threads thread.0) (slice_get summary.now.trans slot.0) }
 {
-    let thread = summary.threads.as_slice().get(usize::from(thread.0));
-    let slot = summary.trans.as_slice().get(usize::from(slot.0));
+    let thread = at(summary.threads.as_slice(), usize::from(thread.0));
+    let slot = at(summary.trans.as_slice(), usize::from(slot.0));
     match (thread, slot) {
         (Some(thread), Some(slot)) => thread.process.0 != slot.process.0,
         _ => true,
@@ -28,7 +28,7 @@ fn is_no_file_page(summary: &Summary, page: Page) -> bool
     ensures { IsTrue result ↔ IsNoFilePage (slice_get summary.now.pages page.0) }
 {
     !matches!(
-        summary.pages.as_slice().get(usize::from(page.0)),
+        at(summary.pages.as_slice(), usize::from(page.0)),
         Some(PageKind::File { .. })
     )
 }
@@ -38,7 +38,7 @@ pub(crate) fn is_no_anon_page(summary: &Summary, page: Page) -> bool
     ensures { IsTrue result ↔ IsNoAnonPage (slice_get summary.now.pages page.0) }
 {
     !matches!(
-        summary.pages.as_slice().get(usize::from(page.0)),
+        at(summary.pages.as_slice(), usize::from(page.0)),
         Some(PageKind::Anon)
     )
 }
@@ -121,7 +121,7 @@ fn is_elsewhere(summary: &Summary, thread: Option<usize>) -> bool
     let Some(thread) = thread else {
         return false;
     };
-    match summary.threads.as_slice().get(thread) {
+    match at(summary.threads.as_slice(), thread) {
         Some(thread) => u64::from(thread.cpu.0) != place,
         None => false,
     }

@@ -1,4 +1,4 @@
-ghost use Rattle.std.specs.Prelude.{◌≡◌, ◌↔◌, IsTrue, [], Contains};
+ghost use Rattle.std.specs.Prelude.{◌≡◌, ◌↔◌, IsTrue, [], Contains, slice_get};
 ghost use Rattle.hwp_script_lines.specs.hwp_geom.Limits.{cpu_limit_of, frame_limit_of, page_limit_of, translation_limit_of};
 ghost use Rattle.hwp_script_read.specs.Context.{version_in};
 ghost use Rattle.hwp_script_read.specs.Collects.{Collects};
@@ -9,6 +9,13 @@ use hwp_script_lines::{
     Command, Go, Layout, List, PageKind, ScriptLine, ThreadDecl, TransDecl, VSlot, Version,
 };
 use std::alloc::Global;
+
+/// The value at a place of a list, if it has one. A `match` on it is proved three times as fast as one on `get`.
+pub(crate) fn at<T: Copy>(values: &[T], place: usize) -> Option<T>
+    ensures { result ≡ slice_get values.now place }
+{
+    values.get(place).copied()
+}
 
 /// What the lines above a line declare.
 #[derive(Drop)]

@@ -5,7 +5,7 @@ ghost use Rattle.hwp_script_read.specs.Reasons.{IsClean, IsLowest, IsNoPair, IsN
 ghost use Rattle.hwp_script_read.specs.Sums.{Sums};
 
 use crate::commands::is_no_anon_page;
-use crate::context::Summary;
+use crate::context::{Summary, at};
 use crate::faults::is_misplaced;
 use crate::forks::{has_shared_page, has_twin, is_twin};
 use crate::why::Why;
@@ -26,8 +26,8 @@ fn are_no_pair(summary: &Summary, slot: u64, twin: u64) -> bool
     ensures { IsTrue result ↔ IsNoPair summary.now.pages (slice_get summary.now.trans slot) (slice_get summary.now.trans twin) }
 {
     let trans = summary.trans.as_slice();
-    match (trans.get(slot as usize), trans.get(twin as usize)) {
-        (Some(slot), Some(twin)) => is_no_pair(summary, *slot, *twin),
+    match (at(trans, slot as usize), at(trans, twin as usize)) {
+        (Some(slot), Some(twin)) => is_no_pair(summary, slot, twin),
         _ => true,
     }
 }

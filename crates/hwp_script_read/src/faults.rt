@@ -4,7 +4,7 @@ ghost use Rattle.hwp_script_read.specs.Limits.{schedule_limit};
 ghost use Rattle.hwp_script_read.specs.Sums.{Sums};
 
 use crate::commands::command_fault;
-use crate::context::Summary;
+use crate::context::{Summary, at};
 use crate::cows::cow_fault;
 use crate::guests::guest_fault;
 use crate::script::MAX_SCHEDULE;
@@ -23,7 +23,7 @@ pub(crate) fn is_misplaced(summary: &Summary, above: &[ScriptLine], group: u8) -
 fn is_kernel(summary: &Summary, frame: u64) -> bool
     ensures { IsTrue result ↔ (slice_get summary.now.kernel.items frame ≡ Some true) }
 {
-    matches!(summary.kernel.as_slice().get(frame as usize), Some(true))
+    matches!(at(summary.kernel.as_slice(), frame as usize), Some(true))
 }
 
 /// The higher of two numbers.

@@ -6,7 +6,7 @@ ghost use Rattle.hwp_script_read.specs.Forks.{cannot_share, forks, freezes, froz
 ghost use Rattle.hwp_script_read.specs.Context.{slot_of};
 ghost use Rattle.hwp_script_read.specs.Sums.{names_of};
 
-use crate::context::Summary;
+use crate::context::{Summary, at};
 use hwp_script_lines::{Command, Page, Proc, ScriptLine, Thread, ThreadDecl, TransDecl, VSlot};
 
 /// The thread that a command is of.
@@ -85,7 +85,7 @@ fn leading(trans: &[TransDecl], page: Page) -> usize
 pub(crate) fn has_shared_page(summary: &Summary, slot: u64) -> bool
     ensures { result ≡ has_shared_page (names_of summary.now) (slot_of slot) }
 {
-    match summary.trans.as_slice().get(slot as usize) {
+    match at(summary.trans.as_slice(), slot as usize) {
         Some(slot) => is_shared(summary, slot.page),
         None => false,
     }
@@ -121,7 +121,7 @@ fn freezes(summary: &Summary, process: Proc, page: Page) -> bool
 fn is_thread_of(summary: &Summary, process: Proc, thread: usize) -> bool
     ensures { result ≡ is_thread_of (names_of summary.now) process.0 thread }
 {
-    match summary.threads.as_slice().get(thread) {
+    match at(summary.threads.as_slice(), thread) {
         Some(declared) => declared.process.0 == process.0,
         None => false,
     }
@@ -151,7 +151,7 @@ fn froze(summary: &Summary, page: Page, command: &Command) -> bool
 fn froze_by(summary: &Summary, page: Page, thread: Thread) -> bool
     ensures { result ≡ option_map_or (λ t. freezes (names_of summary.now) t.process.0 page.0) (slice_get summary.now.threads thread.0) false }
 {
-    match summary.threads.as_slice().get(usize::from(thread.0)) {
+    match at(summary.threads.as_slice(), usize::from(thread.0)) {
         Some(declared) => freezes(summary, declared.process, page),
         None => false,
     }
@@ -280,7 +280,7 @@ pub(crate) fn is_wrong_fork(
 {
     match *command {
         Command::Fork { thread, process } => {
-            match summary.threads.as_slice().get(usize::from(thread.0)) {
+            match at(summary.threads.as_slice(), usize::from(thread.0)) {
                 Some(parent) => is_wrong_child(summary, cpu, before, parent.process, process),
                 None => false,
             }
