@@ -2,7 +2,6 @@ pub mod FsyncLaws
 pub mod BodyGrows
 pub mod VacateLaws
 pub mod VacateCosts
-pub mod Emptiness
 pub mod PageStates
 pub mod EntryHome
 pub mod AnswerCauses

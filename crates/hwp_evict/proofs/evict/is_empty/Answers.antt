@@ -1,4 +1,4 @@
-use Rattle.hwp_evict.proofs.Emptiness.{tells-empty}
+use Rattle.hwp_core.proofs.of_hwp_kill.Search.{tells-empty}
 use Rattle.hwp_evict.proofs.evict.is_empty.Goals as goal
 
 pub returns : goal.returns
