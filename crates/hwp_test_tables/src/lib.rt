@@ -1,5 +1,5 @@
-//! Tests of the small crates: numbers and lists, sources and sinks, packed words, banks, the grading of a machine check,
-//! the collector of corrected errors, guests, and copy on write.
+//! Tests of the small crates: numbers and lists, sources and sinks, packed words, the grading of a machine check, the collector
+//! of corrected errors, and copy on write.
 #![tactic(auto)]
 
 #[cfg(test)]
@@ -8,8 +8,6 @@ mod banks;
 mod collecting;
 #[cfg(test)]
 mod forking;
-#[cfg(test)]
-mod guests;
 #[cfg(test)]
 mod handling;
 #[cfg(test)]

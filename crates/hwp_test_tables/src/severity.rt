@@ -130,35 +130,3 @@ fn every_combination_has_its_row(rt: HostRuntime) {
         assert_rows(&rt, pattern, false, false);
     }
 }
-
-/// Events that are known: the status, whether RIPV and EIPV are set, the mode; the severity and the row.
-#[rattlefmt::skip]
-const KNOWN: &[(u64, bool, bool, Mode, Severity, u8)] = &[
-    (0xbd80000000000134, false, true, Mode::User, Severity::Stop, 11),
-    (0xbd000000000000c0, false, true, Mode::Kernel, Severity::Optional, 12),
-    (0xbd80000000000134, true, true, Mode::User, Severity::Required, 9),
-    (0xbd80000000000134, true, true, Mode::Kernel, Severity::Stop, 10),
-    (0xbd80000000000150, true, false, Mode::User, Severity::Required, 9),
-    (0xfd800000000000c0, true, true, Mode::User, Severity::Stop, 8),
-    (0x9c000000000000c0, true, true, Mode::Kernel, Severity::Keep, 4),
-    (0xfc000000000000c0, true, true, Mode::Kernel, Severity::Deferred, 6),
-    (0x9e00000000000134, true, true, Mode::Kernel, Severity::Stop, 3),
-    (0, true, true, Mode::Kernel, Severity::None, 1),
-];
-
-/// Each event has its grade.
-fn are_graded(rt: &impl Abort, rows: &[(u64, bool, bool, Mode, Severity, u8)]) {
-    for (status, ripv, eipv, mode, severity, row) in rows {
-        let mcg = McgBits {
-            ripv: *ripv,
-            eipv: *eipv,
-        };
-        let graded = grade(Status(*status), mcg, *mode);
-        assert!(rt; (graded.severity, graded.row) == (*severity, *row));
-    }
-}
-
-#[test]
-fn known_events_have_their_grades(rt: HostRuntime) {
-    are_graded(&rt, KNOWN);
-}

@@ -10,6 +10,4 @@ mod printed;
 #[cfg(test)]
 mod readings;
 #[cfg(test)]
-mod reports;
-#[cfg(test)]
 mod scripts;

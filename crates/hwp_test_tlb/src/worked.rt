@@ -5,10 +5,9 @@ ghost use Rattle.hwp_script_read.specs.Valid.{IsValid};
 ghost use Rattle.hwp_tlb.specs.hwp_table_words.Known.{first_knowing};
 ghost use Rattle.hwp_tlb.specs.hwp_table_words.Seats.{IsTableOf};
 
-use crate::machine::script;
-use hwp_script_read::{List, Script};
+use hwp_script_read::{List, Script, read};
 use hwp_tlb::{OfTable, OutOfMemory, TlbBoard, TlbCounts, TlbPass, TlbSeat, TlbShared, begin};
-use hwp_top_turns::{Bare, Cached, play, print, run_in_turns};
+use hwp_top_turns::play;
 use std::alloc::Global;
 use std::marker::Brand;
 use std::process::Abort;
@@ -30,21 +29,28 @@ const ONE_PLACE: &[u8] =
 const FAILED: &[u8] =
     b"hwp 1\ncpus 2\nframes 2\nproc 0\nthread 0 0 0 handler\nthread 1 0 1 handler\npage 0 anon\ntrans 0 0 0\ncpu 0\nstore 0 0 5 77\ninject 0\nload 0 0 5\ncpu 1\nload 1 0 5\nload 1 0 5\nload 1 0 5\nschedule 0. 1. 1. 0. 1. 0.\nend\n";
 
-/// A script; what the seat of each of its processors counts: hits, fills and flushes; and the answers, with which its report ends.
-type Worked<'a> = (&'a [u8], &'a [[u64; 3]], &'a [u8]);
+/// A script, and what the seat of each of its processors counts: hits, fills and flushes.
+type Worked<'a> = (&'a [u8], &'a [[u64; 3]]);
 
 #[rattlefmt::skip]
 const WORKED: &[Worked<'static>] = &[
     // the store fills the place behind its lock; the load hits twice, before the lock and behind it
-    (STORE_AND_LOAD, &[[2, 1, 0]], b"cpu 0 2\n0 stored 0 2\n1 value 77 0 3\nend\n"),
+    (STORE_AND_LOAD, &[[2, 1, 0]]),
     // processor 1 flushes processor 0's entry, which is filled anew, with the new frame
-    (MOVED, &[[0, 2, 0], [0, 0, 1]], b"cpu 0 2\n0 stored 0 2\n1 value 5 0 4\ncpu 1 1\n0 moved 1 0 3\nend\n"),
+    (MOVED, &[[0, 2, 0], [0, 0, 1]]),
     // fills by the store (0), by the load that maps 16 and flushes what 0 left, and by the third (0) and fifth (16) command; the
     // fourth and the sixth hit twice each
-    (ONE_PLACE, &[[4, 4, 1]], b"cpu 0 6\n0 stored 0 2\n1 value 77 0 4\n2 value 77 0 5\n3 value 77 0 6\n4 value 77 0 7\n5 value 77 0 8\nend\n"),
+    (ONE_PLACE, &[[4, 4, 1]]),
     // the failure flushes both processors' entries; processor 1 hit twice before it, and nobody does after it
-    (FAILED, &[[0, 1, 2], [2, 1, 0]], b"cpu 0 3\n0 stored 0 2\n1 recovered\n2 sigbus 0 7\ncpu 1 3\n0 value 77 0 3\n1 value 77 0 4\n2 sigbus 0 6\nend\n"),
+    (FAILED, &[[0, 1, 2], [2, 1, 0]]),
 ];
+
+/// The script that these bytes are.
+fn script(rt: &impl Abort, alloc: Global, bytes: &[u8]) -> Script
+    ensures { IsValid result }
+{
+    read(alloc, bytes).ok().expect(rt, "a script")
+}
 
 /// The seats of the script's processors, behind all their turns.
 fn played<'a, N: OfTable>(
@@ -88,25 +94,7 @@ fn counts_are(rt: &impl Abort, alloc: Global, bytes: &[u8], due: &[[u64; 3]]) {
 
 #[test]
 fn seats_count_hits_fills_and_flushes(rt: HostRuntime) {
-    for (script, due, _) in WORKED {
+    for (script, due) in WORKED {
         counts_are(&rt, rt.alloc(), script, due);
-    }
-}
-
-/// The script's report is that of its run at a table without caches, and ends with these answers.
-fn reports_alike(rt: &impl Abort, alloc: Global, bytes: &[u8], answers: &[u8]) {
-    let script = script(rt, alloc, bytes);
-    let cached = run_in_turns::<Cached>(alloc, &script).expect(rt, "memory");
-    let bare = run_in_turns::<Bare>(alloc, &script).expect(rt, "memory");
-    let cached = print(alloc, &cached.report).expect(rt, "memory");
-    let bare = print(alloc, &bare.report).expect(rt, "memory");
-    assert!(rt; cached.as_slice() == bare.as_slice());
-    assert!(rt; cached.as_slice().ends_with(answers));
-}
-
-#[test]
-fn reports_are_those_without_caches(rt: HostRuntime) {
-    for (script, _, answers) in WORKED {
-        reports_alike(&rt, rt.alloc(), script, answers);
     }
 }

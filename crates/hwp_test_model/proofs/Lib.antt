@@ -1,3 +1,0 @@
-mod TaskBegins
-mod SeatPasses
-mod TakeKeeps
