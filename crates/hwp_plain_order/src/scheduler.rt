@@ -62,6 +62,7 @@ fn is_finished(turn: Turn) -> bool
 }
 
 /// Whether there was no turn, because the task is over.
+#[inline(always)]
 fn is_none<T: Scheduled>(turn: Turn, task: &T) -> bool
     ensures over { IsTrue result → T.task.plan task.now ≡ None }
     ensures on { IsFinished turn → T.task.plan task.now ≡ None → IsTrue result }
@@ -71,6 +72,7 @@ fn is_none<T: Scheduled>(turn: Turn, task: &T) -> bool
 
 /// The level of a task after its turn: its class, or `OVER` where there was no turn. A task that came to its end by the turn
 /// keeps a class until it is chosen once more.
+#[inline(always)]
 fn level_after<T: Scheduled>(turn: Turn, task: &T) -> u8
     ensures over { IsFinished turn → T.task.plan task.now ≡ None → result ≡ 5 }
     ensures on { T.task.plan task.now ≢ None → result ≡ T.task.class task.now }
