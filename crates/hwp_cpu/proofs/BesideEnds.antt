@@ -1,6 +1,4 @@
 -- A turn of the frame that is taken out of use beside a command, and what is so when that is done.
-use Rattle.hwp_cpu_course.specs.hwp_cpu_command.hwp_cpu_copy.declared.Copying.{Copying}
-use Rattle.hwp_cpu_course.specs.hwp_cpu_command.hwp_cpu_copy.Copyings as copyings
 use Rattle.hwp_cpu_course.specs.hwp_cpu_command.hwp_cpu_copy.Fits as copying_fits
 use Rattle.hwp_cpu_course.proofs.of_hwp_cpu_command.of_hwp_cpu_copy.CopyResting as copy-resting
 use Rattle.hwp_cpu_course.specs.hwp_cpu_row.hwp_geom.declared.VSlot.{VSlot}
@@ -31,7 +29,7 @@ use Rattle.std.proofs.lemmas.Option.{none-some, same_Some}
 use Rattle.std.proofs.Common.{None, is_some, arith, inl, suc, true, ◌++◌, subst, option_map, ◌∷◌, zero, refl, not, Option, ◌+◌, map, cond, ◌≡◌, false, ap, Bool, true≢false, inr, append-nil, filter, Some, slice_get, sym, ℕ, List, length, ◌∙◌, [], nat_lt, ◌⊎◌}
 use Rattle.hwp_cpu_course.proofs.of_hwp_cpu_row.of_hwp_core_rule.Lists.{each-push}
 use Rattle.hwp_cpu_course.specs.hwp_cpu_row.hwp_geom.declared.Frame.{Frame}
-use Rattle.hwp_cpu.proofs.BesideTurns.{at_rest}
+use Rattle.hwp_cpu.proofs.BesideTurns.{at_rest, way-with}
 use Rattle.hwp_cpu_causes.specs.hwp_law_served.Handles.{answers_by}
 use Rattle.hwp_cpu_course.specs.hwp_cpu_command.declared.job.Job.{Job}
 use Rattle.hwp_cpu_course.specs.hwp_cpu_row.hwp_core_rule.declared.View.{View}
@@ -262,30 +260,16 @@ module _ (layout : Layout) (old new : View) (cpu : Cpu) (list : List Command) (r
     }
 
     pub way-done : IsUnderWay layout new cpu list rows local command copies (at_rest done)
-    way-done = record {
-      serves = way-later.serves;
-      next = way-later.next;
-      runs = way-later.runs;
-      handle = way-later.handle;
-      policies = way-later.policies;
-      stopped = way-later.stopped;
-      looked = way-later.looked;
-      stops = way-later.stops;
-      listed = way-later.listed;
-      account = record { marked = way-later.account.marked ∙ sym marks; failed = way-later.account.failed; set = way-later.account.set; counted = way-later.account.counted ∙ unowed-at-end (kinds.Soft t) (ap (option_map soft_answer) over) ∙ sym still.0; losses = way-later.account.losses };
-      noted = record { earlier = way-later.noted.earlier; last = way-later.noted.last; all = way-later.noted.all; noted = way-later.noted.noted; before = way-later.noted.before; own = way-later.noted.own; marked = way-later.noted.marked ∙ sym marks };
-      spoiled = way-later.spoiled;
-      collected = record {
-        few = way-later.collected.few;
-        frames_are = way-later.collected.frames_are;
-        watching = way-later.collected.watching;
-        room = way-later.collected.room;
-        due = way-later.collected.due;
-        frames = frames;
-        offlined = each-push (IsOffliningServed layout new at) c.due.offlined o came way-later.collected.offlined;
-        behind = in-time-push 0 (length (told_of c.own)) c.due.offlined o way-later.collected.behind refl;
-      };
-    }
+    way-done = way-with None c.watching c.noted done.due way-later marks (way-later.account.counted ∙ unowed-at-end (kinds.Soft t) (ap (option_map soft_answer) over) ∙ sym still.0) (record {
+      few = way-later.collected.few;
+      frames_are = way-later.collected.frames_are;
+      watching = way-later.collected.watching;
+      room = way-later.collected.room;
+      due = way-later.collected.due;
+      frames = frames;
+      offlined = each-push (IsOffliningServed layout new at) c.due.offlined o came way-later.collected.offlined;
+      behind = in-time-push 0 (length (told_of c.own)) c.due.offlined o way-later.collected.behind refl;
+    })
       where
         frames : map (λ (p : Offlining). p.frame) (c.due.offlined ++ o ∷ []) ≡ take (length (c.due.offlined ++ o ∷ [])) c.due.frames
         frames = map-append (λ (p : Offlining). p.frame) c.due.offlined (o ∷ []) ∙ ap (λ (l : List Frame). l ++ t.frame ∷ []) way-later.collected.frames

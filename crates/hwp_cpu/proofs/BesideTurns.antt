@@ -1,7 +1,6 @@
 -- A frame that is taken out of use beside a command: how that begins, goes on and ends, and how the command's own task goes on behind it.
 use Rattle.hwp_cpu_course.specs.hwp_cpu_command.hwp_cpu_copy.declared.Copying.{Copying}
 use Rattle.hwp_cpu_course.specs.hwp_cpu_command.hwp_cpu_copy.Copyings as copyings
-use Rattle.hwp_cpu_course.specs.hwp_cpu_command.hwp_cpu_copy.Fits as copying_fits
 use Rattle.hwp_cpu_course.specs.hwp_cpu_command.hwp_cpu_copy.declared.copying.CopyingAt.{CopyingAt}
 use Rattle.hwp_cpu_course.specs.hwp_cpu_command.hwp_cpu_copy.declared.copying.CopyingAt.TheVariants as copying_at
 use Rattle.hwp_cpu_course.proofs.of_hwp_cpu_command.of_hwp_cpu_copy.CopyResting as copy-resting
@@ -13,7 +12,8 @@ use Rattle.hwp_cpu.proofs.Collecting.{access-plain, prior-at-first}
 use Rattle.hwp_cpu_course.specs.hwp_cpu_row.hwp_geom.declared.VSlot.{VSlot}
 use Rattle.std.proofs.lemmas.Bool.{cases_lt}
 use Rattle.hwp_cpu_course.proofs.of_hwp_cpu_command.of_hwp_cpu_access.Resting.{resumes}
-use Rattle.hwp_cpu_course.specs.Dues.{next_due}
+use Rattle.hwp_cpu_course.specs.Courses.{part}
+use Rattle.hwp_cpu_course.specs.Dues.{DueValue, next_due}
 use Rattle.std.proofs.Common.{true, true≢false, subst, filter_map, ℕ, Some, Option, ◌++◌, ap, append-nil, None, refl, inr, ◌≡◌, is_some, List, ◌<◌, ◌≤◌, sym, length, inl, arith, ◌∙◌, [], ◌⊎◌}
 use Rattle.hwp_cpu_course.specs.hwp_cpu_row.hwp_claim_frame.Done.{Marking}
 use Rattle.hwp_cpu_course.specs.hwp_cpu_command.Stays.{EndsAtOnce, HasSpoiled}
@@ -21,7 +21,7 @@ use Rattle.std.specs.Prelude.{take}
 use Rattle.std.proofs.lemmas.List.{length-map, take_all}
 use Rattle.hwp_cpu_course.proofs.of_hwp_cpu_command_laws.Beside.{IsAtPause, IsSameBehind, job-at-pause, resume-goes}
 use Rattle.hwp_cpu_causes.specs.hwp_law_served.Accounts.{act_marking}
-use Rattle.hwp_cpu.specs.Serving.{HasCopyPaused, Pauses, left_so_far, Rests, IsRunning, Serves, marked_so_far, IsUnderWay, IsPaused, HasToldAll, OwnGoesOn}
+use Rattle.hwp_cpu.specs.Serving.{HasCopyPaused, Pauses, left_so_far, Rests, IsRunning, Serves, marked_so_far, IsUnderWay, IsPaused, HasToldAll, OwnGoesOn, KeepsWatch}
 use Rattle.hwp_cpu_causes.proofs.OnTheWay.{runs-access, IsAccessOf, prior-behind}
 use Rattle.hwp_cpu_course.specs.hwp_cpu_command.FileHandles.{HasHandle}
 use Rattle.hwp_cpu_course.specs.hwp_cpu_row.declared.Local.{Local}
@@ -36,7 +36,7 @@ use Rattle.hwp_cpu_course.specs.hwp_cpu_command.Settings.{policies_now, of_threa
 use Rattle.hwp_cpu_course.specs.hwp_cpu_row.declared.Row.{Row}
 use Rattle.hwp_cpu_course.specs.hwp_cpu_row.hwp_core_task.Known.{deeds}
 use Rattle.hwp_cpu_course.specs.hwp_cpu_row.Acts.{acts}
-use Rattle.hwp_cpu_course.specs.hwp_cpu_command.Done.{marked_beyond}
+use Rattle.hwp_cpu_course.specs.hwp_cpu_command.Done.{HasCounted, marked_beyond}
 use Rattle.hwp_cpu_course.specs.hwp_cpu_row.declared.Watching.{Watching}
 use Rattle.hwp_cpu_course.specs.hwp_cpu_command.hwp_kill.declared.Policy.{Policy}
 use Rattle.hwp_cpu_course.specs.hwp_cpu_row.hwp_banks.Banks.{Banks}
@@ -71,6 +71,30 @@ use Rattle.hwp_cpu_course.specs.hwp_cpu_command.hwp_cpu_access.Instructions as i
 abbrev pub at_rest : Course → Course
 at_rest c = record c { beside = None }
 
+-- the course with the same task of its own, and this beside it
+abbrev pub with_rest : Option Soft → Option Watching → ℕ → DueValue → Course → Course
+with_rest beside watching noted due c = record c { beside = beside; watching = watching; noted = noted; due = due }
+
+-- it is under way, where it made as many marks, counted as many pages, and keeps its watch
+pub way-with : {layout : Layout} {view : View} {cpu : Cpu} {list : List Command} {rows : List Row} {local : Local} {command : Command} {copies : Option VSlot} {c : Course} (beside : Option Soft) (watching : Option Watching) (noted : ℕ) (due : DueValue)
+    → IsUnderWay layout view cpu list rows local command copies c → marked_so_far (with_rest beside watching noted due c) ≡ marked_so_far c → HasCounted (part (with_rest beside watching noted due c)) view
+    → KeepsWatch layout view (at_number cpu (length rows)) list (watched_at layout list rows (length rows)) (with_rest beside watching noted due c) → IsUnderWay layout view cpu list rows local command copies (with_rest beside watching noted due c)
+way-with beside watching noted due way marks counted keeps = record {
+  serves = way.serves;
+  next = way.next;
+  runs = way.runs;
+  handle = way.handle;
+  policies = way.policies;
+  stopped = way.stopped;
+  looked = way.looked;
+  stops = way.stops;
+  listed = way.listed;
+  account = record { marked = way.account.marked ∙ sym marks; failed = way.account.failed; set = way.account.set; counted = counted; losses = way.account.losses };
+  noted = record { earlier = way.noted.earlier; last = way.noted.last; all = way.noted.all; noted = way.noted.noted; before = way.noted.before; own = way.noted.own; marked = way.noted.marked ∙ sym marks };
+  spoiled = way.spoiled;
+  collected = keeps;
+}
+
 -- all that it told is noted
 abbrev pub HasNotedAll : Course → Type 0
 HasNotedAll c = c.noted ≡ length (told_of c.own)
@@ -96,30 +120,16 @@ module _ (layout : Layout) (view : View) (cpu : Cpu) (list : List Command) (rows
     marks = refl
 
     way-taking : IsUnderWay layout view cpu list rows local command copies taking
-    way-taking = record {
-      serves = way.serves;
-      next = way.next;
-      runs = way.runs;
-      handle = way.handle;
-      policies = way.policies;
-      stopped = way.stopped;
-      looked = way.looked;
-      stops = way.stops;
-      listed = way.listed;
-      account = record { marked = way.account.marked ∙ sym marks; failed = way.account.failed; set = way.account.set; counted = way.account.counted ∙ holds.unowed; losses = way.account.losses };
-      noted = record { earlier = way.noted.earlier; last = way.noted.last; all = way.noted.all; noted = way.noted.noted; before = way.noted.before; own = way.noted.own; marked = way.noted.marked ∙ sym marks };
-      spoiled = way.spoiled;
-      collected = record {
-        few = way.collected.few;
-        frames_are = way.collected.frames_are;
-        watching = way.collected.watching;
-        room = way.collected.room;
-        due = way.collected.due;
-        frames = way.collected.frames;
-        offlined = way.collected.offlined;
-        behind = way.collected.behind;
-      };
-    }
+    way-taking = way-with (Some soft) c.watching c.noted c.due way marks (way.account.counted ∙ holds.unowed) (record {
+      few = way.collected.few;
+      frames_are = way.collected.frames_are;
+      watching = way.collected.watching;
+      room = way.collected.room;
+      due = way.collected.due;
+      frames = way.collected.frames;
+      offlined = way.collected.offlined;
+      behind = way.collected.behind;
+    })
 
     pub begins-beside : IsRunning layout view cpu list rows local taking
     begins-beside = record {

@@ -41,7 +41,7 @@ use Rattle.hwp_cpu_course.specs.hwp_cpu_row.hwp_geom.declared.Frame.{Frame}
 use Rattle.hwp_cpu.specs.Processors.{at_number}
 use Rattle.hwp_cpu_course.proofs.of_hwp_cpu_command_laws.CommandRuns.{runs-alike}
 use Rattle.hwp_cpu_course.specs.hwp_cpu_command.Stays.{Stepped, HasGivenUp}
-use Rattle.hwp_cpu.proofs.BesideTurns.{at_rest}
+use Rattle.hwp_cpu.proofs.BesideTurns.{at_rest, way-with}
 use Rattle.std.proofs.lemmas.Option.{slice_get_within, none-some}
 use Rattle.hwp_cpu_course.specs.hwp_cpu_row.declared.Local.{Local}
 use Rattle.hwp_cpu_course.specs.hwp_cpu_row.hwp_cpu_check.declared.EventOutcome.{EventOutcome}
@@ -121,21 +121,7 @@ module _ (layout : Layout) (old new : View) (cpu : Cpu) (list : List Command) (r
     past = record next { noted = noted }
 
     way-past : IsUnderWay layout new cpu list rows local command copies past
-    way-past = record {
-      serves = way-next.serves;
-      next = way-next.next;
-      runs = way-next.runs;
-      handle = way-next.handle;
-      policies = way-next.policies;
-      stopped = way-next.stopped;
-      looked = way-next.looked;
-      stops = way-next.stops;
-      listed = way-next.listed;
-      account = record { marked = way-next.account.marked; failed = way-next.account.failed; set = way-next.account.set; counted = way-next.account.counted; losses = way-next.account.losses };
-      noted = record { earlier = way-next.noted.earlier; last = way-next.noted.last; all = way-next.noted.all; noted = way-next.noted.noted; before = way-next.noted.before; own = way-next.noted.own; marked = way-next.noted.marked };
-      spoiled = way-next.spoiled;
-      collected = keeps;
-    }
+    way-past = way-with c.beside c.watching noted c.due way-next refl way-next.account.counted keeps
 
     turned-past : Turned layout new cpu list rows local past (answer past)
     turned-past = subst (λ (o : Option Soft). Turned layout new cpu list rows local past (answer_of o k)) (sym beside_is) (by (jobs.answer k) refl)
@@ -206,36 +192,16 @@ module _ (layout : Layout) (old new : View) (cpu : Cpu) (list : List Command) (r
       marks = ap (λ (o : Option Soft). filter_map act_marking (acts (told_of k) c.due.offlined) ++ (marked_beyond k ++ marked_beside o)) (sym beside_is)
 
       rest-way : IsUnderWay layout new cpu list rows local command copies (at_rest d)
-      rest-way = record {
-        serves = way-next.serves;
-        next = way-next.next;
-        runs = way-next.runs;
-        handle = way-next.handle;
-        policies = way-next.policies;
-        stopped = way-next.stopped;
-        looked = way-next.looked;
-        stops = way-next.stops;
-        listed = way-next.listed;
-        account = record {
-          marked = way-next.account.marked ∙ sym marks;
-          failed = way-next.account.failed;
-          set = way-next.account.set;
-          counted = subst (λ (o : Option Soft). HasCounted (part_of o k) new) beside_is way-next.account.counted;
-          losses = way-next.account.losses;
-        };
-        noted = record { earlier = way-next.noted.earlier; last = way-next.noted.last; all = way-next.noted.all; noted = way-next.noted.noted; before = way-next.noted.before; own = way-next.noted.own; marked = way-next.noted.marked ∙ sym marks };
-        spoiled = way-next.spoiled;
-        collected = record {
-          few = keeps.few;
-          frames_are = keeps.frames_are;
-          watching = keeps.watching;
-          room = keeps.room;
-          due = keeps.due;
-          frames = keeps.frames;
-          offlined = keeps.offlined;
-          behind = keeps.behind;
-        };
-      }
+      rest-way = way-with None w n d.due way-next marks (subst (λ (o : Option Soft). HasCounted (part_of o k) new) beside_is way-next.account.counted) (record {
+        few = keeps.few;
+        frames_are = keeps.frames_are;
+        watching = keeps.watching;
+        room = keeps.room;
+        due = keeps.due;
+        frames = keeps.frames;
+        offlined = keeps.offlined;
+        behind = keeps.behind;
+      })
 
       holds-rest : HoldsNone new at next → HoldsNone new at (at_rest d)
       holds-rest has = record { on_turn = has.on_turn; hand_is = has.hand_is; paid = has.paid; unowed = has.unowed; beyond = has.beyond; left = has.left }

@@ -29,7 +29,7 @@ use Rattle.hwp_fault.specs.hwp_core_rule.Views.{body_of, killed_by, listed, list
 use Rattle.hwp_fault.specs.hwp_core_rule.declared.SharedWord.TheVariants as places
 use Rattle.hwp_fault.proofs.of_hwp_core_rule.Lists.{at_longer, each-push}
 use Rattle.hwp_fault.specs.hwp_core_task.Calls.{Steps, logs}
-use Rattle.hwp_fault.specs.hwp_core_task.Known.{HasMadeBeside, HasOnlyBeside, IsOnTheWay, Precedes, Saw, deeds, is_by, is_failure}
+use Rattle.hwp_fault.specs.hwp_core_task.Known.{HasMadeBeside, HasOnlyBeside, IsOnTheWay, Precedes, Saw, deeds, is_by, is_failure, such_deeds}
 use Rattle.hwp_fault.proofs.of_hwp_core_task.MadeEntries.{made-kept, only-beside-more, only-beside-stays, only-of-made}
 use Rattle.hwp_fault.proofs.of_hwp_core_task.SightKeeps.{saw-stays}
 use Rattle.hwp_cpu_check.specs.hwp_claim_act.declared.Failed.{Failed}
@@ -193,9 +193,13 @@ failures-such (m ∷ ms) = which (is_failure m.entry.what) refl (failures-such m
     which true is rest = ap (cons_option (failed_in m)) rest
     which false is rest = ap (λ (o : Option Failed). cons_option o (filter_map failed_in ms)) (none-failed m.page m.place m.entry.what is) ∙ rest
 
+-- where the test finds the same, they are the same
+pub failures-listed : (who : Who) (old new : View) → such_deeds is_failure who new ≡ such_deeds is_failure who old → failures_by who new ≡ failures_by who old
+failures-listed who old new same = failures-such (deeds who new) ∙ ap (filter_map failed_in) same ∙ sym (failures-such (deeds who old))
+
 -- an access adds none
 pub failures-same : (a : Request) (old new : View) (b c : Bool) → adds.Adds a old new b c → failures_by a.who new ≡ failures_by a.who old
-failures-same a old new b c (inl none) = failures-such (deeds a.who new) ∙ ap (filter_map failed_in) (none.0 is_failure skips-failure) ∙ sym (failures-such (deeds a.who old))
+failures-same a old new b c (inl none) = failures-listed a.who old new (none.0 is_failure skips-failure)
 failures-same a old new b c (inr some) = ap (filter_map failed_in) some.0.added ∙ filter_map-append failed_in (deeds a.who old) (some.0.check ∷ [])
     ∙ ap (λ (o : Option Failed). failures_by a.who old ++ cons_option o []) (none-failed some.0.check.page some.0.check.place some.0.check.entry.what (ap is_failure some.0.what_is)) ∙ append-nil (failures_by a.who old)
 

@@ -45,11 +45,7 @@ use Rattle.hwp_cpu_command.specs.hwp_core.declared.give_up.GiveUpAt.{GiveUpAt}
 use Rattle.hwp_cpu_command.specs.hwp_core.declared.give_up.GiveUpAt.TheVariants as give_up_at
 use Rattle.hwp_cpu_command.specs.hwp_core.declared.release.Release.{Release}
 use Rattle.hwp_cpu_command.specs.hwp_core.declared.unhold.Unhold.{Unhold}
-use Rattle.hwp_cpu_command.specs.hwp_core.declared.unhold.UnholdAt.{UnholdAt}
-use Rattle.hwp_cpu_command.specs.hwp_core.declared.unhold.UnholdAt.TheVariants as unhold_at
 use Rattle.hwp_cpu_command.specs.hwp_core.declared.unlock.Unlock.{Unlock}
-use Rattle.hwp_cpu_command.specs.hwp_core.declared.unlock.UnlockAt.{UnlockAt}
-use Rattle.hwp_cpu_command.specs.hwp_core.declared.unlock.UnlockAt.TheVariants as unlock_at
 use Rattle.hwp_cpu_command.specs.hwp_core.GiveUps as give_ups
 use Rattle.hwp_cpu_command.specs.hwp_core.Unholds as unholds
 use Rattle.hwp_cpu_command.specs.hwp_core.Unlocks as unlocks
@@ -59,7 +55,8 @@ use Rattle.hwp_cpu_command.specs.hwp_fault.hwp_fault_fill.declared.take.TakeAnsw
 use Rattle.hwp_cpu_command.specs.hwp_fault.hwp_fault_fill.declared.take.TakeAnswer.TheVariants as take_answers
 use Rattle.hwp_cpu_command.specs.hwp_fault.hwp_fault_fill.Takes as takes
 use Rattle.hwp_law_served.specs.hwp_claim_frame.Meets.{AsTaken}
-use Rattle.hwp_cpu_command.proofs.of_hwp_soft_unpoison.of_hwp_claim_frame.ViewKeeps.{Account, OnlyHolds, account_of, kept, planned, release-only}
+use Rattle.hwp_cpu_command.proofs.of_hwp_soft_unpoison.of_hwp_claim_frame.ViewKeeps.{Account, account_of, kept, unlock-only}
+use Rattle.hwp_cpu_command.proofs.of_hwp_soft.SoftFits.{unhold-only}
 use Rattle.hwp_cpu_command.proofs.of_hwp_soft.SpareSteps.{free-stays}
 use Rattle.hwp_law_served.specs.hwp_cpu_check.declared.EventOutcome.{EventOutcome}
 use Rattle.hwp_law_served.specs.hwp_cpu_check.Checks.{IsActedOn}
@@ -191,23 +188,6 @@ module _ {layout : Layout} {who : Who} {step : Step} {put : Option Log} {old new
           omega (arith, before, after, more)
 
 -- ---- where memory is refused
-
-unhold-only : (u : Unhold) (step : Step) → unholds.plan u ≡ Some step → OnlyHolds step
-unhold-only u step is = which u.at is
-  where
-    which : (x : UnholdAt) → unholds.plan_at u.page x ≡ Some step → OnlyHolds step
-    which (unhold_at.UnlockFrame frame count body) e = planned e tt
-    which (unhold_at.Release r) e = release-only r step e
-    which (unhold_at.UnlockPage body) e = planned e tt
-    which unhold_at.Over e = absurd (none-some step e)
-
-unlock-only : (u : Unlock) (step : Step) → unlocks.plan u ≡ Some step → OnlyHolds step
-unlock-only u step is = which u.at is
-  where
-    which : (x : UnlockAt) → unlocks.plan_at x ≡ Some step → OnlyHolds step
-    which (unlock_at.UnlockFrame frame body) e = planned e tt
-    which (unlock_at.Release r) e = release-only r step e
-    which unlock_at.Over e = absurd (none-some step e)
 
 give-up-none : {layout : Layout} {old new : View} {found : ℕ} {got : Option BodyValue} {who : Who} {step : Step} (g : GiveUp) → offline.IsGivingUp layout old who g → give_ups.plan g ≡ Some step → Steps layout who step (logs (give_ups.put g)) old new found got → deeds who new ≡ deeds who old
 give-up-none {layout} {old} {new} {found} {got} {who} {step} g has is made = which g.at is made has.as_taken

@@ -1,7 +1,5 @@
 -- The freeing of a translation lists its own entry alone, so no failure; it marks no frame and owes no count.
-use Rattle.std.proofs.Common.{◌≡◌, ℕ, Bool, true, false, cond, List, [], ◌∷◌, Option, Some, None, filter, filter_map, refl, sym, ap, ◌∙◌, subst}
-use Rattle.std.specs.List.{cons_option}
-use Rattle.std.proofs.lemmas.Bool.{both_ways}
+use Rattle.std.proofs.Common.{◌≡◌, ℕ, Bool, false, List, Option, Some, None, filter, refl, sym, ap, subst}
 use Rattle.std.proofs.lemmas.Option.{none-some, same_Some}
 use Rattle.hwp_cpu_access.specs.hwp_fault.hwp_geom.declared.Frame.{Frame}
 use Rattle.hwp_cpu_access.specs.hwp_fault.hwp_geom.declared.Layout.{Layout}
@@ -9,7 +7,6 @@ use Rattle.hwp_cpu_access.specs.hwp_fault.hwp_geom.declared.Page.{Page}
 use Rattle.hwp_cpu_access.specs.hwp_fault.hwp_geom.declared.Who.{Who}
 use Rattle.hwp_cpu_access.specs.hwp_fault.hwp_page.declared.At.{At}
 use Rattle.hwp_cpu_access.specs.hwp_fault.hwp_page.declared.What.{What}
-use Rattle.hwp_cpu_access.specs.hwp_fault.hwp_page.declared.What.TheVariants as entries
 use Rattle.hwp_cpu_access.specs.hwp_fault.hwp_page.History.{BodyValue}
 use Rattle.hwp_cpu_access.specs.hwp_fault.hwp_core_rule.declared.Made.{Made}
 use Rattle.hwp_cpu_access.specs.hwp_fault.hwp_core_rule.declared.SharedWord.TheVariants as places
@@ -17,7 +14,7 @@ use Rattle.hwp_cpu_access.specs.hwp_fault.hwp_core_rule.declared.Step.{Step}
 use Rattle.hwp_cpu_access.specs.hwp_fault.hwp_core_rule.declared.Step.TheVariants as steps
 use Rattle.hwp_cpu_access.specs.hwp_fault.hwp_core_rule.declared.View.{View}
 use Rattle.hwp_cpu_access.specs.hwp_fault.hwp_core_task.Calls.{Steps, logs}
-use Rattle.hwp_cpu_access.specs.hwp_fault.hwp_core_task.Known.{deeds, is_failure, such_deeds}
+use Rattle.hwp_cpu_access.specs.hwp_fault.hwp_core_task.Known.{is_failure, such_deeds}
 use Rattle.hwp_cpu_access.specs.hwp_fault.hwp_words.declared.Pte.TheVariants as ptes
 use Rattle.hwp_cpu_access.proofs.of_hwp_fault.of_hwp_core_task.MadeEntries.{ListsNone, deeds-same, frame-lists, page-lists, such-kept}
 use Rattle.hwp_cpu_access.proofs.of_hwp_fault.of_hwp_core_task.StepLeaves.{steps-planned}
@@ -47,10 +44,9 @@ use Rattle.hwp_evict.specs.Evictions.{entry_of}
 use Rattle.hwp_evict.specs.Evicts.{FitsAt, FitsFrom, IsVacating, plan, plan_at, put, put_at}
 use Rattle.hwp_evict.specs.Vacates as vacates
 use Rattle.hwp_evict.proofs.ClearLaws.{clear-lists}
-use Rattle.hwp_cpu_access.specs.hwp_cpu_check.hwp_claim_act.declared.Failed.{Failed}
-use Rattle.hwp_cpu_access.specs.hwp_cpu_check.hwp_claim_act.Abandoned.{failed_in, failed_of}
 use Rattle.hwp_cpu_access.proofs.of_hwp_cpu_check.of_hwp_claim.Quiet.{Alike, PlansQuiet, clear, give-up, leaves, release, unhold}
 use Rattle.hwp_cpu_access.specs.Done.{failures_by}
+use Rattle.hwp_cpu_access.proofs.CommandGrows.{failures-listed}
 use Rattle.hwp_cpu_access.proofs.Quiet.{hold}
 use Rattle.hwp_cpu_copy.proofs.FreeHomes.{HomeWithout, PutsNone, ahead-home, given-up-home, known-home}
 
@@ -149,29 +145,11 @@ module _ (test : What → Bool) {layout : Layout} {old new : View} {step : Step}
 
 -- ---- failures among entries
 
-none-failed : (page : Page) (place : ℕ) (what : What) → is_failure what ≡ false → failed_of page place what ≡ None
-none-failed page place (entries.Fail situation required seen signals) is = absurd (both_ways true is refl)
-none-failed page place _ is = refl
-
-failures-such : (l : List Made) → filter_map failed_in l ≡ filter_map failed_in (filter (λ (m : Made). is_failure m.entry.what) l)
-failures-such [] = refl
-failures-such (m ∷ ms) = which (is_failure m.entry.what) refl (failures-such ms)
-  where
-    found : List Made
-    found = filter (λ (x : Made). is_failure x.entry.what) ms
-
-    which : (b : Bool) → is_failure m.entry.what ≡ b → filter_map failed_in ms ≡ filter_map failed_in found → cons_option (failed_in m) (filter_map failed_in ms) ≡ filter_map failed_in (cond b (m ∷ found) found)
-    which true is rest = ap (cons_option (failed_in m)) rest
-    which false is rest = ap (λ (o : Option Failed). cons_option o (filter_map failed_in ms)) (none-failed m.page m.place m.entry.what is) ∙ rest
-
 no-failure : (what : Eviction) → is_failure (entry_of what) ≡ false
 no-failure (evictions.Free slot) = refl
 no-failure evictions.Sync = refl
 no-failure evictions.Drop = refl
 no-failure evictions.Out = refl
 
-listed : (old new : View) (who : Who) → such_deeds is_failure who new ≡ such_deeds is_failure who old → failures_by who new ≡ failures_by who old
-listed old new who same = failures-such (deeds who new) ∙ ap (filter_map failed_in) same ∙ sym (failures-such (deeds who old))
-
 pub evict-fails : {base : List Made} {layout : Layout} {old new : View} {step : Step} {found : ℕ} {got : Option BodyValue} (e : Evict) → FitsFrom base layout old e → plan e ≡ Some step → Steps layout e.who step (logs (put e)) old new found got → failures_by e.who new ≡ failures_by e.who old
-evict-fails {old = old} {new} e fits is made = listed old new e.who (evict-lists-none is_failure e (no-failure e.what) fits is made)
+evict-fails {old = old} {new} e fits is made = failures-listed e.who old new (evict-lists-none is_failure e (no-failure e.what) fits is made)

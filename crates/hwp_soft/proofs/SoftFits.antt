@@ -26,8 +26,6 @@ use Rattle.hwp_evict.specs.hwp_core.declared.unhold.Unhold.{Unhold}
 use Rattle.hwp_evict.specs.hwp_core.declared.unhold.UnholdAt.{UnholdAt}
 use Rattle.hwp_evict.specs.hwp_core.declared.unhold.UnholdAt.TheVariants as unhold_at
 use Rattle.hwp_evict.specs.hwp_core.declared.unlock.Unlock.{Unlock}
-use Rattle.hwp_evict.specs.hwp_core.declared.unlock.UnlockAt.{UnlockAt}
-use Rattle.hwp_evict.specs.hwp_core.declared.unlock.UnlockAt.TheVariants as unlock_at
 use Rattle.hwp_evict.specs.hwp_core.GiveUps as give_ups
 use Rattle.hwp_evict.specs.hwp_core.Releases as releases
 use Rattle.hwp_evict.specs.hwp_core.Unholds as unholds
@@ -66,7 +64,7 @@ use Rattle.hwp_soft.proofs.SpareSteps.{frame-poisoned, free-stays, spare-freed, 
 no-body : (view : View) → AsTaken view None
 no-body view b is = absurd (none-some b is)
 
-unhold-only : (u : Unhold) (step : Step) → unholds.plan u ≡ Some step → OnlyHolds step
+pub unhold-only : (u : Unhold) (step : Step) → unholds.plan u ≡ Some step → OnlyHolds step
 unhold-only u step is = which u.at is
   where
     which : (x : UnholdAt) → unholds.plan_at u.page x ≡ Some step → OnlyHolds step
@@ -95,20 +93,7 @@ module _ (found : ℕ) where
       which unhold_at.Over = refl
 
   unlock-gives-none : (u : Unlock) → unlocks.put (unlocks.next (unlocks.bare u) found) ≡ None
-  unlock-gives-none u = which u.at
-    where
-      by : (r : Release) (x : ReleaseAt) → unlocks.put_at (unlocks.after_release_at r x) ≡ None
-      by r release_at.Put = refl
-      by r (release_at.Give word) = refl
-      by r (release_at.Unreserve word) = refl
-      by r (release_at.Adopt word) = refl
-      by r (release_at.Retire word) = refl
-      by r (release_at.Back word) = refl
-
-      which : (x : UnlockAt) → unlocks.put_at (unlocks.next_at u.who (unlocks.bare_at x) found) ≡ None
-      which (unlock_at.UnlockFrame frame body) = refl
-      which (unlock_at.Release r) = by (releases.next r found) (releases.next r found).at
-      which unlock_at.Over = refl
+  unlock-gives-none u = discarding.gives-none u found u.at
 
   give-up-gives-none : (g : GiveUp) → give_ups.put (give_ups.next (give_ups.bare g) found) ≡ None
   give-up-gives-none g = which g.at

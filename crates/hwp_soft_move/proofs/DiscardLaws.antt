@@ -93,7 +93,7 @@ module _ {layout : Layout} {old new : View} (d : Discard) {found : ℕ} {got : O
 let-go : (frame : Frame) → record (empty_frame frame false true) { locks = without (is_lock_of frame) (empty_frame frame false true).locks; refs = less_refs frame 1 (empty_frame frame false true).refs } ≡ empty
 let-go frame = let same = same-number frame.0 frame.0 refl in grind arith
 
-gives-none : (u : Unlock) (found : ℕ) (x : UnlockAt) → unlocks.put_at (unlocks.next_at u.who (unlocks.bare_at x) found) ≡ None
+pub gives-none : (u : Unlock) (found : ℕ) (x : UnlockAt) → unlocks.put_at (unlocks.next_at u.who (unlocks.bare_at x) found) ≡ None
 gives-none u found (unlock_at.UnlockFrame frame body) = refl
 gives-none u found (unlock_at.Release r) = by (releases.next r found) (releases.next r found).at
   where
