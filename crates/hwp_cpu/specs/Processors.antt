@@ -9,6 +9,7 @@ use Rattle.hwp_cpu_course.specs.hwp_cpu_row.hwp_geom.declared.Layout.{Layout}
 use Rattle.hwp_cpu_course.specs.hwp_cpu_row.hwp_geom.declared.Who.{Who}
 use Rattle.hwp_cpu_course.specs.hwp_cpu_row.hwp_geom.Layout.{IsSound}
 use Rattle.hwp_cpu_course.specs.hwp_cpu_row.hwp_geom.Limits.{command_limit}
+use Rattle.hwp_cpu_course.specs.hwp_cpu_row.hwp_geom.Pairs.{Pairs}
 use Rattle.hwp_cpu_course.specs.hwp_cpu_row.hwp_page.History.{BodyValue}
 use Rattle.hwp_cpu_course.specs.hwp_cpu_row.hwp_script_lines.declared.Command.{Command}
 use Rattle.hwp_cpu_course.specs.hwp_cpu_row.hwp_law_commands.Commands.{is_watch}
@@ -209,3 +210,7 @@ NextOf layout p None found got after turn = (after ≡ p) × (turn ≡ turns.Mov
 
 abbrev pub Next : Layout → Processor → ℕ → Option BodyValue → Processor → Turn → Type 0
 Next layout p found got after turn = NextOf layout p p.course found got after turn
+
+-- the processors have answered all their commands, and these are their rows
+abbrev pub AreFinished : List Processor → List (List Row) → Type 0
+AreFinished ps rows = Pairs (λ (p : Processor) (own : List Row). (own ≡ p.rows.items) × (p.course ≡ None)) ps rows

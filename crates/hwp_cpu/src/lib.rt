@@ -1,6 +1,8 @@
 //! The commands of one processor as one task: they run one after the other, and each comes to a row.
 #![tactic(auto)]
 
+mod crew;
 mod processor;
 
+pub use crew::{Rows, dismiss, enlist, rows_of};
 pub use processor::Processor;

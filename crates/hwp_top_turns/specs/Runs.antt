@@ -1,6 +1,5 @@
 -- The run of a script: the processors' tasks as they begin, how they end, and the law of the report.
-use Rattle.std.specs.Prelude.{◌≡◌, ℕ, List, [], Some, None, length, map, slice_get}
-use Rattle.hwp_table_words.specs.hwp_geom.Pairs.{Pairs}
+use Rattle.std.specs.Prelude.{◌≡◌, ℕ, List, [], Some, length, map, slice_get}
 use Rattle.hwp_table_words.specs.hwp_geom.declared.Cpu.{Cpu}
 use Rattle.hwp_table_words.specs.hwp_geom.declared.Frame.{Frame}
 use Rattle.hwp_table_words.specs.hwp_geom.declared.Layout.{Layout}
@@ -26,6 +25,7 @@ use Rattle.hwp_top_report.specs.hwp_cpu_row.declared.Row.{Row}
 use Rattle.hwp_top_report.specs.hwp_law_served.Runs.{AreRecords, HaveServed, notes_of}
 use Rattle.hwp_top_report.specs.hwp_cpu.declared.Processor.{Processor}
 use Rattle.hwp_top_report.specs.hwp_cpu.Processors.{AtBeginning}
+pub use Rattle.hwp_top_report.specs.hwp_cpu.Processors.{AreFinished}
 use Rattle.hwp_top_report.specs.hwp_cpu.Serving as serving
 use Rattle.hwp_top_report.specs.Closing.{IsClosing, lines_of_all}
 
@@ -41,10 +41,6 @@ own_seat cpu = cpu.0
 pub record AreAtBeginning (script : Script) (tasks : List Processor) : Type 0 where
   pub one_each : length tasks ≡ length script.lists
   pub each : (cpu : Cpu) (list : List Command) (p : Processor) → slice_get script.lists cpu.0 ≡ Some list → slice_get tasks cpu.0 ≡ Some p → AtBeginning script.layout cpu list p
-
--- the processors have answered all their commands, and these are their rows
-abbrev pub AreFinished : List Processor → List (List Row) → Type 0
-AreFinished tasks rows = Pairs (λ (p : Processor) (own : List Row). (own ≡ p.rows.items) × (p.course ≡ None)) tasks rows
 
 -- The turns lead from the opening to this board, on which all commands are served by these rows, and each failure of a frame is
 -- ended. It says nothing of the order of the turns.

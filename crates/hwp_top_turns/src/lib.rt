@@ -7,14 +7,14 @@ mod plain;
 mod playing;
 mod running;
 
-pub use crew::{Rows, crew_of, rows_of};
+pub use crew::crew_of;
 pub use hwp_plain::PlainBoard;
 pub use hwp_table_words::{Bare, Cached, Ended, Pass, Sheet, Slot, TlbCounts, Ways, begin, close};
 pub use hwp_top_report::{
     Board, CacheWord, CounterWord, Cpu, Frame, FrameWord, Kind, Layout, List, MAX_SCRIPT, Ops,
-    OutOfMemory, Page, PageWord, PolicyWord, ProcessWord, Processor, Pte, Report, Script,
+    OutOfMemory, Page, PageWord, PolicyWord, ProcessWord, Processor, Pte, Report, Rows, Script,
     SharedWord, StopWord, Task, Text, Turn, Who, index, is_text, kind_name, policy_word, print,
-    read_number,
+    read_number, rows_of,
 };
 pub use plain::{report_of, run_plain};
 pub use playing::play;

@@ -2,9 +2,9 @@ ghost use Rattle.std.specs.Prelude.{◌≡◌, IfOk};
 ghost use Rattle.hwp_plain.specs.hwp_script_read.Valid.{IsValid};
 ghost use Rattle.hwp_top_turns.specs.Runs.{IsOpened, IsPlayed};
 
-use crate::crew::{Rows, crew_of, rows_of};
+use crate::crew::crew_of;
 use hwp_plain::step_all;
-use hwp_top_report::{Board, OutOfMemory, Script};
+use hwp_top_report::{Board, OutOfMemory, Rows, Script, dismiss, rows_of};
 use std::alloc::Global;
 
 /// All turns of a script's processors on a board at opening, in the order of its schedule: the rows of each processor.
@@ -16,7 +16,13 @@ pub fn play<B: Board>(alloc: Global, script: &Script, board: &mut B) -> Result<R
 {
     board.keeps();
     let mut crew = crew_of(alloc, script)?;
-    step_all(board, &mut crew, script.go.as_slice())?;
+    match step_all(board, &mut crew, script.go.as_slice()) {
+        Ok(()) => {}
+        Err(refused) => {
+            dismiss(crew);
+            return Err(refused);
+        }
+    }
     board.keeps();
     rows_of(alloc, crew)
 }

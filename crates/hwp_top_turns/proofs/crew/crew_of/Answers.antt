@@ -34,8 +34,8 @@ loop-cpu-preserved c =
     let more : AreBegun c.args.script.now (tasks ++ p ∷ [])
     = begun-more c.args.script.now tasks p c.index-lists-cpu.result c.loop-cpu.invariant.1 (omega (arith, inside, count))
     (subst (λ (n : ℕ). AtBeginning c.args.script.now.layout (cpu_of n) (get_or c.args.script.now.lists n c.index-lists-cpu.result) p) (sym count) of_script) in (
-      ap (λ (l : List Processor). length l) c.in-Ok-pushed.ensures ∙ length-append tasks (p ∷ []) ∙ ap (λ (n : ℕ). n + 1) count,
-      subst (AreBegun c.args.script.now) (sym c.in-Ok-pushed.ensures) more,
+      ap (λ (l : List Processor). length l) c.in-Ok-enlist.ensures ∙ length-append tasks (p ∷ []) ∙ ap (λ (n : ℕ). n + 1) count,
+      subst (AreBegun c.args.script.now) (sym c.in-Ok-enlist.ensures) more,
       c.loop-cpu.invariant.2,
       c.loop-cpu.invariant.3,
     )

@@ -1,9 +1,9 @@
 use Rattle.std.proofs.Common.{◌≡◌, [], ◌∷◌, ◌++◌, None, List, sym, subst}
-use Rattle.hwp_plain.proofs.of_hwp_script_lines.PairsLaws.{Pairs-push}
-use Rattle.hwp_top_report.specs.hwp_cpu_row.declared.Row.{Row}
-use Rattle.hwp_top_report.specs.hwp_cpu.declared.Processor.{Processor}
-use Rattle.hwp_top_turns.specs.Runs.{AreFinished}
-use Rattle.hwp_top_turns.proofs.crew.rows_of.Goals as goal
+use Rattle.hwp_script_lines.proofs.PairsLaws.{Pairs-push}
+use Rattle.hwp_cpu_course.specs.hwp_cpu_row.declared.Row.{Row}
+use Rattle.hwp_cpu.specs.declared.processor.Processor.{Processor}
+use Rattle.hwp_cpu.specs.Processors.{AreFinished}
+use Rattle.hwp_cpu.proofs.crew.rows_of.Goals as goal
 
 pub loop-processor-preserved : goal.loop-processor-preserved
 loop-processor-preserved c = subst (AreFinished (c.loop-processor.yielded ++ c.in-Some.processor ∷ [])) (sym c.in_ok-push.ensures.items)
