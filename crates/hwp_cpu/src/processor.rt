@@ -58,13 +58,6 @@ impl Processor {
         })
     }
 
-    /// The rows so far: of the first commands, in order.
-    pub fn rows(&self) -> &[Row]
-        ensures { result.now ≡ self.now.rows.items }
-    {
-        self.rows.as_slice()
-    }
-
     /// The rows of all commands, in order.
     ///
     /// # Errors
