@@ -24,12 +24,12 @@ use Rattle.hwp_top_report.proofs.of_hwp_law_run.RunKeeps.{kept-ordered}
 use Rattle.hwp_top_report.specs.hwp_cpu_row.declared.Row.{Row}
 use Rattle.hwp_top_report.specs.hwp_law_served.Runs.{HaveServed}
 use Rattle.hwp_top_report.specs.hwp_cpu.declared.Processor.{Processor}
-use Rattle.hwp_top_report.specs.hwp_cpu.Processors.{AreCommands, AtBeginning}
+use Rattle.hwp_top_report.specs.hwp_cpu.Processors.{AreCommands, AreFinished, AtBeginning}
 use Rattle.hwp_top_report.specs.hwp_cpu.Serving.{Fits}
 use Rattle.hwp_top_report.proofs.of_hwp_cpu.Ends.{opening-fits, opening-own}
 use Rattle.hwp_top_report.specs.Closing.{lines_of_all}
 use Rattle.hwp_top_turns.proofs.ProcessorServes.{Keeps, begins-kept, next-kept, served-kept}
-use Rattle.hwp_top_turns.specs.Runs.{AreAtBeginning, AreFinished, own_seat, processors}
+use Rattle.hwp_top_turns.specs.Runs.{AreAtBeginning, own_seat, processors}
 
 -- ---- the commands of a processor
 

@@ -19,7 +19,8 @@ use Rattle.hwp_top_report.specs.hwp_cpu_row.declared.Row.{Row}
 use Rattle.hwp_law_holds.proofs.Settled.{settled-when-over}
 use Rattle.hwp_top_report.specs.hwp_cpu.declared.Processor.{Processor}
 use Rattle.hwp_top_report.proofs.of_hwp_cpu.ProcessorTells.{tells}
-use Rattle.hwp_top_turns.specs.Runs.{AreAtBeginning, AreFinished, IsOpened, IsPlayed, own_seat, processors}
+use Rattle.hwp_top_report.specs.hwp_cpu.Processors.{AreFinished}
+use Rattle.hwp_top_turns.specs.Runs.{AreAtBeginning, IsOpened, IsPlayed, own_seat, processors}
 use Rattle.hwp_top_turns.proofs.Crews.{all-served, begin-crew, finished-length}
 
 module _ (script : Script) (layout : Layout) (seat : Cpu → ℕ) (state : State) (log : List Played) (opened : IsOpened script layout seat state log) (tasks ps : List Processor) (same : ps ≡ tasks) where

@@ -19,11 +19,11 @@ use Rattle.hwp_top_report.specs.hwp_law_served.Rows.{lines_from}
 use Rattle.hwp_top_report.specs.hwp_law_served.Runs.{HaveServed}
 use Rattle.hwp_top_report.specs.hwp_law_served.Served.{HasServed}
 use Rattle.hwp_top_report.specs.hwp_cpu.declared.Processor.{Processor}
-use Rattle.hwp_top_report.specs.hwp_cpu.Processors.{Next, bare}
+use Rattle.hwp_top_report.specs.hwp_cpu.Processors.{AreFinished, Next, bare}
 use Rattle.hwp_top_report.specs.hwp_cpu.Serving.{Fits}
 use Rattle.hwp_top_report.proofs.of_hwp_cpu.Ends.{next-keeps, served-of}
 use Rattle.hwp_top_report.specs.Closing.{lines_of_all}
-use Rattle.hwp_top_turns.specs.Runs.{AreAtBeginning, AreFinished, own_seat}
+use Rattle.hwp_top_turns.specs.Runs.{AreAtBeginning, own_seat}
 
 -- a processor has its number and its commands
 pub record Keeps (script : Script) (cpu : ℕ) (p : Processor) : Type 0 where

@@ -24,8 +24,7 @@ use Rattle.hwp_top_report.specs.hwp_law_run.Turns.{Leads}
 use Rattle.hwp_top_report.specs.hwp_cpu_row.declared.Row.{Row}
 use Rattle.hwp_top_report.specs.hwp_law_served.Runs.{AreRecords, HaveServed, notes_of}
 use Rattle.hwp_top_report.specs.hwp_cpu.declared.Processor.{Processor}
-use Rattle.hwp_top_report.specs.hwp_cpu.Processors.{AtBeginning}
-pub use Rattle.hwp_top_report.specs.hwp_cpu.Processors.{AreFinished}
+use Rattle.hwp_top_report.specs.hwp_cpu.Processors.{AreFinished, AtBeginning}
 use Rattle.hwp_top_report.specs.hwp_cpu.Serving as serving
 use Rattle.hwp_top_report.specs.Closing.{IsClosing, lines_of_all}
 
