@@ -1,1 +1,3 @@
+mod TaskBegins
 mod SeatPasses
+mod TakeKeeps
