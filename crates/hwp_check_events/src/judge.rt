@@ -124,7 +124,13 @@ fn judge_store(case: &EventCase<'_>, at: Line, raw: &mut Bank) -> Faults
 }
 
 /// What is wrong about the lines of a scrub, by what the report says of it.
-fn judge_scrub(case: &EventCase<'_>, first: Frame, last: Frame, table: &[u8], raw: &mut Bank) -> Faults
+fn judge_scrub(
+    case: &EventCase<'_>,
+    first: Frame,
+    last: Frame,
+    table: &[u8],
+    raw: &mut Bank,
+) -> Faults
     requires table { IsTable case.now.script case.now.who table.now }
     requires fit { first.0 ≤ last.0 }
     ensures { IsScrubJudged case.now.script case.now.report case.now.who (arrival_of case.now.command) first last raw.old raw.new (shown_lines case.now.lines) result }
