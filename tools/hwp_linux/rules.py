@@ -135,13 +135,35 @@ def swapped_in_by_store(case: Case, one: Difference) -> bool:
     return is_early_extra(case, one, pages)
 
 
+def shared_from_swap(case: Case, one: Difference) -> bool:
+    """Shared memory that an access swaps in leaves Linux's swap cache: it fails as a page that was never there, and is lost."""
+    pages = [page for was in ("swapclean", "swapdirty") for page in case.failed(was) if case.kinds[page] == SHARED]
+    if not pages:
+        return False
+    if one.about in ("answer", "event"):
+        return (one.hwp, one.linux) == ("delayed", "recovered")
+    if one.about == "extra":
+        return case.leads(one.signal, pages)
+    return (one.about, one.linux) == ("end", "ends") and one.number in {t.process for t in case.script.translations if t.page in pages}
+
+
 def untouched_mapping(case: Case, one: Difference) -> bool:
-    """Linux signals an early process that has a page mapped which it never touched."""
+    """Linux signals an early process that has a page mapped which it never touched, and the thread that a required event meets."""
     pages = [page for situation in SIGNALLED for page in case.failed(situation) if case.kinds[page] != PRIVATE]
     used = {translation for page in pages for translation in case.world.pages[page].used}
     touching = {case.script.translations[translation].process for translation in used}
     process = one.number if one.about == "end" else case.process(one.signal.thread) if one.signal is not None else -1
-    return process not in touching and is_early_extra(case, one, pages)
+    return process not in touching and (is_early_extra(case, one, pages) or is_met_extra(case, one, pages))
+
+
+def is_met_extra(case: Case, one: Difference, pages: list[int]) -> bool:
+    """Whether Linux signals the thread that a required event meets for one of these pages, or its process ends by that."""
+    if case.step.command.words[:2] != ("raise", "user") or not any(event.row == 9 for event in case.step.events):
+        return False
+    met = case.step.command.numbers[0]
+    if one.about == "extra" and one.signal is not None:
+        return (one.signal.thread, one.signal.code) == (met, "ar") and case.leads(one.signal, pages)
+    return (one.about, one.linux, one.number) == ("end", "ends", case.process(met))
 
 
 def unpoison_in_cache(case: Case, one: Difference) -> bool:
@@ -218,6 +240,12 @@ def option_as_int(case: Case, one: Difference) -> bool:
     return False
 
 
+def other_option(case: Case, one: Difference) -> bool:
+    """Linux's prctl has other options, which have nothing to do with memory failures."""
+    is_refused = (case.verb, one.about, one.hwp) == ("prctl", "answer", "einval")
+    return is_refused and case.step.command.numbers[1] not in (33, 34)
+
+
 def thread_killed(case: Case, one: Difference) -> bool:
     """Where a required failure doesn't help, Linux kills the thread by a SIGBUS of the kernel's own code."""
     event = case.event(one)
@@ -280,9 +308,11 @@ def is_unusable(event: Event) -> bool:
 
 
 def soft_of_unmapped_page(case: Case, one: Difference) -> bool:
-    """Linux drops a clean page of a file that nobody has mapped, where hwp moves it."""
+    """Linux drops a clean page of a file, and shared memory that was only read, if nobody has it mapped. hwp moves it."""
     page = case.page
-    return (case.verb, one.hwp, one.linux) == ("soft", "moved", "invalidated") and page is not None and case.kinds[page] == OF_FILE
+    if page is None or (case.verb, one.hwp, one.linux) != ("soft", "moved", "invalidated"):
+        return False
+    return case.kinds[page] == OF_FILE or case.kinds[page] == SHARED and not case.world.pages[page].is_stored
 
 
 def locked_page_told(case: Case, one: Difference) -> bool:
@@ -339,6 +369,7 @@ def ended_there(case: Case, one: Difference) -> Optional[str]:
 RULES: dict[str, Callable[[Case, Difference], bool]] = {
     "never stored": never_stored,
     "swapped in by a store": swapped_in_by_store,
+    "shared memory from swap": shared_from_swap,
     "early in the swap cache": swap_dirty_early,
     "untouched mapping": untouched_mapping,
     "page in a cache": unpoison_in_cache,
@@ -350,6 +381,7 @@ RULES: dict[str, Callable[[Case, Difference], bool]] = {
     "poison entry freed": poison_entry_freed,
     "policy set though refused": policy_set_though_refused,
     "option as an int": option_as_int,
+    "other option": other_option,
     "thread killed": thread_killed,
     "second required": second_required,
     "overflow, not signalled": overflow_not_signalled,
@@ -378,6 +410,8 @@ def note(case: Case) -> None:
     for number, (situation, page) in case.step.failed.items():
         if page is not None and (situation == "swapdirty" or case.kinds[page] == SHARED):
             memory.still.setdefault(number, "page in a cache")
+        if page is not None and situation == "swapclean" and case.kinds[page] == SHARED:
+            memory.lost[page] = "shared memory from swap"
     note_losses(case)
 
 
