@@ -8,15 +8,15 @@ use std::alloc::Global;
 /// The rows of each processor.
 pub type Rows = List<List<Row>>;
 
-/// The processor comes last in the crew, where there is memory; else it is let go. A crate that lets processors go proves how for each
-/// type that lies inside, so no crate above does.
+/// Adds a processor at the end of the crew, where there is memory; else lets it go. Each crate that lets processors go proves anew how
+/// every type inside is let go, so hwp_top_turns calls this and `dismiss`.
 pub fn enlist(crew: &mut Vec<Processor>, processor: Processor) -> Result<(), OutOfMemory>
     ensures { IfOk result (λ _. crew.new.items ≡ crew.old.items ++ processor ∷ []) }
 {
     Ok(crew.push(processor)?)
 }
 
-/// The crew is let go.
+/// Lets the crew go.
 pub fn dismiss(crew: Vec<Processor>) {
     drop(crew);
 }

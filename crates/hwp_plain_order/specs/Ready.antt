@@ -74,7 +74,7 @@ pub record IsSet (ls : List ℕ) (cpu : ℕ) (after : List ℕ) : Type 0 where
   pub level : ℕ
   pub is : after ≡ set ls cpu level
 
--- the same, and the levels after it; that of a task without a turn is above all classes
+-- a turn, or none where the task is over, and the levels after it; that of a task without a turn is above all classes
 abbrev pub TurnOrOver : {S : Type 0} → Member S → Running S → ℕ → List Played → List Played → List ℕ → List ℕ → Turn × Option Kind → Running S → Type 0
 TurnOrOver m a cpu was now ls after told b = (NoneTold m a cpu was now told b × (after ≡ set ls cpu 5)) ⊎ (TurnTold m a cpu was now told b × IsSet ls cpu after)
 

@@ -188,8 +188,8 @@ impl<'a, N: OfTable, W: Ways> SeatBoard<'a, N, W> {
         met
     }
 
-    /// The same of a step of any kind, in a function of its own. Most steps are loads. Those make `make` inline, where the compiler knows
-    /// that the step is a load, and asks no table of kinds.
+    /// The same of a step of any kind, in a function of its own. Most steps are loads. For those `make` is put inline, where the compiler
+    /// knows that the step is a load, and asks no table of kinds.
     #[inline(never)]
     pub(crate) fn make_of_kind(&mut self, who: Who, step: &Step, body: Option<Body>) -> Met
         requires can { CanMake self.old.layout who step.now body (own_view self.old) }
