@@ -1,6 +1,5 @@
 -- What fits once the entry of a failure is made: the translations are written, and then the page leaves its frame.
-use Rattle.std.proofs.Common.{◌≡◌, ◌⊎◌, inl, inr, ℕ, ◌+◌, ◌-◌, ◌<◌, ◌≤◌, Bool, true, false, cond, List, [], ◌∷◌, Option, Some, None, is_none, length, drop, slice_get, refl, sym, ap, ◌∙◌, subst, arith}
-use Rattle.std.proofs.lemmas.Bool.{both_ways, cases_lt, le-ltb}
+use Rattle.std.proofs.Common.{◌≡◌, ℕ, ◌+◌, ◌-◌, ◌<◌, Bool, true, false, cond, List, [], ◌∷◌, Option, Some, None, is_none, length, drop, slice_get, refl, sym, ap, ◌∙◌, subst, arith}
 use Rattle.std.proofs.lemmas.Option.{none-some, same_Some}
 use Rattle.std.specs.FinSet as set
 use Rattle.hwp_evict.specs.hwp_geom.declared.Frame.{Frame}
@@ -44,6 +43,7 @@ use Rattle.hwp_claim_act.specs.Acts.{Enters, after_clear}
 use Rattle.hwp_claim_act.specs.Failing.{bars_of, failure_of}
 use Rattle.hwp_claim_act.specs.Reads.{HoldsFailed}
 use Rattle.hwp_claim_act.proofs.FailureEntry.{acts-after, extends, has-failure, one-more, written-fits}
+use Rattle.hwp_evict.proofs.ClearLaws.{none-done}
 
 module _ {layout : Layout} {view : View} {who : Who} {page : Page} {frame : Frame} (on : IsOnTurn view who) (inside : page.0 < length layout.pages) (within : frame.0 < layout.frames) where
   -- ---- all translations are written
@@ -151,14 +151,6 @@ module _ {layout : Layout} {view : View} {who : Who} {page : Page} {frame : Fram
   -- ---- the first of them
 
   module _ (sound : IsSound layout) (body : BodyValue) (held : HoldsFailed layout view page frame body) (barred : Bool) where
-    none-done : (n : Option VSlot) → IsNextFrom body.state.maps 0 n → (slot : ℕ) → set.contains body.state.maps slot ≡ true → is_done n slot ≡ false
-    none-done None none slot some = absurd (both_ways (set.contains body.state.maps slot) (none slot (omega arith)) some)
-    none-done (Some v) low slot some = le-ltb slot v.0 (first (cases_lt slot v.0))
-      where
-        first : (slot < v.0) ⊎ (v.0 ≤ slot) → v.0 ≤ slot
-        first (inl less) = absurd (both_ways (set.contains body.state.maps slot) (low.1.lowest slot (omega arith) less) some)
-        first (inr past) = past
-
     maps-are : body.state.maps ≡ (state_of layout (log_of body)).maps
     maps-are = ap (λ (s : PageState). s.maps) (sym (state-is held.holds.body_is))
 
@@ -182,7 +174,7 @@ module _ {layout : Layout} {view : View} {who : Who} {page : Page} {frame : Fram
       where
         same : (slot : ℕ) (b : Bool) → set.contains (state_of layout (log_of body)).maps slot ≡ b → fitting_word (state_of layout (log_of body)) (frame.0 + 1) slot ≡ word_now (state_of layout (log_of body)) barred frame next slot
         same slot true some = ap (λ (d : Bool). cond (set.contains (state_of layout (log_of body)).maps slot) (cond d (pte_word (pte_of barred)) (frame.0 + 1)) (cond (set.contains (state_of layout (log_of body)).bar slot) (pte_word ptes.Poison) 0))
-            (sym (none-done next lowest slot (ap (λ m. set.contains m slot) maps-are ∙ some)))
+            (sym (none-done body.state.maps next lowest slot (ap (λ m. set.contains m slot) maps-are ∙ some)))
         same slot false none = ap (λ (b : Bool). cond b (frame.0 + 1) (cond (set.contains (state_of layout (log_of body)).bar slot) (pte_word ptes.Poison) 0)) none
             ∙ sym (ap (λ (b : Bool). cond b (cond (is_done next slot) (pte_word (pte_of barred)) (frame.0 + 1)) (cond (set.contains (state_of layout (log_of body)).bar slot) (pte_word ptes.Poison) 0)) none)
 

@@ -51,6 +51,15 @@ leads-nowhere : (barred : Bool) (f : Frame) → frame_of (pte_of barred) ≡ Som
 leads-nowhere true f is = none-some f is
 leads-nowhere false f is = none-some f is
 
+-- Before the first translation is written, none is.
+pub none-done : (slots : set.FinSet nat_cmp) (n : Option VSlot) → IsNextFrom slots 0 n → (u : ℕ) → set.contains slots u ≡ true → is_done n u ≡ false
+none-done slots None none u some = absurd (both_ways (set.contains slots u) (none u (omega arith)) some)
+none-done slots (Some v) low u some = le-ltb u v.0 (first (cases_lt u v.0))
+  where
+    first : (u < v.0) ⊎ (v.0 ≤ u) → v.0 ≤ u
+    first (inl less) = absurd (both_ways (set.contains slots u) (low.1.lowest u (omega arith) less) some)
+    first (inr past) = past
+
 -- Once a translation is written and the next one comes, it is written, and of the others it is as before whether they are.
 module _ (slots : set.FinSet nat_cmp) (slot : VSlot) where
   pub done-behind : (n : Option VSlot) → IsNextFrom slots (slot.0 + 1) n → is_done n slot.0 ≡ true

@@ -1,6 +1,5 @@
 -- A page that is swapped out: its translations are written, and then it leaves its frame.
-use Rattle.std.proofs.Common.{◌≡◌, ◌⊎◌, inl, inr, ℕ, ◌+◌, ◌-◌, ◌<◌, ◌≤◌, Bool, true, false, cond, List, [], ◌∷◌, Option, Some, None, length, drop, slice_get, refl, sym, ap, ◌∙◌, subst, arith}
-use Rattle.std.proofs.lemmas.Bool.{both_ways, cases_lt, le-ltb}
+use Rattle.std.proofs.Common.{◌≡◌, ℕ, ◌+◌, ◌-◌, ◌<◌, ◌≤◌, Bool, true, false, cond, List, [], ◌∷◌, Option, Some, None, length, drop, slice_get, refl, sym, ap, ◌∙◌, subst, arith}
 use Rattle.std.proofs.lemmas.Option.{none-some, same_Some}
 use Rattle.std.specs.FinSet as set
 use Rattle.std.specs.List.{find}
@@ -49,7 +48,7 @@ use Rattle.hwp_evict.specs.Evicts.{FitsAt, HasEntry, IsAhead, IsClearingOut, IsC
 use Rattle.hwp_evict.specs.Vacates as vacates
 use Rattle.hwp_evict.specs.Vacates.{page_held, with_frame}
 use Rattle.hwp_evict.proofs.ClearLaws as clearing
-use Rattle.hwp_evict.proofs.ClearLaws.{IsSameClear, same-clear}
+use Rattle.hwp_evict.proofs.ClearLaws.{IsSameClear, none-done, same-clear}
 use Rattle.hwp_evict.proofs.EntryHome.{body-page, extends, kills-none, one-more, state-after, words}
 use Rattle.hwp_evict.proofs.TranslationWrites.{declared-of}
 use Rattle.hwp_evict.proofs.PageStates.{replay-apart, replay-own, state-is}
@@ -165,14 +164,6 @@ module _ {layout : Layout} {view : View} {who : Who} {page : Page} {log : Log} {
 -- ---- the first of them
 
 module _ {layout : Layout} {view : View} {who : Who} {page : Page} (on : IsOnTurn view who) (inside : page.0 < length layout.pages) (sound : IsSound layout) (frame : Frame) (body : BodyValue) (has : HoldsPage layout view page (Some frame) body) (now : BodyValue) (entry : HasEntry layout who page evictions.Out (log_of body) (place page body) now) where
-  none-done : (n : Option VSlot) → IsNextFrom body.state.maps 0 n → (slot : ℕ) → set.contains body.state.maps slot ≡ true → is_done n slot ≡ false
-  none-done None none slot some = absurd (both_ways (set.contains body.state.maps slot) (none slot (omega arith)) some)
-  none-done (Some v) low slot some = le-ltb slot v.0 (first (cases_lt slot v.0))
-    where
-      first : (slot < v.0) ⊎ (v.0 ≤ slot) → v.0 ≤ slot
-      first (inl less) = absurd (both_ways (set.contains body.state.maps slot) (low.1.lowest slot (omega arith) less) some)
-      first (inr past) = past
-
   maps-are : body.state.maps ≡ (state_of layout (log_of body)).maps
   maps-are = ap (λ (s : PageState). s.maps) (sym (state-is has.body_is))
 
@@ -196,7 +187,7 @@ module _ {layout : Layout} {view : View} {who : Who} {page : Page} (on : IsOnTur
     where
       same : (slot : ℕ) (b : Bool) → set.contains (state_of layout (log_of body)).maps slot ≡ b → fitting_word (state_of layout (log_of body)) (frame.0 + 1) slot ≡ word_now (state_of layout (log_of body)) false frame next slot
       same slot true some = ap (λ (d : Bool). cond (set.contains (state_of layout (log_of body)).maps slot) (cond d 0 (frame.0 + 1)) (cond (set.contains (state_of layout (log_of body)).bar slot) (pte_word ptes.Poison) 0))
-          (sym (none-done next lowest slot (ap (λ m. set.contains m slot) maps-are ∙ some)))
+          (sym (none-done body.state.maps next lowest slot (ap (λ m. set.contains m slot) maps-are ∙ some)))
       same slot false none = ap (λ (b : Bool). cond b (frame.0 + 1) (cond (set.contains (state_of layout (log_of body)).bar slot) (pte_word ptes.Poison) 0)) none
           ∙ sym (ap (λ (b : Bool). cond b (cond (is_done next slot) 0 (frame.0 + 1)) (cond (set.contains (state_of layout (log_of body)).bar slot) (pte_word ptes.Poison) 0)) none)
 

@@ -1,6 +1,6 @@
 -- The laws of `Relocate`.
-use Rattle.std.proofs.Common.{◌≡◌, ◌≢◌, ◌⊎◌, inl, inr, ℕ, ◌+◌, ◌-◌, ◌^◌, ◌<◌, ◌≤◌, ◌==◌, Bool, true, false, cond, List, [], ◌∷◌, ◌++◌, Option, Some, None, is_none, length, slice_get, refl, sym, ap, ◌∙◌, subst, arith}
-use Rattle.std.proofs.lemmas.Bool.{both_ways, cases_lt, le-ltb, ne_eqb}
+use Rattle.std.proofs.Common.{◌≡◌, ◌≢◌, inl, inr, ℕ, ◌+◌, ◌-◌, ◌^◌, ◌<◌, ◌≤◌, ◌==◌, Bool, true, false, cond, List, [], ◌∷◌, ◌++◌, Option, Some, None, is_none, length, slice_get, refl, sym, ap, ◌∙◌, subst, arith}
+use Rattle.std.proofs.lemmas.Bool.{both_ways, ne_eqb}
 use Rattle.std.proofs.lemmas.Option.{none-some, same_Some}
 use Rattle.std.specs.FinSet as set
 use Rattle.std.specs.List.{find}
@@ -69,6 +69,7 @@ use Rattle.hwp_soft_move.proofs.RelocateSteps.{ahead-on, cache-set, carry-on, co
 use Rattle.hwp_soft_move.proofs.RemapLaws as remapping
 use Rattle.hwp_soft_move.proofs.RemapLaws.{lock-one, lock-two, refs-from, refs-to}
 use Rattle.hwp_soft_move.proofs.SoftEntry.{body-page, goes-home, words-fit}
+use Rattle.hwp_evict.proofs.ClearLaws.{none-done}
 
 -- ---- the steps can be made
 
@@ -222,14 +223,6 @@ module _ {layout : Layout} {view : View} (t : Transfer) (maps : set.FinSet nat_c
       which (Some slot) fit = record { remap = fit; own = own; page_is = page_is; from_is = from_is; to_is = to_is; count_is = count_is; slots_are = slots_are; taken = taken; bodies_are = bodies; carries = carries; under_way = refl }
 
   -- the first of them
-  none-done : (n : Option VSlot) → IsNextFrom maps 0 n → (slot : ℕ) → set.contains maps slot ≡ true → is_done n slot ≡ false
-  none-done None none slot used = absurd (both_ways (set.contains maps slot) (none slot (omega arith)) used)
-  none-done (Some v) low slot used = le-ltb slot v.0 (first (cases_lt slot v.0))
-    where
-      first : (slot < v.0) ⊎ (v.0 ≤ slot) → v.0 ≤ slot
-      first (inl less) = absurd (both_ways (set.contains maps slot) (low.1.lowest slot (omega arith) less) used)
-      first (inr past) = past
-
   abbrev first-refs : List ℕ → InHand → Hand
   first-refs trans taken = with_both t.from (t.page.0 + 1) 1 t.to (t.page.0 + 1) t.count (page_held t.page (Some t.from) trans taken)
 
@@ -258,7 +251,7 @@ module _ {layout : Layout} {view : View} (t : Transfer) (maps : set.FinSet nat_c
 
       same : (slot : ℕ) (b : Bool) → set.contains (state_of layout carries.log).maps slot ≡ b → fitting_word (state_of layout carries.log) (t.from.0 + 1) slot ≡ word_now (state_of layout carries.log) t.from t.to next slot
       same slot true used = ap (λ (d : Bool). cond (set.contains (state_of layout carries.log).maps slot) (cond d (t.to.0 + 1) (t.from.0 + 1)) (cond (set.contains (state_of layout carries.log).bar slot) (pte_word ptes.Poison) 0))
-          (sym (none-done next lowest slot (ap (λ m. set.contains m slot) carries.maps_are ∙ used)))
+          (sym (none-done maps next lowest slot (ap (λ m. set.contains m slot) carries.maps_are ∙ used)))
       same slot false none = ap (λ (b : Bool). cond b (t.from.0 + 1) (cond (set.contains (state_of layout carries.log).bar slot) (pte_word ptes.Poison) 0)) none
           ∙ sym (ap (λ (b : Bool). cond b (cond (is_done next slot) (t.to.0 + 1) (t.from.0 + 1)) (cond (set.contains (state_of layout carries.log).bar slot) (pte_word ptes.Poison) 0)) none)
 
