@@ -78,17 +78,21 @@ lossless layout page (e ∷ es) none =
     ∙ ap (λ (l : List FileNo). l ++ losses_made layout page es) (none-made (file_of layout page))
     ∙ lossless layout page es (λ i x at. none (suc i) x at)
 
-listed-none : (layout : Layout) (who : Who) (old : View) (body : InHand) (log : Log) → body_of log.page old ≡ Some body → EachMember (λ (e : Entry). is_loss e.what ≡ false) (more_of body log) → (listed layout who log (noted who old)).owed.losses ≡ old.owed.losses
+-- of a body that stays in hand
+pub listed-none : (layout : Layout) (who : Who) (old : View) (body : InHand) (log : Log) → body_of log.page old ≡ Some body → EachMember (λ (e : Entry). is_loss e.what ≡ false) (more_of body log) → (listed layout who log (noted who old)).owed.losses ≡ old.owed.losses
 listed-none layout who old body log there none =
     ap (λ (b : Option InHand). (listed_of layout who log b (noted who old)).owed.losses) there ∙ ap (λ (l : List FileNo). old.owed.losses ++ l) (lossless layout log.page (more_of body log) none) ∙ append-nil old.owed.losses
 
 module _ {layout : Layout} {who : Who} {old new : View} {found : ℕ} {got : Option BodyValue} where
+  pub losses-kept : {step : Step} {put : Option Log} → Steps layout who step put old new found got → PutsNone step → new.owed.losses ≡ old.owed.losses
+  losses-kept {step} {put} made none = ap (λ (v : View). v.owed.losses) made.told.next ∙ by-none layout who step found (content_of layout who step put found got) (noted who old) none
+
   same-by : (step : Step) → ListsNone step → Steps layout who step None old new found got → new.owed.losses ≡ old.owed.losses
   same-by (steps.UnlockFrame frame) lists made = ap (λ (v : View). v.owed.losses) made.told.next
   same-by (steps.UnlockPage page) lists made = ap (λ (v : View). v.owed.losses) made.told.next
   same-by (steps.Kill process page body) lists made = absurd lists
   same-by (steps.Lose file body) lists made = absurd lists
-  same-by step lists made = ap (λ (v : View). v.owed.losses) made.told.next ∙ by-none layout who step found (content_of layout who step None found got) (noted who old) tt
+  same-by step lists made = losses-kept made tt
 
   pub losses-same : {step : Step} → ListsNone step → Steps layout who step None old new found got → new.owed.losses ≡ old.owed.losses
   losses-same {step} lists made = same-by step lists made

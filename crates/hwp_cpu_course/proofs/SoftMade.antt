@@ -14,26 +14,21 @@ use Rattle.hwp_cpu_row.specs.hwp_page.declared.Entry.{Entry}
 use Rattle.hwp_cpu_row.specs.hwp_page.declared.What.TheVariants as entries
 use Rattle.hwp_cpu_row.specs.hwp_page.History.{BodyValue}
 use Rattle.hwp_cpu_row.specs.hwp_page.Losses.{is_loss}
-use Rattle.hwp_cpu_row.specs.hwp_core_rule.declared.Debts.{Debts}
 use Rattle.hwp_cpu_row.specs.hwp_core_rule.declared.InHand.{InHand}
 use Rattle.hwp_cpu_row.specs.hwp_core_rule.declared.Log.{Log}
 use Rattle.hwp_cpu_row.specs.hwp_core_rule.declared.Made.{Made}
-use Rattle.hwp_cpu_row.specs.hwp_core_rule.declared.SharedWord.{SharedWord}
-use Rattle.hwp_cpu_row.specs.hwp_core_rule.declared.SharedWord.TheVariants as places
 use Rattle.hwp_cpu_row.specs.hwp_core_rule.declared.Stamp.{Stamp}
 use Rattle.hwp_cpu_row.specs.hwp_core_rule.declared.Step.{Step}
 use Rattle.hwp_cpu_row.specs.hwp_core_rule.declared.Step.TheVariants as steps
 use Rattle.hwp_cpu_row.specs.hwp_core_rule.declared.View.{View}
 use Rattle.hwp_cpu_row.specs.hwp_core_rule.Lists.{EachMember}
-use Rattle.hwp_cpu_row.specs.hwp_core_rule.Logs.{file_of, log_of}
-use Rattle.hwp_cpu_row.specs.hwp_core_rule.Steps.{goes}
-use Rattle.hwp_cpu_row.specs.hwp_core_rule.Views.{body_of, listed, listed_of, loaded, loss_made, losses_made, made_from, more_of, noted, owing_count, paying_count, stamp_of, taken, view_by, without}
+use Rattle.hwp_cpu_row.specs.hwp_core_rule.Logs.{log_of}
+use Rattle.hwp_cpu_row.specs.hwp_core_rule.Views.{made_from, more_of, without}
 use Rattle.hwp_cpu_row.proofs.of_hwp_core_rule.Lists.{each-push, same-number}
 use Rattle.hwp_cpu_row.specs.hwp_core_task.Calls.{CanMake, Steps, logs}
 use Rattle.hwp_cpu_row.specs.hwp_core_task.Known.{HasMadeBeside, HasMadeNoneBeside, deeds, is_by}
-use Rattle.hwp_cpu_row.proofs.of_hwp_core_task.MadeEntries.{Lists, PutsNone, frame-lists, kill-lists, loss-lists, page-lists}
-use Rattle.hwp_cpu_row.proofs.of_hwp_core_task.OwedLosses.{frame-owes, losses-same, page-owes}
-use Rattle.hwp_cpu_row.proofs.of_hwp_core_task.StepLeaves.{content_of}
+use Rattle.hwp_cpu_row.proofs.of_hwp_core_task.MadeEntries.{Lists, frame-lists, kill-lists, loss-lists, page-lists}
+use Rattle.hwp_cpu_row.proofs.of_hwp_core_task.OwedLosses.{frame-owes, kill-owes, listed-none, losses-kept, losses-same, page-owes}
 use Rattle.hwp_cpu_command_laws.specs.hwp_cpu_command.hwp_cpu_access.Fits.{checks_in, checks_made}
 use Rattle.hwp_cpu_command_laws.proofs.of_hwp_cpu_command.of_hwp_cpu_access.CommandGrows.{More, made-more}
 use Rattle.hwp_cpu_command_laws.specs.hwp_cpu_command.hwp_law_commands.Commands.{is_check}
@@ -183,63 +178,6 @@ soft-grows {base} {layout} {who} {old} {new} {step} before after made = (more, g
     same : after.more ≡ before.more ++ more
     same = append_cancel_left base after.more (before.more ++ more) (sym after.all ∙ grown ∙ ap (λ (l : List Made). l ++ more) before.all ∙ append_assoc base before.more more)
 
-none-made : (file : Option FileNo) → loss_made file false ≡ []
-none-made None = refl
-none-made (Some file) = refl
-
-lossless : (layout : Layout) (page : Page) (list : List Entry) → EachMember (λ (e : Entry). is_loss e.what ≡ false) list → losses_made layout page list ≡ []
-lossless layout page [] none = refl
-lossless layout page (e ∷ es) none =
-    ap (λ (b : Bool). loss_made (file_of layout page) b ++ losses_made layout page es) (none 0 e refl)
-    ∙ ap (λ (l : List FileNo). l ++ losses_made layout page es) (none-made (file_of layout page))
-    ∙ lossless layout page es (λ i x at. none (suc i) x at)
-
--- a step that lists no entry owes none more
-either : (b : Bool) (x y : View) (l : List FileNo) → x.owed.losses ≡ l → y.owed.losses ≡ l → (cond b x y).owed.losses ≡ l
-either true x y l e f = e
-either false x y l e f = f
-
-owing : (hardware : Bool) (owed : Debts) → (owing_count hardware owed).losses ≡ owed.losses
-owing true owed = refl
-owing false owed = refl
-
-paying : (hardware : Bool) (owed : Debts) → (paying_count hardware owed).losses ≡ owed.losses
-paying true owed = refl
-paying false owed = refl
-
-loads-none : (who : Who) (place : SharedWord) (found : ℕ) (v : View) → (loaded who place found v).owed.losses ≡ v.owed.losses
-loads-none who (places.Cache page) found v = refl
-loads-none who _ found v = refl
-
-takes-none : (layout : Layout) (who : Who) (frame : Option Frame) (content : Option Log) (v : View) → (taken layout who frame content v).owed.losses ≡ v.owed.losses
-takes-none layout who frame None v = refl
-takes-none layout who frame (Some log) v = refl
-
-by-none : (layout : Layout) (who : Who) (step : Step) (found : ℕ) (content : Option Log) (v : View) → PutsNone step → (view_by layout who step found content v).owed.losses ≡ v.owed.losses
-by-none layout who (steps.Load place) found content v none = loads-none who place found v
-by-none layout who (steps.Reserve seen) found content v none = either (found == seen) _ _ v.owed.losses refl refl
-by-none layout who (steps.TakeBit frame) found content v none = either (goes (steps.TakeBit frame) found) _ _ v.owed.losses refl refl
-by-none layout who (steps.GetRef frame seen count) found content v none = either (found == seen) _ _ v.owed.losses refl refl
-by-none layout who (steps.LockFrame frame) found content v none = either (goes (steps.LockFrame frame) found) _ _ v.owed.losses (takes-none layout who (Some frame) content _) refl
-by-none layout who (steps.UnlockFrame frame) found content v none = absurd none
-by-none layout who (steps.Revive frame seen) found content v none = either (found == seen) _ _ v.owed.losses refl refl
-by-none layout who (steps.LockPage page) found content v none = either (goes (steps.LockPage page) found) _ _ v.owed.losses (takes-none layout who None content _) refl
-by-none layout who (steps.UnlockPage page) found content v none = absurd none
-by-none layout who (steps.Poison frame hardware) found content v none = either (goes (steps.Poison frame hardware) found) _ _ v.owed.losses (owing hardware v.owed) refl
-by-none layout who (steps.CountPoison hardware) found content v none = paying hardware v.owed
-by-none layout who (steps.Stop cpu) found content v none = either (found == 0) _ _ v.owed.losses refl refl
-by-none layout who (steps.Kill process page body) found content v none = absurd none
-by-none layout who (steps.Lose file body) found content v none = absurd none
-by-none layout who _ found content v none = refl
-
--- what is listed of a body that stays in hand
-listed-pays : {base : List Made} (layout : Layout) {who : Who} {old new : View} (body : InHand) (log : Log) → HasLeft base old who → HasLeft base new who → body_of log.page old ≡ Some body → EachMember (λ (e : Entry). e.who ≡ who) (more_of body log) → Lists old new (stamp_of who old) body log
-    → (listed layout who log (noted who old)).owed.losses ≡ old.owed.losses
-listed-pays layout {who} {old} body log before after there own lists =
-    ap (λ (b : Option InHand). (listed_of layout who log b (noted who old)).owed.losses) there
-    ∙ ap (λ (l : List FileNo). old.owed.losses ++ l) (lossless layout log.page (more_of body log) (unlost who _ _ _ _ (more_of body log) own (listed-left before after lists)))
-    ∙ append-nil old.owed.losses
-
 module _ {base : List Made} {layout : Layout} {who : Who} {old new : View} {found : ℕ} {got : Option BodyValue} (before : HasLeft base old who) (after : HasLeft base new who) where
   frame-pays : (frame : Frame) (body : Option BodyValue) → CanMake layout who (steps.UnlockFrame frame) body old → Steps layout who (steps.UnlockFrame frame) (logs body) old new found got → new.owed.losses ≡ old.owed.losses
   frame-pays frame None can made = losses-same tt made
@@ -253,12 +191,16 @@ module _ {base : List Made} {layout : Layout} {who : Who} {old new : View} {foun
   by-step (steps.UnlockFrame frame) body can made paid = frame-pays frame body can made ∙ paid
   by-step (steps.UnlockPage page) body can made paid = page-pays page body can made ∙ paid
   by-step (steps.Kill process page body) put can made paid =
-      let kept = listed-pays layout can.asks.kind.page_held.body (log_of body.value) before after can.asks.kind.page_held.body_is can.asks.kind.extends.own (kill-lists can.asks.kind.page_held.body_is made) ∙ paid in
-      ap (λ (v : View). v.owed.losses) made.told.next ∙ either (found == 0) _ _ [] kept kept
+      kill-owes can.asks.kind.page_held.body_is
+      (unlost who _ _ _ _ (more_of can.asks.kind.page_held.body (log_of body.value)) can.asks.kind.extends.own (listed-left before after (kill-lists can.asks.kind.page_held.body_is made))) made
+      ∙ paid
   by-step (steps.Lose file body) put can made paid =
       ap (λ (v : View). v.owed.losses) made.told.next
-      ∙ ap (without (λ (n : FileNo). n.0 == file.0)) (listed-pays layout can.asks.kind.page_held.body (log_of body.value) before after can.asks.kind.page_held.body_is can.asks.kind.extends.own (loss-lists can.asks.kind.page_held.body_is made) ∙ paid)
-  by-step step body can made paid = ap (λ (v : View). v.owed.losses) made.told.next ∙ by-none layout who step found (content_of layout who step (logs body) found got) (noted who old) tt ∙ paid
+      ∙ ap (without (λ (n : FileNo). n.0 == file.0))
+      (listed-none layout who old can.asks.kind.page_held.body (log_of body.value) can.asks.kind.page_held.body_is
+      (unlost who _ _ _ _ (more_of can.asks.kind.page_held.body (log_of body.value)) can.asks.kind.extends.own (listed-left before after (loss-lists can.asks.kind.page_held.body_is made)))
+      ∙ paid)
+  by-step step body can made paid = losses-kept made tt ∙ paid
 
 -- THE COMMAND OWES NO LOSS MORE
 pub soft-pays : {base : List Made} {layout : Layout} {who : Who} {old new : View} {step : Step} {body : Option BodyValue} {found : ℕ} {got : Option BodyValue} → HasLeft base old who → HasLeft base new who → CanMake layout who step body old → Steps layout who step (logs body) old new found got
