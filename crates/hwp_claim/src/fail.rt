@@ -78,13 +78,6 @@ impl Fail {
         }
     }
 
-    /// Whether a bank of the processor reported it.
-    pub fn hardware(&self) -> bool
-        ensures { result ≡ self.now.hardware }
-    {
-        self.hardware
-    }
-
     /// What it came to; `None` until it is over, and where it gave up.
     pub fn answer(&self) -> Option<FailAnswer>
         ensures { result ≡ answer self.now }

@@ -1,5 +1,5 @@
 ghost use Rattle.std.specs.Prelude.{◌≡◌, IfOk};
-ghost use Rattle.hwp_geom.specs.Layout.{has_guests, has_twin, is_guest, is_locked, is_slot, is_twin, twin_of};
+ghost use Rattle.hwp_geom.specs.Layout.{has_guests, is_guest, is_locked, twin_of};
 ghost use Rattle.hwp_geom.specs.Limits.{cpu_limit, frame_limit, file_limit, process_limit, thread_limit, page_limit, translation_limit, command_limit};
 
 use crate::OutOfMemory;
@@ -140,32 +140,5 @@ impl Layout {
             Some(twin) => *twin,
             None => None,
         }
-    }
-
-    /// Whether a translation has a twin.
-    pub fn has_twin(&self, slot: VSlot) -> bool
-        ensures { result ≡ has_twin self.now slot }
-    {
-        self.twin_of(slot).is_some()
-    }
-
-    /// Whether a translation is the twin of another.
-    pub fn is_twin(&self, slot: VSlot) -> bool
-        ensures { result ≡ is_twin self.now slot }
-    {
-        self.twins
-            .as_slice()
-            .iter()
-            .any(|twin| is_slot(slot, *twin))
-    }
-}
-
-/// Whether it is this translation that is here.
-fn is_slot(slot: VSlot, other: Option<VSlot>) -> bool
-    ensures { result ≡ is_slot slot other }
-{
-    match other {
-        Some(other) => other.0 == slot.0,
-        None => false,
     }
 }
