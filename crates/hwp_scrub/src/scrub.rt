@@ -124,7 +124,7 @@ impl Scrub {
         }
     }
 
-    /// Where it stands in the caller, which knows the state that was there, nothing of that is read out.
+    /// Inline, because its caller knows which state was there: on its own it would read out all of that state to let it go.
     #[inline(always)]
     fn set(&mut self, at: ScrubAt)
         ensures { self.new ≡ record self.old { at = at } }
