@@ -14,7 +14,7 @@ use Rattle.std.proofs.lemmas.Option.{same_Some, slice_get_within, none-some}
 use Rattle.hwp_cpu_course.proofs.of_hwp_cpu_command.OfKind.{of-copying, of-fork, of-fsync, of-raise, of-spoil, of-prctl, of-unpoison, of-scrub, of-nested, of-instruction, of-log, of-soft, of-inject, of-evict}
 use Rattle.hwp_cpu_course.specs.hwp_cpu_row.hwp_geom.declared.Layout.{Layout}
 use Rattle.hwp_cpu_course.specs.hwp_cpu_command.Stays.{IsAtStop}
-use Rattle.hwp_cpu_course.specs.hwp_cpu_command.hwp_cpu_raise.declared.Log.{Log}
+use Rattle.hwp_cpu_course.specs.hwp_cpu_command.hwp_scrub.declared.Log.{Log}
 use Rattle.hwp_cpu_course.specs.Courses.{begin, IsOfMachine}
 use Rattle.hwp_cpu_causes.specs.hwp_law_served.Offlinings.{KnowsDue, left_among, watched_at, AreDue, watched_along}
 use Rattle.hwp_cpu.specs.Serving.{noting, HasToldAll, OwnGoesOn, KeepsWatch, left_so_far}
@@ -24,7 +24,7 @@ use Rattle.std.proofs.lemmas.List.{take-append-le, take_all, length-append, leng
 use Rattle.hwp_cpu_course.specs.hwp_cpu_row.hwp_law_commands.Watched.{told, due, Watched, watched_after}
 use Rattle.hwp_cpu_causes.specs.hwp_law_served.hwp_banks.declared.Event.{Event}
 use Rattle.hwp_cpu_course.specs.hwp_cpu_row.hwp_cec.Counters.{StandsFor, begun, next_row, rounded}
-use Rattle.hwp_cpu_course.specs.hwp_cpu_command.hwp_cpu_raise.declared.LocalChange.{LocalChange}
+use Rattle.hwp_cpu_course.specs.hwp_cpu_command.hwp_scrub.declared.LocalChange.{LocalChange}
 use Rattle.hwp_cpu_course.specs.hwp_cpu_row.hwp_core_rule.declared.View.{View}
 use Rattle.hwp_cpu_course.proofs.of_hwp_cpu_command_laws.CommandStops.{untold-at-start}
 use Rattle.hwp_cpu_course.specs.hwp_cpu_row.hwp_geom.declared.Frame.{Frame}
@@ -45,7 +45,7 @@ use Rattle.hwp_cpu_course.specs.hwp_cpu_command.Jobs as jobs
 use Rattle.hwp_cpu_course.specs.hwp_cpu_row.hwp_script_lines.declared.Command.TheVariants as commands
 use Rattle.hwp_cpu_course.specs.hwp_cpu_command.declared.job.Job.TheVariants as kinds
 use Rattle.hwp_cpu_course.specs.hwp_cpu_row.hwp_report_text.declared.Answer.TheVariants as answers
-use Rattle.hwp_cpu_course.specs.hwp_cpu_command.hwp_cpu_raise.declared.LocalChange.TheVariants as changes
+use Rattle.hwp_cpu_course.specs.hwp_cpu_command.hwp_scrub.declared.LocalChange.TheVariants as changes
 use Rattle.hwp_cpu_causes.proofs.DeniedCauses.{access-by, runs-kind}
 
 -- ---- the rows

@@ -4,7 +4,6 @@ pub use Rattle.hwp_cpu_course.specs.hwp_cpu_command.hwp_cpu_access as hwp_cpu_ac
 pub use Rattle.hwp_cpu_course.specs.hwp_cpu_command as hwp_cpu_command
 pub use Rattle.hwp_cpu_course.specs.hwp_cpu_command.hwp_cpu_control as hwp_cpu_control
 pub use Rattle.hwp_cpu_course.specs as hwp_cpu_course
-pub use Rattle.hwp_cpu_course.specs.hwp_cpu_command.hwp_cpu_raise as hwp_cpu_raise
 pub use Rattle.hwp_cpu_course.specs.hwp_cpu_command.hwp_fault as hwp_fault
 pub use Rattle.hwp_cpu_causes.specs.hwp_law as hwp_law
 pub use Rattle.hwp_cpu_causes.specs.hwp_law_served as hwp_law_served

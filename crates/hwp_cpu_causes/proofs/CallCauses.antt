@@ -58,10 +58,10 @@ use Rattle.hwp_law_served.specs.hwp_evict.declared.FsyncAnswer.TheVariants as fs
 use Rattle.hwp_law_served.specs.hwp_evict.declared.fsync.FsyncAt.TheVariants as fsync_at
 use Rattle.hwp_law_served.specs.hwp_evict.Fsyncs as fsyncs
 use Rattle.hwp_law_served.specs.hwp_cpu_check.declared.EventOutcome.{EventOutcome}
-use Rattle.hwp_cpu_command.specs.hwp_cpu_raise.declared.LocalChange.{LocalChange}
-use Rattle.hwp_cpu_command.specs.hwp_cpu_raise.declared.LocalChange.TheVariants as changes
-use Rattle.hwp_cpu_command.specs.hwp_cpu_raise.declared.Log.{Log}
-use Rattle.hwp_cpu_command.specs.hwp_cpu_raise.Logs as logs
+use Rattle.hwp_cpu_command.specs.hwp_scrub.declared.LocalChange.{LocalChange}
+use Rattle.hwp_cpu_command.specs.hwp_scrub.declared.LocalChange.TheVariants as changes
+use Rattle.hwp_cpu_command.specs.hwp_scrub.declared.Log.{Log}
+use Rattle.hwp_cpu_command.specs.hwp_scrub.Logs as logs
 use Rattle.hwp_law_served.specs.hwp_cpu_row.declared.FrameChange.{FrameChange}
 use Rattle.hwp_cpu_command.specs.declared.Job.{Job}
 use Rattle.hwp_cpu_command.specs.declared.Job.TheVariants as jobs

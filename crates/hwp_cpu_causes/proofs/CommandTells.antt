@@ -15,10 +15,10 @@ use Rattle.hwp_law_served.specs.hwp_banks.Banks.{raw_event}
 use Rattle.hwp_law_served.specs.hwp_cpu_check.Told.{halts}
 use Rattle.hwp_cpu_command.specs.hwp_cpu_control.declared.ReadStopAnswer.{ReadStopAnswer}
 use Rattle.hwp_cpu_command.specs.hwp_cpu_control.declared.ReadStopAnswer.TheVariants as read_answers
-use Rattle.hwp_cpu_command.specs.hwp_cpu_raise.declared.LocalChange.{LocalChange}
-use Rattle.hwp_cpu_command.specs.hwp_cpu_raise.declared.LocalChange.TheVariants as changes
-use Rattle.hwp_cpu_command.specs.hwp_cpu_raise.declared.Log.{Log}
-use Rattle.hwp_cpu_command.specs.hwp_cpu_raise.Logs as logs
+use Rattle.hwp_cpu_command.specs.hwp_scrub.declared.LocalChange.{LocalChange}
+use Rattle.hwp_cpu_command.specs.hwp_scrub.declared.LocalChange.TheVariants as changes
+use Rattle.hwp_cpu_command.specs.hwp_scrub.declared.Log.{Log}
+use Rattle.hwp_cpu_command.specs.hwp_scrub.Logs as logs
 use Rattle.hwp_cpu_command.specs.declared.Job.{Job}
 use Rattle.hwp_cpu_command.specs.declared.Job.TheVariants as jobs
 use Rattle.hwp_cpu_command.specs.Answers.{read_stop_answer}

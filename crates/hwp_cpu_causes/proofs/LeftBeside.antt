@@ -45,11 +45,11 @@ use Rattle.hwp_cpu_command.specs.hwp_cpu_access.Fits.{HasOnlyBefore, IsEnd, IsLe
 use Rattle.hwp_cpu_command.specs.hwp_cpu_access.Fits as instruction_fits
 use Rattle.hwp_cpu_command.specs.hwp_cpu_access.Instructions as instructions
 use Rattle.hwp_cpu_command.proofs.of_hwp_cpu_access.InstructionLaws.{paused}
-use Rattle.hwp_cpu_command.specs.hwp_cpu_raise.declared.Raise.{Raise}
-use Rattle.hwp_cpu_command.specs.hwp_cpu_raise.declared.RaiseAnswer.{RaiseAnswer}
-use Rattle.hwp_cpu_command.specs.hwp_cpu_raise.declared.RaiseAnswer.TheVariants as raise_answers
-use Rattle.hwp_cpu_command.specs.hwp_cpu_raise.Fits as raise_fits
-use Rattle.hwp_cpu_command.specs.hwp_cpu_raise.Raises as raises
+use Rattle.hwp_cpu_command.specs.hwp_scrub.declared.Raise.{Raise}
+use Rattle.hwp_cpu_command.specs.hwp_scrub.declared.RaiseAnswer.{RaiseAnswer}
+use Rattle.hwp_cpu_command.specs.hwp_scrub.declared.RaiseAnswer.TheVariants as raise_answers
+use Rattle.hwp_cpu_command.specs.hwp_scrub.RaiseFits as raise_fits
+use Rattle.hwp_cpu_command.specs.hwp_scrub.Raises as raises
 use Rattle.hwp_law_served.specs.hwp_scrub.declared.Scrub.{Scrub}
 use Rattle.hwp_law_served.specs.hwp_scrub.declared.ScrubAnswer.{ScrubAnswer}
 use Rattle.hwp_law_served.specs.hwp_scrub.declared.ScrubAnswer.TheVariants as scrub_answers

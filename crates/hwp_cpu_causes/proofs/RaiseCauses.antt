@@ -17,13 +17,13 @@ use Rattle.hwp_law_served.specs.hwp_law_commands.Commands.{can_fail, process_of_
 use Rattle.hwp_law_served.specs.hwp_cpu_check.declared.EventOutcome.{EventOutcome}
 use Rattle.hwp_law_served.specs.hwp_cpu_check.Checks.{IsActedOn}
 use Rattle.hwp_law_served.specs.hwp_cpu_check.Told.{halts}
-use Rattle.hwp_cpu_command.specs.hwp_cpu_raise.declared.Raise.{Raise}
-use Rattle.hwp_cpu_command.specs.hwp_cpu_raise.declared.RaiseAnswer.{RaiseAnswer}
-use Rattle.hwp_cpu_command.specs.hwp_cpu_raise.declared.RaiseAnswer.TheVariants as answers
-use Rattle.hwp_cpu_command.specs.hwp_cpu_raise.declared.Raiser.{Raiser}
-use Rattle.hwp_cpu_command.specs.hwp_cpu_raise.Fits.{GoesOn, HasOnlyFailed, IsEnd, IsGone}
-use Rattle.hwp_cpu_command.specs.hwp_cpu_raise.Raises.{how_of, mode_of, thread_of}
-use Rattle.hwp_cpu_command.specs.hwp_cpu_raise.Raises as raises
+use Rattle.hwp_cpu_command.specs.hwp_scrub.declared.Raise.{Raise}
+use Rattle.hwp_cpu_command.specs.hwp_scrub.declared.RaiseAnswer.{RaiseAnswer}
+use Rattle.hwp_cpu_command.specs.hwp_scrub.declared.RaiseAnswer.TheVariants as answers
+use Rattle.hwp_cpu_command.specs.hwp_scrub.declared.Raiser.{Raiser}
+use Rattle.hwp_cpu_command.specs.hwp_scrub.RaiseFits.{GoesOn, HasOnlyFailed, IsEnd, IsGone}
+use Rattle.hwp_cpu_command.specs.hwp_scrub.Raises.{how_of, mode_of, thread_of}
+use Rattle.hwp_cpu_command.specs.hwp_scrub.Raises as raises
 use Rattle.hwp_law_served.specs.hwp_cpu_row.declared.FrameChange.{FrameChange}
 use Rattle.hwp_cpu_command.specs.declared.Job.{Job}
 use Rattle.hwp_cpu_command.specs.declared.Job.TheVariants as jobs

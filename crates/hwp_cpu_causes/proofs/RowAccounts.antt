@@ -47,12 +47,12 @@ use Rattle.hwp_law_served.specs.hwp_cpu_check.Done.{failed_in, marked_in}
 use Rattle.hwp_cpu_command.specs.hwp_cpu_access.declared.instruction.InstructionAt.{InstructionAt}
 use Rattle.hwp_cpu_command.specs.hwp_cpu_access.declared.instruction.InstructionAt.TheVariants as instruction_at
 use Rattle.hwp_cpu_command.specs.hwp_cpu_access.Done as instruction_done
-use Rattle.hwp_cpu_command.specs.hwp_cpu_raise.declared.Raise.{Raise}
-use Rattle.hwp_cpu_command.specs.hwp_cpu_raise.declared.Raiser.{Raiser}
-use Rattle.hwp_cpu_command.specs.hwp_cpu_raise.declared.raise.RaiseAt.{RaiseAt}
-use Rattle.hwp_cpu_command.specs.hwp_cpu_raise.declared.raise.RaiseAt.TheVariants as raise_at
-use Rattle.hwp_cpu_command.specs.hwp_cpu_raise.Done as raise_done
-use Rattle.hwp_cpu_command.specs.hwp_cpu_raise.Raises.{thread_of}
+use Rattle.hwp_cpu_command.specs.hwp_scrub.declared.Raise.{Raise}
+use Rattle.hwp_cpu_command.specs.hwp_scrub.declared.Raiser.{Raiser}
+use Rattle.hwp_cpu_command.specs.hwp_scrub.declared.raise.RaiseAt.{RaiseAt}
+use Rattle.hwp_cpu_command.specs.hwp_scrub.declared.raise.RaiseAt.TheVariants as raise_at
+use Rattle.hwp_cpu_command.specs.hwp_scrub.RaiseDone as raise_done
+use Rattle.hwp_cpu_command.specs.hwp_scrub.Raises.{thread_of}
 use Rattle.hwp_law_served.specs.hwp_scrub.declared.scrub.ScrubAt.{ScrubAt}
 use Rattle.hwp_law_served.specs.hwp_scrub.declared.scrub.ScrubAt.TheVariants as scrub_at
 use Rattle.hwp_law_served.specs.hwp_scrub.Done as scrub_done

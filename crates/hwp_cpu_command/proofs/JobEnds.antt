@@ -71,13 +71,13 @@ use Rattle.hwp_cpu_copy.specs.declared.Copying.{Copying}
 use Rattle.hwp_cpu_copy.specs.declared.copying.CopyingAt.{CopyingAt}
 use Rattle.hwp_cpu_copy.specs.declared.copying.CopyingAt.TheVariants as copying_at
 use Rattle.hwp_cpu_copy.proofs.CopyEnds as copy_ends
-use Rattle.hwp_cpu_raise.specs.declared.Raise.{Raise}
-use Rattle.hwp_cpu_raise.specs.declared.RaiseAnswer.{RaiseAnswer}
-use Rattle.hwp_cpu_raise.specs.declared.raise.RaiseAt.{RaiseAt}
-use Rattle.hwp_cpu_raise.specs.declared.raise.RaiseAt.TheVariants as raise_at
-use Rattle.hwp_cpu_raise.specs.Fits as raise_fits
-use Rattle.hwp_cpu_raise.specs.Logs as logs
-use Rattle.hwp_cpu_raise.specs.Raises as raises
+use Rattle.hwp_scrub.specs.declared.Raise.{Raise}
+use Rattle.hwp_scrub.specs.declared.RaiseAnswer.{RaiseAnswer}
+use Rattle.hwp_scrub.specs.declared.raise.RaiseAt.{RaiseAt}
+use Rattle.hwp_scrub.specs.declared.raise.RaiseAt.TheVariants as raise_at
+use Rattle.hwp_scrub.specs.RaiseFits as raise_fits
+use Rattle.hwp_scrub.specs.Logs as logs
+use Rattle.hwp_scrub.specs.Raises as raises
 use Rattle.hwp_scrub.specs.declared.Scrub.{Scrub}
 use Rattle.hwp_scrub.specs.declared.ScrubAnswer.{ScrubAnswer}
 use Rattle.hwp_scrub.specs.declared.ScrubAnswer.TheVariants as scrub_answers

@@ -76,17 +76,17 @@ use Rattle.hwp_cpu_copy.specs.Costs as copying_costs
 use Rattle.hwp_cpu_copy.specs.Fits.{task as copying-task}
 use Rattle.hwp_cpu_copy.proofs.CopyLaws as copying
 use Rattle.hwp_cpu_copy.proofs.CopyRank.{copy-lasting, copy-ranked, copy-tells}
-use Rattle.hwp_cpu_raise.specs.declared.Log.{Log}
-use Rattle.hwp_cpu_raise.specs.declared.Raise.{Raise}
-use Rattle.hwp_cpu_raise.specs.declared.raise.RaiseAt.{RaiseAt}
-use Rattle.hwp_cpu_raise.specs.declared.raise.RaiseAt.TheVariants as raise_at
-use Rattle.hwp_cpu_raise.specs.Costs as raise_costs
-use Rattle.hwp_cpu_raise.specs.Logs as logs
-use Rattle.hwp_cpu_raise.specs.Raises as raises
-use Rattle.hwp_cpu_raise.specs.Fits.{task as raise-task}
-use Rattle.hwp_cpu_raise.proofs.LogLaws as logging
-use Rattle.hwp_cpu_raise.proofs.RaiseLaws as raising
-use Rattle.hwp_cpu_raise.proofs.RaiseRank.{raise-lasting, raise-ranked, raise-tells}
+use Rattle.hwp_scrub.specs.declared.Log.{Log}
+use Rattle.hwp_scrub.specs.declared.Raise.{Raise}
+use Rattle.hwp_scrub.specs.declared.raise.RaiseAt.{RaiseAt}
+use Rattle.hwp_scrub.specs.declared.raise.RaiseAt.TheVariants as raise_at
+use Rattle.hwp_scrub.specs.RaiseCosts as raise_costs
+use Rattle.hwp_scrub.specs.Logs as logs
+use Rattle.hwp_scrub.specs.Raises as raises
+use Rattle.hwp_scrub.specs.RaiseFits.{task as raise-task}
+use Rattle.hwp_scrub.proofs.LogLaws as logging
+use Rattle.hwp_scrub.proofs.RaiseLaws as raising
+use Rattle.hwp_scrub.proofs.RaiseRank.{raise-lasting, raise-ranked, raise-tells}
 use Rattle.hwp_scrub.specs.declared.Scrub.{Scrub}
 use Rattle.hwp_scrub.specs.declared.scrub.ScrubAt.{ScrubAt}
 use Rattle.hwp_scrub.specs.declared.scrub.ScrubAt.TheVariants as scrub_at

@@ -50,10 +50,10 @@ use Rattle.hwp_cpu_copy.specs.hwp_fault.Accesses as accesses
 use Rattle.hwp_soft.specs.hwp_claim.Injects as injects
 use Rattle.hwp_cpu_copy.specs.hwp_cpu_access.Instructions as instructions
 use Rattle.hwp_cpu_copy.specs.Copyings as copyings
-use Rattle.hwp_cpu_raise.specs.declared.LocalChange.{LocalChange}
-use Rattle.hwp_cpu_raise.specs.declared.LocalChange.TheVariants as changes
-use Rattle.hwp_cpu_raise.specs.Logs as logs
-use Rattle.hwp_cpu_raise.specs.Raises as raises
+use Rattle.hwp_scrub.specs.declared.LocalChange.{LocalChange}
+use Rattle.hwp_scrub.specs.declared.LocalChange.TheVariants as changes
+use Rattle.hwp_scrub.specs.Logs as logs
+use Rattle.hwp_scrub.specs.Raises as raises
 use Rattle.hwp_scrub.specs.Fits.{AreFrames}
 use Rattle.hwp_scrub.specs.Scrubs as scrubs
 use Rattle.hwp_soft.specs.Softs as softs

@@ -14,7 +14,7 @@ use Rattle.hwp_soft.specs.hwp_claim.Done as fail_done
 use Rattle.hwp_cpu_copy.specs.hwp_cpu_access.Done as instruction_done
 use Rattle.hwp_cpu_copy.specs.hwp_cpu_access.Done.{FailuresGrow, failures_by}
 use Rattle.hwp_cpu_copy.specs.Done as copying_done
-use Rattle.hwp_cpu_raise.specs.Done as raise_done
+use Rattle.hwp_scrub.specs.RaiseDone as raise_done
 use Rattle.hwp_scrub.specs.Done as scrub_done
 use Rattle.hwp_soft.specs.Done as soft_done
 use Rattle.hwp_soft.specs.hwp_soft_unpoison.Done as unpoison_done

@@ -15,8 +15,8 @@ use Rattle.hwp_cpu_row.specs.hwp_law_commands.hwp_cec.Counters.{StandsFor, begun
 use Rattle.hwp_cpu_row.specs.declared.Local.{Local}
 use Rattle.hwp_cpu_row.specs.declared.Watching.{Watching}
 use Rattle.hwp_cpu_row.specs.Locals.{number_in}
-use Rattle.hwp_cpu_raise.specs.declared.LocalChange.{LocalChange}
-use Rattle.hwp_cpu_raise.specs.declared.LocalChange.TheVariants as changes
+use Rattle.hwp_scrub.specs.declared.LocalChange.{LocalChange}
+use Rattle.hwp_scrub.specs.declared.LocalChange.TheVariants as changes
 use Rattle.hwp_cpu_command.specs.declared.job.Job.{Job}
 use Rattle.hwp_cpu_command.specs.declared.job.Job.TheVariants as jobs
 use Rattle.hwp_cpu_command.specs.Jobs.{banks_after, left_in}

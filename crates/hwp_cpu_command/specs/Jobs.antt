@@ -34,11 +34,11 @@ use Rattle.hwp_cpu_copy.specs.declared.Copying.{Copying}
 use Rattle.hwp_cpu_copy.specs.Copyings as copyings
 use Rattle.hwp_cpu_copy.specs.Costs as copying_costs
 use Rattle.hwp_cpu_copy.specs.Fits as copying_fits
-use Rattle.hwp_cpu_raise.specs.declared.Raise.{Raise}
-use Rattle.hwp_cpu_raise.specs.Costs as raise_costs
-use Rattle.hwp_cpu_raise.specs.Fits as raise_fits
-use Rattle.hwp_cpu_raise.specs.Logs as logs
-use Rattle.hwp_cpu_raise.specs.Raises as raises
+use Rattle.hwp_scrub.specs.declared.Raise.{Raise}
+use Rattle.hwp_scrub.specs.RaiseCosts as raise_costs
+use Rattle.hwp_scrub.specs.RaiseFits as raise_fits
+use Rattle.hwp_scrub.specs.Logs as logs
+use Rattle.hwp_scrub.specs.Raises as raises
 use Rattle.hwp_cpu_row.specs.declared.FrameChange.{FrameChange}
 use Rattle.hwp_cpu_row.specs.declared.FrameChange.TheVariants as owns
 use Rattle.hwp_cpu_row.specs.declared.Offlining.{Offlining}

@@ -17,7 +17,6 @@ pub use Rattle.hwp_cpu_copy.specs.hwp_cpu_access as hwp_cpu_access
 pub use Rattle.hwp_cpu_row.specs.hwp_cpu_check as hwp_cpu_check
 pub use Rattle.hwp_cpu_control.specs as hwp_cpu_control
 pub use Rattle.hwp_cpu_copy.specs as hwp_cpu_copy
-pub use Rattle.hwp_cpu_raise.specs as hwp_cpu_raise
 pub use Rattle.hwp_evict.specs as hwp_evict
 pub use Rattle.hwp_cpu_copy.specs.hwp_fault as hwp_fault
 pub use Rattle.hwp_cpu_copy.specs.hwp_fork as hwp_fork

@@ -42,9 +42,9 @@ use Rattle.hwp_cpu_copy.specs.hwp_cpu_access.Instructions as instructions
 use Rattle.hwp_cpu_copy.specs.hwp_cpu_access.declared.Instruction.{Instruction}
 use Rattle.hwp_cpu_copy.specs.declared.copying.CopyingAt.TheVariants as copying_at
 use Rattle.hwp_cpu_copy.specs.Fits.{begun}
-use Rattle.hwp_cpu_raise.specs.declared.RaiseAnswer.TheVariants as raise_answers
-use Rattle.hwp_cpu_raise.specs.declared.raise.RaiseAt.TheVariants as raise_at
-use Rattle.hwp_cpu_raise.specs.Raises as raises
+use Rattle.hwp_scrub.specs.declared.RaiseAnswer.TheVariants as raise_answers
+use Rattle.hwp_scrub.specs.declared.raise.RaiseAt.TheVariants as raise_at
+use Rattle.hwp_scrub.specs.Raises as raises
 use Rattle.hwp_scrub.specs.declared.ScrubAnswer.TheVariants as scrub_answers
 use Rattle.hwp_scrub.specs.declared.scrub.ScrubAt.TheVariants as scrub_at
 use Rattle.hwp_scrub.specs.Scrubs as scrubs

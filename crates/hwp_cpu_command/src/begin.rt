@@ -14,8 +14,8 @@ ghost use Rattle.hwp_soft.specs.hwp_claim.Injects as injects;
 ghost use Rattle.hwp_soft.specs.Softs as softs;
 ghost use Rattle.hwp_scrub.specs.Scrubs as scrubs;
 ghost use Rattle.hwp_evict.specs.Fsyncs as fsyncs;
-ghost use Rattle.hwp_cpu_raise.specs.declared.LocalChange.TheVariants as changes;
-ghost use Rattle.hwp_cpu_raise.specs.Logs as logs;
+ghost use Rattle.hwp_scrub.specs.declared.LocalChange.TheVariants as changes;
+ghost use Rattle.hwp_scrub.specs.Logs as logs;
 ghost use Rattle.hwp_cpu_command.specs.Begins.{Begins, BeginsAs, BeginsCopy, BeginsFork, BeginsLine, BeginsPrctl, BeginsRaiseUser, BeginsWith, CanCopy, CanCopyFrom, CanDeny, IsDeniedAnyhow, access_in, begun_access, is_rare, line_access, request_of};
 ghost use Rattle.hwp_cpu_command.specs.FileHandles.{HasHandle, local_left};
 ghost use Rattle.hwp_cpu_command.specs.Jobs.{left_in};
@@ -24,7 +24,6 @@ ghost use Rattle.hwp_cpu_command.specs.declared.job.Job.TheVariants as jobs;
 use crate::job::Job;
 use hwp_cpu_control::{Denial, Denied, Fork, Nested, Prctl, Spoil, Targets};
 use hwp_cpu_copy::{AccessKind, Copying, Instruction, Request};
-use hwp_cpu_raise::{LocalChange, Log, Raise, Raiser};
 use hwp_cpu_row::{
     Admit, BANKS, Bank, Command, Event, Handles, Inject, Local, McgBits, Origin, PrctlArgs, Status,
     Watching, no_events,
@@ -32,7 +31,7 @@ use hwp_cpu_row::{
 use hwp_evict::{
     Damage, Evict, FileNo, Frame, Fsync, Layout, Line, Mode, Page, Proc, Thread, VSlot, Who,
 };
-use hwp_scrub::Scrub;
+use hwp_scrub::{LocalChange, Log, Raise, Raiser, Scrub};
 use hwp_soft::{Soft, Unpoison};
 use std::alloc::Global;
 use std::mem;

@@ -5,7 +5,6 @@ use hwp_cpu_control::{
     ReadStopAnswer, Spoil, SpoilAnswer,
 };
 use hwp_cpu_copy::{Copying, Instruction, InstructionAnswer};
-use hwp_cpu_raise::{LocalChange, Log, Raise, RaiseAnswer};
 use hwp_cpu_row::{
     Answer, BANKS, Bank, EventOutcome, FailAnswer, FrameChange, Handles, Inject, Local, Offlining,
     Row, Watching,
@@ -14,7 +13,7 @@ use hwp_evict::{
     At, Body, Evict, EvictAnswer, Frame, Fsync, FsyncAnswer, Layout, List, Outcome, Ranked,
     Refusal, Reply, Scheduled, Step, Task, Turn, Who,
 };
-use hwp_scrub::{Scrub, ScrubAnswer};
+use hwp_scrub::{LocalChange, Log, Raise, RaiseAnswer, Scrub, ScrubAnswer};
 use hwp_soft::{Soft, SoftAnswer, Unpoison, UnpoisonAnswer};
 use std::alloc::Global;
 

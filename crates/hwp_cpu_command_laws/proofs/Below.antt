@@ -49,11 +49,11 @@ use Rattle.hwp_cpu_command.specs.hwp_cpu_copy.declared.Copying.{Copying}
 use Rattle.hwp_cpu_command.specs.hwp_cpu_copy.Copyings as copyings
 use Rattle.hwp_cpu_command.proofs.of_hwp_cpu_copy.CopyRank.{copy-below}
 use Rattle.hwp_cpu_command.specs.hwp_banks.Banks.{Banks}
-use Rattle.hwp_cpu_command.specs.hwp_cpu_raise.declared.Raise.{Raise}
-use Rattle.hwp_cpu_command.specs.hwp_cpu_raise.declared.raise.RaiseAt.{RaiseAt}
-use Rattle.hwp_cpu_command.specs.hwp_cpu_raise.declared.raise.RaiseAt.TheVariants as raise_at
-use Rattle.hwp_cpu_command.specs.hwp_cpu_raise.Costs as raise_costs
-use Rattle.hwp_cpu_command.specs.hwp_cpu_raise.Fits as raise_fits
+use Rattle.hwp_cpu_command.specs.hwp_scrub.declared.Raise.{Raise}
+use Rattle.hwp_cpu_command.specs.hwp_scrub.declared.raise.RaiseAt.{RaiseAt}
+use Rattle.hwp_cpu_command.specs.hwp_scrub.declared.raise.RaiseAt.TheVariants as raise_at
+use Rattle.hwp_cpu_command.specs.hwp_scrub.RaiseCosts as raise_costs
+use Rattle.hwp_cpu_command.specs.hwp_scrub.RaiseFits as raise_fits
 use Rattle.hwp_cpu_command.proofs.of_hwp_scrub.ScrubRank.{scrub-below}
 use Rattle.hwp_cpu_command.specs.hwp_soft.Softs as softs
 use Rattle.hwp_cpu_command.proofs.of_hwp_soft.SoftRank.{soft-small}

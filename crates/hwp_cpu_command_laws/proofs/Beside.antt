@@ -28,11 +28,11 @@ use Rattle.hwp_cpu_command.specs.hwp_cpu_copy.declared.Copying.{Copying}
 use Rattle.hwp_cpu_command.specs.hwp_cpu_copy.Done as copying_done
 use Rattle.hwp_cpu_command.proofs.of_hwp_cpu_copy.CopyEnds as copy_ends
 use Rattle.hwp_cpu_command.proofs.of_hwp_cpu_copy.CopyResting as copy_resting
-use Rattle.hwp_cpu_command.specs.hwp_cpu_raise.declared.LocalChange.{LocalChange}
-use Rattle.hwp_cpu_command.specs.hwp_cpu_raise.declared.Raise.{Raise}
-use Rattle.hwp_cpu_command.specs.hwp_cpu_raise.declared.raise.RaiseAt.{RaiseAt}
-use Rattle.hwp_cpu_command.specs.hwp_cpu_raise.Done as raise_done
-use Rattle.hwp_cpu_command.specs.hwp_cpu_raise.Raises as raises
+use Rattle.hwp_cpu_command.specs.hwp_scrub.declared.LocalChange.{LocalChange}
+use Rattle.hwp_cpu_command.specs.hwp_scrub.declared.Raise.{Raise}
+use Rattle.hwp_cpu_command.specs.hwp_scrub.declared.raise.RaiseAt.{RaiseAt}
+use Rattle.hwp_cpu_command.specs.hwp_scrub.RaiseDone as raise_done
+use Rattle.hwp_cpu_command.specs.hwp_scrub.Raises as raises
 use Rattle.hwp_cpu_command.specs.hwp_scrub.declared.Scrub.{Scrub}
 use Rattle.hwp_cpu_command.specs.hwp_scrub.declared.scrub.ScrubAt.{ScrubAt}
 use Rattle.hwp_cpu_command.specs.hwp_scrub.Done as scrub_done

@@ -91,11 +91,11 @@ use Rattle.hwp_cpu_command.specs.hwp_cpu_copy.Done as copying_done
 use Rattle.hwp_cpu_command.proofs.of_hwp_cpu_copy.CopyAdds.{copy-adds}
 use Rattle.hwp_cpu_command.proofs.of_hwp_cpu_copy.CopyEnds as copy_ends
 use Rattle.hwp_cpu_command.proofs.of_hwp_cpu_access.CommandGrows.{failures-grow}
-use Rattle.hwp_cpu_command.specs.hwp_cpu_raise.declared.Raise.{Raise}
-use Rattle.hwp_cpu_command.specs.hwp_cpu_raise.Done as raise_done
-use Rattle.hwp_cpu_command.specs.hwp_cpu_raise.Raises as raises
-use Rattle.hwp_cpu_command.specs.hwp_cpu_raise.Raises.{thread_of}
-use Rattle.hwp_cpu_command.proofs.of_hwp_cpu_raise.RaiseAdds.{raise-adds}
+use Rattle.hwp_cpu_command.specs.hwp_scrub.declared.Raise.{Raise}
+use Rattle.hwp_cpu_command.specs.hwp_scrub.RaiseDone as raise_done
+use Rattle.hwp_cpu_command.specs.hwp_scrub.Raises as raises
+use Rattle.hwp_cpu_command.specs.hwp_scrub.Raises.{thread_of}
+use Rattle.hwp_cpu_command.proofs.of_hwp_scrub.RaiseAdds.{raise-adds}
 use Rattle.hwp_cpu_command.specs.hwp_scrub.declared.Scrub.{Scrub}
 use Rattle.hwp_cpu_command.specs.hwp_scrub.Done as scrub_done
 use Rattle.hwp_cpu_command.specs.hwp_scrub.Scrubs as scrubs

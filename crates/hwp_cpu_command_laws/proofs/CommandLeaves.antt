@@ -74,11 +74,11 @@ use Rattle.hwp_cpu_command.specs.hwp_cpu_copy.Copyings as copyings
 use Rattle.hwp_cpu_command.specs.hwp_cpu_copy.Fits as copying_fits
 use Rattle.hwp_cpu_command.specs.hwp_cpu_copy.Runs as copying_runs
 use Rattle.hwp_cpu_command.proofs.of_hwp_cpu_copy.CowSteps.{request-who}
-use Rattle.hwp_cpu_command.specs.hwp_cpu_raise.declared.Raise.{Raise}
-use Rattle.hwp_cpu_command.specs.hwp_cpu_raise.declared.raise.RaiseAt.{RaiseAt}
-use Rattle.hwp_cpu_command.specs.hwp_cpu_raise.declared.raise.RaiseAt.TheVariants as raise_at
-use Rattle.hwp_cpu_command.specs.hwp_cpu_raise.Fits as raise_fits
-use Rattle.hwp_cpu_command.specs.hwp_cpu_raise.Raises as raises
+use Rattle.hwp_cpu_command.specs.hwp_scrub.declared.Raise.{Raise}
+use Rattle.hwp_cpu_command.specs.hwp_scrub.declared.raise.RaiseAt.{RaiseAt}
+use Rattle.hwp_cpu_command.specs.hwp_scrub.declared.raise.RaiseAt.TheVariants as raise_at
+use Rattle.hwp_cpu_command.specs.hwp_scrub.RaiseFits as raise_fits
+use Rattle.hwp_cpu_command.specs.hwp_scrub.Raises as raises
 use Rattle.hwp_cpu_command.specs.hwp_scrub.declared.Scrub.{Scrub}
 use Rattle.hwp_cpu_command.specs.hwp_scrub.declared.scrub.ScrubAt.{ScrubAt}
 use Rattle.hwp_cpu_command.specs.hwp_scrub.declared.scrub.ScrubAt.TheVariants as scrub_at

@@ -61,14 +61,14 @@ use Rattle.hwp_cpu_command.specs.hwp_cpu_copy.declared.copying.CopyingAt.TheVari
 use Rattle.hwp_cpu_command.specs.hwp_cpu_copy.Copyings as copyings
 use Rattle.hwp_cpu_command.proofs.of_hwp_cpu_copy.CopyEnds as copy_ends
 use Rattle.hwp_cpu_command.proofs.of_hwp_cpu_control.ForkTargets.{are-targets, of-child}
-use Rattle.hwp_cpu_command.specs.hwp_cpu_raise.declared.LocalChange.{LocalChange}
-use Rattle.hwp_cpu_command.specs.hwp_cpu_raise.declared.Log.{Log}
-use Rattle.hwp_cpu_command.specs.hwp_cpu_raise.declared.Raise.{Raise}
-use Rattle.hwp_cpu_command.specs.hwp_cpu_raise.declared.Raiser.{Raiser}
-use Rattle.hwp_cpu_command.specs.hwp_cpu_raise.declared.raise.RaiseAt.{RaiseAt}
-use Rattle.hwp_cpu_command.specs.hwp_cpu_raise.declared.raise.RaiseAt.TheVariants as raise_at
-use Rattle.hwp_cpu_command.specs.hwp_cpu_raise.Logs as logs
-use Rattle.hwp_cpu_command.specs.hwp_cpu_raise.Raises as raises
+use Rattle.hwp_cpu_command.specs.hwp_scrub.declared.LocalChange.{LocalChange}
+use Rattle.hwp_cpu_command.specs.hwp_scrub.declared.Log.{Log}
+use Rattle.hwp_cpu_command.specs.hwp_scrub.declared.Raise.{Raise}
+use Rattle.hwp_cpu_command.specs.hwp_scrub.declared.Raiser.{Raiser}
+use Rattle.hwp_cpu_command.specs.hwp_scrub.declared.raise.RaiseAt.{RaiseAt}
+use Rattle.hwp_cpu_command.specs.hwp_scrub.declared.raise.RaiseAt.TheVariants as raise_at
+use Rattle.hwp_cpu_command.specs.hwp_scrub.Logs as logs
+use Rattle.hwp_cpu_command.specs.hwp_scrub.Raises as raises
 use Rattle.hwp_cpu_command.specs.hwp_scrub.declared.Scrub.{Scrub}
 use Rattle.hwp_cpu_command.specs.hwp_scrub.declared.scrub.ScrubAt.{ScrubAt}
 use Rattle.hwp_cpu_command.specs.hwp_scrub.declared.scrub.ScrubAt.TheVariants as scrub_at

@@ -40,8 +40,8 @@ use Rattle.hwp_cpu_command.specs.hwp_claim.declared.FailAnswer.{FailAnswer}
 use Rattle.hwp_cpu_command.specs.hwp_claim.declared.FailAnswer.TheVariants as fail_answers
 use Rattle.hwp_cpu_command.specs.hwp_cpu_access.declared.InstructionAnswer.{InstructionAnswer}
 use Rattle.hwp_cpu_command.specs.hwp_cpu_access.declared.InstructionAnswer.TheVariants as instruction_answers
-use Rattle.hwp_cpu_command.specs.hwp_cpu_raise.declared.RaiseAnswer.{RaiseAnswer}
-use Rattle.hwp_cpu_command.specs.hwp_cpu_raise.declared.RaiseAnswer.TheVariants as raise_answers
+use Rattle.hwp_cpu_command.specs.hwp_scrub.declared.RaiseAnswer.{RaiseAnswer}
+use Rattle.hwp_cpu_command.specs.hwp_scrub.declared.RaiseAnswer.TheVariants as raise_answers
 use Rattle.hwp_cpu_command.specs.hwp_scrub.declared.ScrubAnswer.{ScrubAnswer}
 use Rattle.hwp_cpu_command.specs.hwp_scrub.declared.ScrubAnswer.TheVariants as scrub_answers
 use Rattle.hwp_cpu_command.specs.hwp_soft.declared.SoftAnswer.{SoftAnswer}
@@ -58,8 +58,8 @@ use Rattle.hwp_cpu_command.specs.hwp_evict.Fsyncs as fsyncs
 use Rattle.hwp_cpu_command.specs.hwp_claim.Injects as injects
 use Rattle.hwp_cpu_command.specs.hwp_cpu_access.Instructions as instructions
 use Rattle.hwp_cpu_command.specs.hwp_cpu_copy.Copyings as copyings
-use Rattle.hwp_cpu_command.specs.hwp_cpu_raise.Logs as logs
-use Rattle.hwp_cpu_command.specs.hwp_cpu_raise.Raises as raises
+use Rattle.hwp_cpu_command.specs.hwp_scrub.Logs as logs
+use Rattle.hwp_cpu_command.specs.hwp_scrub.Raises as raises
 use Rattle.hwp_cpu_command.specs.hwp_scrub.Scrubs as scrubs
 use Rattle.hwp_cpu_command.specs.hwp_soft.Softs as softs
 use Rattle.hwp_cpu_command.specs.hwp_soft_unpoison.Unpoisons as unpoisons

@@ -35,12 +35,12 @@ use Rattle.hwp_cpu_command_laws.specs.hwp_cpu_command.hwp_cpu_copy.Costs as copy
 use Rattle.hwp_cpu_command_laws.specs.hwp_cpu_command.hwp_cpu_copy.Fits as copying_fits
 use Rattle.hwp_cpu_command_laws.proofs.of_hwp_cpu_command.of_hwp_cpu_access.InstructionRank.{instruction-lasting}
 use Rattle.hwp_cpu_command_laws.proofs.of_hwp_cpu_command.of_hwp_cpu_copy.CopyRank.{copy-lasting}
-use Rattle.hwp_cpu_command_laws.proofs.of_hwp_cpu_command.of_hwp_cpu_raise.RaiseRank.{raise-lasting}
+use Rattle.hwp_cpu_command_laws.proofs.of_hwp_cpu_command.of_hwp_scrub.RaiseRank.{raise-lasting}
 use Rattle.hwp_cpu_command_laws.proofs.of_hwp_cpu_command.of_hwp_scrub.ScrubRank.{scrub-lasting}
-use Rattle.hwp_cpu_command_laws.specs.hwp_cpu_command.hwp_cpu_raise.Costs as raise_costs
-use Rattle.hwp_cpu_command_laws.specs.hwp_cpu_command.hwp_cpu_raise.Raises as raises
-use Rattle.hwp_cpu_command_laws.specs.hwp_cpu_command.hwp_cpu_raise.declared.raise.RaiseAt.{RaiseAt}
-use Rattle.hwp_cpu_command_laws.specs.hwp_cpu_command.hwp_cpu_raise.declared.raise.RaiseAt.TheVariants as raise_at
+use Rattle.hwp_cpu_command_laws.specs.hwp_cpu_command.hwp_scrub.RaiseCosts as raise_costs
+use Rattle.hwp_cpu_command_laws.specs.hwp_cpu_command.hwp_scrub.Raises as raises
+use Rattle.hwp_cpu_command_laws.specs.hwp_cpu_command.hwp_scrub.declared.raise.RaiseAt.{RaiseAt}
+use Rattle.hwp_cpu_command_laws.specs.hwp_cpu_command.hwp_scrub.declared.raise.RaiseAt.TheVariants as raise_at
 use Rattle.hwp_cpu_command_laws.specs.hwp_cpu_command.hwp_scrub.Costs as scrub_costs
 use Rattle.hwp_cpu_command_laws.specs.hwp_cpu_command.hwp_scrub.Scrubs as scrubs
 use Rattle.hwp_cpu_command_laws.specs.hwp_cpu_command.hwp_scrub.declared.scrub.ScrubAt.{ScrubAt}

@@ -31,7 +31,7 @@ use Rattle.hwp_cpu_command_laws.specs.hwp_cpu_command.hwp_cpu_copy.Fits as copyi
 use Rattle.hwp_cpu_command_laws.proofs.of_hwp_cpu_command.of_hwp_cpu_access.InstructionLaws.{paused}
 use Rattle.hwp_cpu_command_laws.proofs.of_hwp_cpu_command.of_hwp_cpu_copy.CopyEnds as copy-ends
 use Rattle.hwp_cpu_command_laws.proofs.of_hwp_cpu_command.of_hwp_cpu_copy.CopyResting as copy-resting
-use Rattle.hwp_cpu_command_laws.specs.hwp_cpu_command.hwp_cpu_raise.Raises as raises
+use Rattle.hwp_cpu_command_laws.specs.hwp_cpu_command.hwp_scrub.Raises as raises
 use Rattle.hwp_cpu_command_laws.specs.hwp_cpu_command.hwp_scrub.declared.Scrub.{Scrub}
 use Rattle.hwp_cpu_command_laws.specs.hwp_cpu_command.hwp_scrub.declared.ScrubAnswer.{ScrubAnswer}
 use Rattle.hwp_cpu_command_laws.specs.hwp_cpu_command.hwp_scrub.declared.ScrubAnswer.TheVariants as scrub_answers

@@ -25,7 +25,7 @@ use Rattle.hwp_cpu_command_laws.specs.hwp_cpu_command.hwp_cpu_access.declared.in
 use Rattle.hwp_cpu_command_laws.specs.hwp_cpu_command.hwp_cpu_access.Fits as instruction_fits
 use Rattle.hwp_cpu_command_laws.specs.hwp_cpu_command.hwp_cpu_access.Instructions as instructions
 use Rattle.hwp_cpu_command_laws.proofs.of_hwp_cpu_command.of_hwp_cpu_access.ToldMore.{TellsMore, told-more}
-use Rattle.hwp_cpu_command_laws.proofs.of_hwp_cpu_command.of_hwp_cpu_raise.RaiseLines.{raise-few}
+use Rattle.hwp_cpu_command_laws.proofs.of_hwp_cpu_command.of_hwp_scrub.RaiseLines.{raise-few}
 use Rattle.hwp_cpu_command_laws.proofs.of_hwp_cpu_command.of_hwp_scrub.ScrubLines.{frame_lines, scrub-few}
 use Rattle.hwp_cpu_row.specs.hwp_cpu_check.Checks.{Check}
 use Rattle.hwp_cpu_command_laws.specs.hwp_cpu_command.hwp_cpu_copy.declared.Copying.{Copying}
@@ -39,7 +39,7 @@ use Rattle.hwp_cpu_command_laws.specs.hwp_cpu_command.hwp_evict.declared.Evict.{
 use Rattle.hwp_cpu_command_laws.specs.hwp_cpu_command.hwp_evict.declared.EvictAnswer.{EvictAnswer}
 use Rattle.hwp_cpu_command_laws.specs.hwp_cpu_command.hwp_evict.declared.EvictAnswer.TheVariants as evict_answers
 use Rattle.hwp_cpu_command_laws.specs.hwp_cpu_command.hwp_evict.Evicts as evicts
-use Rattle.hwp_cpu_command_laws.specs.hwp_cpu_command.hwp_cpu_raise.Raises as raises
+use Rattle.hwp_cpu_command_laws.specs.hwp_cpu_command.hwp_scrub.Raises as raises
 use Rattle.hwp_cpu_command_laws.specs.hwp_cpu_command.hwp_scrub.Scrubs as scrubs
 use Rattle.hwp_cpu_course.specs.Courses.{HasPassed, due_room, gives_up_access, gives_up_copy, rests}
 use Rattle.hwp_cpu_course.proofs.CopyRests.{copy-paused}

@@ -3,3 +3,8 @@ pub mod ScrubLaws
 pub mod ScrubRank
 pub mod ScrubAdds
 pub mod ScrubLines
+pub mod LogLaws
+pub mod RaiseLaws
+pub mod RaiseRank
+pub mod RaiseAdds
+pub mod RaiseLines

@@ -3,3 +3,8 @@ pub mod Scrubs
 pub mod Fits
 pub mod Costs
 pub mod Done
+pub mod Raises
+pub mod RaiseFits
+pub mod RaiseCosts
+pub mod RaiseDone
+pub mod Logs

@@ -34,8 +34,8 @@ use Rattle.hwp_top_turns.specs.hwp_cpu_command.hwp_cpu_copy.contracts.copying.Co
 use Rattle.hwp_top_turns.specs.hwp_cpu_control.contracts.prctl.Prctl as Prctl
 use Rattle.hwp_top_turns.specs.hwp_cpu_control.contracts.fork.Fork as Fork
 use Rattle.hwp_top_turns.specs.hwp_cpu_control.contracts.denied.Denied as Denied
-use Rattle.hwp_top_turns.specs.hwp_cpu_raise.contracts.log.Log as Log
-use Rattle.hwp_top_turns.specs.hwp_cpu_raise.contracts.raise.Raise as Raise
+use Rattle.hwp_top_turns.specs.hwp_scrub.contracts.log.Log as Log
+use Rattle.hwp_top_turns.specs.hwp_scrub.contracts.raise.Raise as Raise
 use Rattle.hwp_top_turns.specs.hwp_scrub.contracts.scrub.Scrub as Scrub
 use Rattle.hwp_top_turns.specs.hwp_cpu_control.contracts.spoil.Spoil as Spoil
 use Rattle.hwp_top_turns.specs.hwp_cpu_control.contracts.nested.Nested as Nested

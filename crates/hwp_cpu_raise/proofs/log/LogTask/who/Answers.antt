@@ -1,5 +1,0 @@
-use Rattle.hwp_cpu_raise.proofs.log.LogTask.who.Goals as goal
-use Rattle.hwp_cpu_raise.proofs.LogLaws.{can, stays}
-
-pub returns-clause-law : goal.returns-clause-law
-returns-clause-law c = record { can = can; stays = stays }

@@ -1,5 +1,0 @@
-pub mod Raises
-pub mod Fits
-pub mod Costs
-pub mod Done
-pub mod Logs
