@@ -1,34 +1,34 @@
 -- The command that a processor acts on is one of the processor, as the script's own is: a twin is of the same process as the translation for
 -- which it stands.
 use Rattle.hwp_cpu.specs.Processors.{AreCommands}
-use Rattle.hwp_cpu_course.specs.hwp_cpu_row.hwp_geom.declared.Cpu.{Cpu}
+use Rattle.hwp_cpu_row.specs.hwp_geom.declared.Cpu.{Cpu}
 use Rattle.std.proofs.Common.{◌≡◌, ◌≢◌, ℕ, ◌<◌, ◌&&◌, not, All, Bool, true, false, List, Option, Some, None, length, slice_get, if◌then◌else◌, refl, sym, ◌∙◌, subst}
 use Rattle.std.specs.Prelude.{IsSome, IsSomeAnd, unwrap_or}
 use Rattle.std.proofs.lemmas.List.Elements.{All-get_or}
 use Rattle.std.proofs.lemmas.Option.{get_or_from_slice_get, none-some, slice_get_within}
-use Rattle.hwp_cpu_course.specs.hwp_cpu_row.hwp_geom.declared.Layout.{Layout}
-use Rattle.hwp_cpu_course.specs.hwp_cpu_row.hwp_geom.declared.Thread.{Thread}
-use Rattle.hwp_cpu_course.specs.hwp_cpu_row.hwp_geom.declared.ThreadDecl.{ThreadDecl}
-use Rattle.hwp_cpu_course.specs.hwp_cpu_row.hwp_geom.declared.TransDecl.{TransDecl}
-use Rattle.hwp_cpu_course.specs.hwp_cpu_row.hwp_geom.declared.VSlot.{VSlot}
-use Rattle.hwp_cpu_course.specs.hwp_cpu_row.hwp_geom.Layout.{twin_of}
-use Rattle.hwp_cpu_course.specs.hwp_cpu_row.hwp_geom.declared.Who.{Who}
-use Rattle.hwp_cpu_course.specs.hwp_cpu_row.hwp_core_rule.declared.View.{View}
-use Rattle.hwp_cpu_course.specs.hwp_cpu_row.hwp_script_lines.declared.Command.{Command}
-use Rattle.hwp_cpu_course.specs.hwp_cpu_row.hwp_script_lines.declared.Command.TheVariants as commands
-use Rattle.hwp_cpu_course.specs.hwp_cpu_row.hwp_script_read.Valid.{AreTwinsFit, IsAccess, IsAnon, IsCommandOf}
-use Rattle.hwp_cpu_course.specs.hwp_cpu_row.hwp_law_commands.Cows.{Cow, twin_or}
-use Rattle.hwp_cpu_course.specs.hwp_cpu_row.CowLists.{acting_in, copied_in, cow_in}
-use Rattle.hwp_cpu_course.specs.hwp_cpu_row.GuestLists.{States, admission_in}
-use Rattle.hwp_cpu_course.specs.hwp_cpu_row.hwp_law_commands.Commands as access
-use Rattle.hwp_cpu_course.specs.hwp_cpu_row.hwp_law_commands.Commands.{access_of}
-use Rattle.hwp_cpu_course.specs.hwp_cpu_row.hwp_law_commands.declared.GuestAccess.{GuestAccess}
-use Rattle.hwp_cpu_course.specs.hwp_cpu_row.hwp_law_commands.Guests.{guest_access}
-use Rattle.hwp_cpu_course.specs.hwp_cpu_row.hwp_cpu_check.hwp_guest.declared.Admit.{Admit}
-use Rattle.hwp_cpu_course.specs.hwp_cpu_row.hwp_cpu_check.hwp_guest.declared.Admit.TheVariants as admissions
-use Rattle.hwp_cpu_course.proofs.of_hwp_cpu_row.GuestListLaws.{admitted-none, of-access}
-use Rattle.hwp_cpu_course.specs.hwp_cpu_command.Begins.{CanCopy, CanDeny}
-use Rattle.hwp_cpu_course.specs.hwp_cpu_command.Runs.{CanFork}
+use Rattle.hwp_cpu_row.specs.hwp_geom.declared.Layout.{Layout}
+use Rattle.hwp_cpu_row.specs.hwp_geom.declared.Thread.{Thread}
+use Rattle.hwp_cpu_row.specs.hwp_geom.declared.ThreadDecl.{ThreadDecl}
+use Rattle.hwp_cpu_row.specs.hwp_geom.declared.TransDecl.{TransDecl}
+use Rattle.hwp_cpu_row.specs.hwp_geom.declared.VSlot.{VSlot}
+use Rattle.hwp_cpu_row.specs.hwp_geom.Layout.{twin_of}
+use Rattle.hwp_cpu_row.specs.hwp_geom.declared.Who.{Who}
+use Rattle.hwp_cpu_row.specs.hwp_core_rule.declared.View.{View}
+use Rattle.hwp_cpu_row.specs.hwp_script_lines.declared.Command.{Command}
+use Rattle.hwp_cpu_row.specs.hwp_script_lines.declared.Command.TheVariants as commands
+use Rattle.hwp_cpu_row.specs.hwp_script_read.Valid.{AreTwinsFit, IsAccess, IsAnon, IsCommandOf}
+use Rattle.hwp_cpu_row.specs.hwp_law_commands.Cows.{Cow, twin_or}
+use Rattle.hwp_cpu_row.specs.CowLists.{acting_in, copied_in, cow_in}
+use Rattle.hwp_cpu_row.specs.GuestLists.{States, admission_in}
+use Rattle.hwp_cpu_row.specs.hwp_law_commands.Commands as access
+use Rattle.hwp_cpu_row.specs.hwp_law_commands.Commands.{access_of}
+use Rattle.hwp_cpu_row.specs.hwp_law_commands.declared.GuestAccess.{GuestAccess}
+use Rattle.hwp_cpu_row.specs.hwp_law_commands.Guests.{guest_access}
+use Rattle.hwp_cpu_row.specs.hwp_cpu_check.hwp_guest.declared.Admit.{Admit}
+use Rattle.hwp_cpu_row.specs.hwp_cpu_check.hwp_guest.declared.Admit.TheVariants as admissions
+use Rattle.hwp_cpu_row.proofs.GuestListLaws.{admitted-none, of-access}
+use Rattle.hwp_cpu_command_laws.specs.hwp_cpu_command.Begins.{CanCopy, CanDeny}
+use Rattle.hwp_cpu_command_laws.specs.hwp_cpu_command.Runs.{CanFork}
 
 module _ (layout : Layout) (twins : AreTwinsFit layout) where
   paired-access : (cpu : ℕ) (ot : Option ThreadDecl) (ov ow : Option TransDecl) → IsSomeAnd ot (λ (t : ThreadDecl). (t.cpu.0 ≡ cpu) × IsSomeAnd ov (λ (v : TransDecl). v.process ≡ t.process))

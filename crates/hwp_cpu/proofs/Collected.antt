@@ -1,28 +1,28 @@
 -- What a command has given to the collector: as it goes on, and where its own task rests.
 use Rattle.hwp_cpu_causes.specs.hwp_law_served.Served.{IsOffliningServed}
-use Rattle.hwp_cpu_course.specs.hwp_cpu_row.hwp_cpu_check.declared.EventOutcome.{EventOutcome}
-use Rattle.hwp_cpu_course.specs.hwp_cpu_row.hwp_geom.declared.Who.{Who}
+use Rattle.hwp_cpu_row.specs.hwp_cpu_check.declared.EventOutcome.{EventOutcome}
+use Rattle.hwp_cpu_row.specs.hwp_geom.declared.Who.{Who}
 use Rattle.std.proofs.Common.{refl, Some, sym, append_assoc, ap, ◌+◌, ◌++◌, List, ◌≡◌, ◌≤◌, map, None, true, false, ℕ, subst, length, Option, arith, true≢false, ◌∙◌}
 use Rattle.std.proofs.lemmas.List.{map-append, length-append, take-append-le, take_all}
-use Rattle.hwp_cpu_course.specs.hwp_cpu_row.Locals.{Collects, IsCollecting, IsWatching, collects}
+use Rattle.hwp_cpu_row.specs.Locals.{Collects, IsCollecting, IsWatching, collects}
 use Rattle.std.specs.Prelude.{take, IsSome}
-use Rattle.hwp_cpu_course.specs.hwp_cpu_row.declared.Watching.{Watching}
-use Rattle.hwp_cpu_course.specs.hwp_cpu_row.hwp_core_rule.Lists.{EachMember}
-use Rattle.hwp_cpu_course.specs.hwp_cpu_row.hwp_geom.declared.Layout.{Layout}
-use Rattle.hwp_cpu_course.specs.hwp_cpu_row.Acts.{AreInTime, told_notes}
-use Rattle.hwp_cpu_course.specs.declared.Course.{Course}
+use Rattle.hwp_cpu_row.specs.declared.Watching.{Watching}
+use Rattle.hwp_cpu_row.specs.hwp_core_rule.Lists.{EachMember}
+use Rattle.hwp_cpu_row.specs.hwp_geom.declared.Layout.{Layout}
+use Rattle.hwp_cpu_row.specs.Acts.{AreInTime, told_notes}
+use Rattle.hwp_cpu.specs.declared.course.Course.{Course}
 use Rattle.hwp_cpu.specs.Serving.{noting, noted_by, KeepsWatch}
-use Rattle.hwp_cpu_course.specs.hwp_cpu_row.hwp_core_rule.declared.View.{View}
-use Rattle.hwp_cpu_course.specs.hwp_cpu_command.Jobs.{told_of}
-use Rattle.hwp_cpu_course.specs.hwp_cpu_row.hwp_law_commands.Watched.{Watched, due, offlining, told}
-use Rattle.hwp_cpu_course.specs.Courses.{told_since}
-use Rattle.hwp_cpu_course.specs.Dues.{DueValue}
-use Rattle.hwp_cpu_course.specs.hwp_cpu_row.hwp_script_lines.declared.Command.{Command}
-use Rattle.hwp_cpu_course.specs.hwp_cpu_row.hwp_geom.declared.Frame.{Frame}
-use Rattle.hwp_cpu_course.specs.hwp_cpu_row.declared.Offlining.{Offlining}
-use Rattle.hwp_cpu_course.specs.hwp_cpu_row.hwp_cec.Ages.{CecEvent, Note}
-use Rattle.hwp_cpu_course.specs.hwp_cpu_row.hwp_cec.Counters.{Counters, StandsFor}
-use Rattle.hwp_cpu_course.proofs.of_hwp_cpu_row.Acts.{in-time-more}
+use Rattle.hwp_cpu_row.specs.hwp_core_rule.declared.View.{View}
+use Rattle.hwp_cpu_command_laws.specs.hwp_cpu_command.Jobs.{told_of}
+use Rattle.hwp_cpu_row.specs.hwp_law_commands.Watched.{Watched, due, offlining, told}
+use Rattle.hwp_cpu.specs.Courses.{told_since}
+use Rattle.hwp_cpu.specs.Dues.{DueValue}
+use Rattle.hwp_cpu_row.specs.hwp_script_lines.declared.Command.{Command}
+use Rattle.hwp_cpu_row.specs.hwp_geom.declared.Frame.{Frame}
+use Rattle.hwp_cpu_row.specs.declared.Offlining.{Offlining}
+use Rattle.hwp_cpu_row.specs.hwp_cec.Ages.{CecEvent, Note}
+use Rattle.hwp_cpu_row.specs.hwp_cec.Counters.{Counters, StandsFor}
+use Rattle.hwp_cpu_row.proofs.Acts.{in-time-more}
 use Rattle.hwp_cpu_causes.proofs.of_hwp_law_commands.NoteLaws.{offlining-append}
 
 -- ---- as the command goes on

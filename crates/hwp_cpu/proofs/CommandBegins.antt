@@ -1,18 +1,18 @@
 -- When the command that runs has its answer, its row is right, and the next command may begin.
-use Rattle.hwp_cpu_course.specs.hwp_cpu_row.hwp_geom.declared.Frame.{Frame}
+use Rattle.hwp_cpu_row.specs.hwp_geom.declared.Frame.{Frame}
 use Rattle.hwp_cpu_causes.specs.hwp_law_served.Handles.{KnowsNumber, answers_by, number_at}
-use Rattle.hwp_cpu_course.specs.hwp_cpu_row.hwp_script_read.Valid.{IsCommandOf}
-use Rattle.hwp_cpu_course.specs.hwp_cpu_command.Begins.{BeginsWith}
-use Rattle.hwp_cpu_course.specs.hwp_cpu_row.hwp_geom.declared.VSlot.{VSlot}
-use Rattle.hwp_cpu_course.specs.hwp_cpu_row.hwp_geom.declared.FileNo.{FileNo}
-use Rattle.hwp_cpu_course.specs.hwp_cpu_row.hwp_script_lines.declared.Command.TheVariants as commands
-use Rattle.hwp_cpu_course.specs.hwp_cpu_row.hwp_cpu_check.declared.EventOutcome.{EventOutcome}
-use Rattle.hwp_cpu_course.specs.hwp_cpu_row.hwp_law_commands.Cows.{acting}
-use Rattle.hwp_cpu_course.specs.hwp_cpu_row.CowLists.{KnowsCows, acting_in, copied_in}
-use Rattle.hwp_cpu_course.proofs.of_hwp_cpu_row.CowListLaws.{acting-known, copied-known, told-are, told-known}
-use Rattle.hwp_cpu_course.proofs.of_hwp_cpu_row.of_hwp_law_commands.CowLaws.{acting-watches}
+use Rattle.hwp_cpu_row.specs.hwp_script_read.Valid.{IsCommandOf}
+use Rattle.hwp_cpu_command_laws.specs.hwp_cpu_command.Begins.{BeginsWith}
+use Rattle.hwp_cpu_row.specs.hwp_geom.declared.VSlot.{VSlot}
+use Rattle.hwp_cpu_row.specs.hwp_geom.declared.FileNo.{FileNo}
+use Rattle.hwp_cpu_row.specs.hwp_script_lines.declared.Command.TheVariants as commands
+use Rattle.hwp_cpu_row.specs.hwp_cpu_check.declared.EventOutcome.{EventOutcome}
+use Rattle.hwp_cpu_row.specs.hwp_law_commands.Cows.{acting}
+use Rattle.hwp_cpu_row.specs.CowLists.{KnowsCows, acting_in, copied_in}
+use Rattle.hwp_cpu_row.proofs.CowListLaws.{acting-known, copied-known, told-are, told-known}
+use Rattle.hwp_cpu_row.proofs.of_hwp_law_commands.CowLaws.{acting-watches}
 use Rattle.hwp_cpu_causes.specs.hwp_law.Losses.{number_by, tells_number}
-use Rattle.hwp_cpu_course.specs.hwp_cpu_command.Runs.{CanFork, Runs}
+use Rattle.hwp_cpu_command_laws.specs.hwp_cpu_command.Runs.{CanFork, Runs}
 use Rattle.hwp_cpu.proofs.ActingFits.{at-least, fork-acted}
 use Rattle.hwp_cpu.proofs.FreshChildren.{can-fork}
 use Rattle.hwp_cpu.proofs.KnownHandles.{number-acted, tells-acted, handle-known, handles-many}
@@ -20,39 +20,39 @@ use Rattle.hwp_cpu.proofs.CourseBegins.{course-begins}
 use Rattle.std.proofs.Common.{Bool, ◌≡◌, ℕ, ◌+◌, ◌<◌, ◌≤◌, ◌⊎◌, inl, inr, List, [], ◌∷◌, ◌++◌, Option, Some, None, length, slice_get, refl, sym, ap, ◌∙◌, subst, arith, append-nil, true, filter_map}
 use Rattle.std.proofs.lemmas.List.{length-append, append_cancel_left, take_all}
 use Rattle.std.proofs.lemmas.Option.{same_Some, slice_get_within}
-use Rattle.hwp_cpu_course.specs.hwp_cpu_row.hwp_geom.declared.Cpu.{Cpu}
-use Rattle.hwp_cpu_course.specs.hwp_cpu_row.hwp_geom.declared.Layout.{Layout}
-use Rattle.hwp_cpu_course.specs.hwp_cpu_row.hwp_geom.declared.Thread.{Thread}
-use Rattle.hwp_cpu_course.specs.hwp_cpu_row.hwp_geom.declared.Who.{Who}
-use Rattle.hwp_cpu_course.specs.hwp_cpu_row.hwp_geom.Pairs.{Pairs}
-use Rattle.hwp_cpu_course.specs.hwp_cpu_row.hwp_script_lines.declared.Command.{Command}
-use Rattle.hwp_cpu_course.specs.hwp_cpu_row.hwp_cpu_check.hwp_guest.declared.Admit.{Admit}
-use Rattle.hwp_cpu_course.specs.hwp_cpu_row.hwp_report_text.declared.Answer.{Answer}
-use Rattle.hwp_cpu_course.specs.hwp_cpu_row.hwp_report_text.declared.Answer.TheVariants as answers
-use Rattle.hwp_cpu_course.specs.hwp_cpu_row.hwp_law_commands.Settings.{settings}
-use Rattle.hwp_cpu_course.specs.hwp_cpu_row.hwp_core_rule.declared.Debts.{Debts}
-use Rattle.hwp_cpu_course.specs.hwp_cpu_row.hwp_core_rule.declared.Mark.{Mark}
-use Rattle.hwp_cpu_course.specs.hwp_cpu_row.hwp_core_rule.declared.Part.{Part}
-use Rattle.hwp_cpu_course.specs.hwp_cpu_row.hwp_core_rule.declared.Setting.{Setting}
-use Rattle.hwp_cpu_course.specs.hwp_cpu_row.hwp_core_rule.declared.View.{View}
-use Rattle.hwp_cpu_course.specs.hwp_cpu_row.hwp_core_rule.Lists.{EachMember, SomeMember}
-use Rattle.hwp_cpu_course.specs.hwp_cpu_row.hwp_core_rule.Views.{no_debts}
-use Rattle.hwp_cpu_course.proofs.of_hwp_cpu_row.of_hwp_core_rule.Lists.{at_last}
-use Rattle.hwp_cpu_course.specs.hwp_cpu_row.hwp_core_task.Calls.{IsOnTurn}
-use Rattle.hwp_cpu_course.specs.hwp_cpu_row.hwp_core_task.Hands.{Hand}
-use Rattle.hwp_cpu_course.specs.hwp_cpu_row.hwp_core_task.Known.{HasMadeNone}
-use Rattle.hwp_cpu_course.specs.hwp_cpu_row.declared.Row.{Row}
-use Rattle.hwp_cpu_course.specs.hwp_cpu_row.hwp_banks.Banks.{Banks, empty_banks}
-use Rattle.hwp_cpu_course.specs.hwp_cpu_row.declared.Local.{Local}
-use Rattle.hwp_cpu_course.specs.hwp_cpu_command.declared.job.Job.{Job}
-use Rattle.hwp_cpu_course.specs.hwp_cpu_command.FileHandles.{StandsOn}
-use Rattle.hwp_cpu_course.specs.hwp_cpu_command.Jobs as jobs
-use Rattle.hwp_cpu_course.specs.hwp_cpu_command.Jobs.{banks_before, told_of}
-use Rattle.hwp_cpu_course.specs.hwp_cpu_command.Settings.{policies_in}
-use Rattle.hwp_cpu_course.specs.hwp_cpu_command.Stays.{IsAtStop, IsHalted}
-use Rattle.hwp_cpu_course.proofs.of_hwp_cpu_command.JobEnds.{ends}
-use Rattle.hwp_cpu_course.proofs.of_hwp_cpu_command_laws.CommandRuns.{before-begins, begins-fits, begins-runs, runs-who}
-use Rattle.hwp_cpu_course.proofs.of_hwp_cpu_command_laws.CommandStops.{begins-stop, has-stopped, only-stopped, untold-at-start}
+use Rattle.hwp_cpu_row.specs.hwp_geom.declared.Cpu.{Cpu}
+use Rattle.hwp_cpu_row.specs.hwp_geom.declared.Layout.{Layout}
+use Rattle.hwp_cpu_row.specs.hwp_geom.declared.Thread.{Thread}
+use Rattle.hwp_cpu_row.specs.hwp_geom.declared.Who.{Who}
+use Rattle.hwp_cpu_row.specs.hwp_geom.Pairs.{Pairs}
+use Rattle.hwp_cpu_row.specs.hwp_script_lines.declared.Command.{Command}
+use Rattle.hwp_cpu_row.specs.hwp_cpu_check.hwp_guest.declared.Admit.{Admit}
+use Rattle.hwp_cpu_row.specs.hwp_report_text.declared.Answer.{Answer}
+use Rattle.hwp_cpu_row.specs.hwp_report_text.declared.Answer.TheVariants as answers
+use Rattle.hwp_cpu_row.specs.hwp_law_commands.Settings.{settings}
+use Rattle.hwp_cpu_row.specs.hwp_core_rule.declared.Debts.{Debts}
+use Rattle.hwp_cpu_row.specs.hwp_core_rule.declared.Mark.{Mark}
+use Rattle.hwp_cpu_row.specs.hwp_core_rule.declared.Part.{Part}
+use Rattle.hwp_cpu_row.specs.hwp_core_rule.declared.Setting.{Setting}
+use Rattle.hwp_cpu_row.specs.hwp_core_rule.declared.View.{View}
+use Rattle.hwp_cpu_row.specs.hwp_core_rule.Lists.{EachMember, SomeMember}
+use Rattle.hwp_cpu_row.specs.hwp_core_rule.Views.{no_debts}
+use Rattle.hwp_cpu_row.proofs.of_hwp_core_rule.Lists.{at_last}
+use Rattle.hwp_cpu_row.specs.hwp_core_task.Calls.{IsOnTurn}
+use Rattle.hwp_cpu_row.specs.hwp_core_task.Hands.{Hand}
+use Rattle.hwp_cpu_row.specs.hwp_core_task.Known.{HasMadeNone}
+use Rattle.hwp_cpu_row.specs.declared.Row.{Row}
+use Rattle.hwp_cpu_row.specs.hwp_banks.Banks.{Banks, empty_banks}
+use Rattle.hwp_cpu_row.specs.declared.Local.{Local}
+use Rattle.hwp_cpu_command_laws.specs.hwp_cpu_command.declared.job.Job.{Job}
+use Rattle.hwp_cpu_command_laws.specs.hwp_cpu_command.FileHandles.{StandsOn}
+use Rattle.hwp_cpu_command_laws.specs.hwp_cpu_command.Jobs as jobs
+use Rattle.hwp_cpu_command_laws.specs.hwp_cpu_command.Jobs.{banks_before, told_of}
+use Rattle.hwp_cpu_command_laws.specs.hwp_cpu_command.Settings.{policies_in}
+use Rattle.hwp_cpu_command_laws.specs.hwp_cpu_command.Stays.{IsAtStop, IsHalted}
+use Rattle.hwp_cpu_command_laws.proofs.of_hwp_cpu_command.JobEnds.{ends}
+use Rattle.hwp_cpu_command_laws.proofs.CommandRuns.{before-begins, begins-fits, begins-runs, runs-who}
+use Rattle.hwp_cpu_command_laws.proofs.CommandStops.{begins-stop, has-stopped, only-stopped, untold-at-start}
 use Rattle.hwp_cpu_causes.specs.hwp_law_served.Accounts.{IsNote, own_marking, markings_in}
 use Rattle.hwp_cpu_causes.specs.hwp_law_served.Rows.{notes_from}
 use Rattle.hwp_cpu_causes.specs.hwp_law_served.Served.{CanStop, IsOneOf, IsOwnSpoil, IsOwnStop, IsRowServed, SawRunning}
@@ -68,26 +68,26 @@ use Rattle.hwp_cpu.proofs.KnownPolicies.{answers-more, counted-ends, counted-sta
 use Rattle.hwp_cpu.proofs.Revivals.{revival-left}
 use Rattle.hwp_cpu.proofs.Rows.{IsRowActed, at_front, banks-acted, past-end, rows-more, stays-more, stop-more, stopped-was}
 use Rattle.std.specs.List.{list_any, cons_option}
-use Rattle.hwp_cpu_course.specs.hwp_cpu_row.hwp_law_commands.Watched.{told, watched_after, Watched}
+use Rattle.hwp_cpu_row.specs.hwp_law_commands.Watched.{told, watched_after, Watched}
 use Rattle.hwp_cpu_causes.specs.hwp_law_served.Offlinings.{watched_at, AreDue}
-use Rattle.hwp_cpu_course.specs.hwp_cpu_row.Locals.{IsWatching, collects}
-use Rattle.hwp_cpu_course.specs.hwp_cpu_command.Done.{marked_beyond, HasCounted}
-use Rattle.hwp_cpu_course.specs.Courses.{BeginsCourse, part_of, row_of, local_after, local_left}
+use Rattle.hwp_cpu_row.specs.Locals.{IsWatching, collects}
+use Rattle.hwp_cpu_command_laws.specs.hwp_cpu_command.Done.{marked_beyond, HasCounted}
+use Rattle.hwp_cpu.specs.Courses.{BeginsCourse, part_of, row_of, local_after, local_left}
 use Rattle.hwp_cpu.proofs.Watching.{watched-more, room-stays, of-machine, has-watch, watching-ends, watch-starts, own-starts, due-more}
-use Rattle.hwp_cpu_course.specs.hwp_cpu_row.declared.Offlining.{Offlining}
-use Rattle.hwp_cpu_course.specs.hwp_cpu_row.Acts.{told_notes}
-use Rattle.hwp_cpu_course.specs.hwp_cpu_row.hwp_law_commands.Commands.{is_watch}
+use Rattle.hwp_cpu_row.specs.declared.Offlining.{Offlining}
+use Rattle.hwp_cpu_row.specs.Acts.{told_notes}
+use Rattle.hwp_cpu_row.specs.hwp_law_commands.Commands.{is_watch}
 use Rattle.hwp_cpu.proofs.GoingOn.{IsEnding}
-use Rattle.hwp_cpu_course.specs.declared.Course.{Course}
+use Rattle.hwp_cpu.specs.declared.course.Course.{Course}
 use Rattle.std.specs.Prelude.{IsSome}
-use Rattle.hwp_cpu_course.specs.hwp_cpu_row.hwp_claim_frame.Done.{Marking}
+use Rattle.hwp_cpu_row.specs.hwp_claim_frame.Done.{Marking}
 use Rattle.hwp_cpu.proofs.Marks.{by_acts}
-use Rattle.hwp_cpu_course.proofs.of_hwp_cpu_command_laws.Beside.{marked-parts}
-use Rattle.hwp_cpu_course.specs.hwp_cpu_row.hwp_cpu_check.Done.{marked_in}
-use Rattle.hwp_cpu_course.specs.hwp_cpu_command.hwp_soft.declared.Soft.{Soft}
-use Rattle.hwp_cpu_course.specs.Courses as courses
-use Rattle.hwp_cpu_course.specs.hwp_cpu_row.hwp_report_text.declared.GuestLine.{GuestLine}
-use Rattle.hwp_cpu_course.specs.hwp_cpu_row.GuestLists.{admission_in, line_in}
+use Rattle.hwp_cpu_command_laws.proofs.Beside.{marked-parts}
+use Rattle.hwp_cpu_row.specs.hwp_cpu_check.Done.{marked_in}
+use Rattle.hwp_cpu_command_laws.specs.hwp_cpu_command.hwp_soft.declared.Soft.{Soft}
+use Rattle.hwp_cpu.specs.Courses as courses
+use Rattle.hwp_cpu_row.specs.hwp_report_text.declared.GuestLine.{GuestLine}
+use Rattle.hwp_cpu_row.specs.GuestLists.{admission_in, line_in}
 
 -- ---- the turn
 

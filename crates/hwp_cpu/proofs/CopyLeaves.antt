@@ -1,16 +1,16 @@
 -- A step of a copy lists no entry by which a page left its frame beside it.
 use Rattle.std.proofs.Common.{◌≡◌, true, false, map, refl, ap}
 use Rattle.std.proofs.lemmas.Bool.{both_ways}
-use Rattle.hwp_cpu_course.specs.hwp_cpu_row.hwp_geom.declared.Layout.{Layout}
-use Rattle.hwp_cpu_course.specs.hwp_cpu_row.hwp_page.declared.What.{What}
-use Rattle.hwp_cpu_course.specs.hwp_cpu_row.hwp_page.declared.What.TheVariants as entries
-use Rattle.hwp_cpu_course.specs.hwp_cpu_row.hwp_core_rule.declared.View.{View}
-use Rattle.hwp_cpu_course.specs.hwp_cpu_row.hwp_core_task.Known.{is_failure}
-use Rattle.hwp_cpu_course.specs.hwp_cpu_command.hwp_cpu_copy.declared.Copying.{Copying}
-use Rattle.hwp_cpu_course.proofs.of_hwp_cpu_command.of_hwp_cpu_copy.CopyLists.{IsApart, copy-lists}
-use Rattle.hwp_cpu_course.specs.hwp_cpu_command.declared.job.Job.{Job}
-use Rattle.hwp_cpu_course.specs.hwp_cpu_command.declared.job.Job.TheVariants as kinds
-use Rattle.hwp_cpu_course.specs.hwp_cpu_command.Stays.{Stepped}
+use Rattle.hwp_cpu_row.specs.hwp_geom.declared.Layout.{Layout}
+use Rattle.hwp_cpu_row.specs.hwp_page.declared.What.{What}
+use Rattle.hwp_cpu_row.specs.hwp_page.declared.What.TheVariants as entries
+use Rattle.hwp_cpu_row.specs.hwp_core_rule.declared.View.{View}
+use Rattle.hwp_cpu_row.specs.hwp_core_task.Known.{is_failure}
+use Rattle.hwp_cpu_command_laws.specs.hwp_cpu_command.hwp_cpu_copy.declared.Copying.{Copying}
+use Rattle.hwp_cpu_command_laws.proofs.of_hwp_cpu_command.of_hwp_cpu_copy.CopyLists.{IsApart, copy-lists}
+use Rattle.hwp_cpu_command_laws.specs.hwp_cpu_command.declared.job.Job.{Job}
+use Rattle.hwp_cpu_command_laws.specs.hwp_cpu_command.declared.job.Job.TheVariants as kinds
+use Rattle.hwp_cpu_command_laws.specs.hwp_cpu_command.Stays.{Stepped}
 use Rattle.hwp_cpu_causes.specs.hwp_law.Pairings.{is_soft}
 use Rattle.hwp_cpu_causes.specs.hwp_law_served.Offlinings.{left_by, place_of}
 

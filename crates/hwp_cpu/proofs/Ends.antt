@@ -4,21 +4,21 @@ use Rattle.std.proofs.Common.{◌≡◌, ℕ, ◌<◌, ◌≤◌, ◌⊎◌, inl
 use Rattle.std.proofs.lemmas.Bool.{cases_lt}
 use Rattle.std.proofs.lemmas.List.{get_or_past, length-map}
 use Rattle.std.proofs.lemmas.Option.{get_or_from_slice_get}
-use Rattle.hwp_cpu_course.specs.hwp_cpu_row.hwp_geom.declared.Cpu.{Cpu}
-use Rattle.hwp_cpu_course.specs.hwp_cpu_row.hwp_geom.declared.Layout.{Layout}
-use Rattle.hwp_cpu_course.specs.hwp_cpu_row.hwp_page.History.{BodyValue}
-use Rattle.hwp_cpu_course.specs.hwp_cpu_row.hwp_script_lines.declared.Command.{Command}
-use Rattle.hwp_cpu_course.specs.hwp_cpu_row.hwp_report_text.declared.Answer.{Answer}
-use Rattle.hwp_cpu_course.specs.hwp_cpu_row.declared.Row.{Row}
-use Rattle.hwp_cpu_course.specs.hwp_cpu_row.declared.Local.{Local}
-use Rattle.hwp_cpu_course.specs.hwp_cpu_row.hwp_core_rule.declared.State.{State}
-use Rattle.hwp_cpu_course.specs.hwp_cpu_row.hwp_core_rule.declared.View.{View}
-use Rattle.hwp_cpu_course.specs.hwp_cpu_row.hwp_core_rule.Opening.{below, opening, opening_view}
-use Rattle.hwp_cpu_course.specs.hwp_cpu_row.hwp_core_rule.Rule.{Holds}
-use Rattle.hwp_cpu_course.proofs.of_hwp_cpu_row.of_hwp_core_rule.Lists.{at_map}
-use Rattle.hwp_cpu_course.proofs.of_hwp_cpu_row.of_hwp_core_rule.WordsOpen.{below-at, length-below}
-use Rattle.hwp_cpu_course.specs.hwp_cpu_row.hwp_core_task.declared.Turn.{Turn}
-use Rattle.hwp_cpu_course.specs.hwp_cpu_row.hwp_core_task.Boards.{AreSeated, view_of}
+use Rattle.hwp_cpu_row.specs.hwp_geom.declared.Cpu.{Cpu}
+use Rattle.hwp_cpu_row.specs.hwp_geom.declared.Layout.{Layout}
+use Rattle.hwp_cpu_row.specs.hwp_page.History.{BodyValue}
+use Rattle.hwp_cpu_row.specs.hwp_script_lines.declared.Command.{Command}
+use Rattle.hwp_cpu_row.specs.hwp_report_text.declared.Answer.{Answer}
+use Rattle.hwp_cpu_row.specs.declared.Row.{Row}
+use Rattle.hwp_cpu_row.specs.declared.Local.{Local}
+use Rattle.hwp_cpu_row.specs.hwp_core_rule.declared.State.{State}
+use Rattle.hwp_cpu_row.specs.hwp_core_rule.declared.View.{View}
+use Rattle.hwp_cpu_row.specs.hwp_core_rule.Opening.{below, opening, opening_view}
+use Rattle.hwp_cpu_row.specs.hwp_core_rule.Rule.{Holds}
+use Rattle.hwp_cpu_row.proofs.of_hwp_core_rule.Lists.{at_map}
+use Rattle.hwp_cpu_row.proofs.of_hwp_core_rule.WordsOpen.{below-at, length-below}
+use Rattle.hwp_cpu_row.specs.hwp_core_task.declared.Turn.{Turn}
+use Rattle.hwp_cpu_row.specs.hwp_core_task.Boards.{AreSeated, view_of}
 use Rattle.hwp_cpu_causes.specs.hwp_law_served.Served.{HasServed}
 use Rattle.hwp_cpu.specs.declared.processor.Processor.{Processor}
 use Rattle.hwp_cpu.specs.Processors.{AreCommands, AtBeginning, Follows, Next, NextOf, bare, who}
@@ -26,13 +26,13 @@ use Rattle.hwp_cpu.specs.Serving.{Fits, FitsAt, KeepsGuests}
 use Rattle.hwp_cpu.proofs.ProcessorOpens.{begun}
 use Rattle.hwp_cpu.proofs.ProcessorServes.{served}
 use Rattle.hwp_cpu.proofs.ProcessorLaws.{own-cpu}
-use Rattle.hwp_cpu_course.specs.declared.Course.{Course}
+use Rattle.hwp_cpu.specs.declared.course.Course.{Course}
 use Rattle.hwp_cpu_causes.specs.hwp_law_served.hwp_soft.declared.soft.SoftAt.TheVariants as at
-use Rattle.hwp_cpu_course.specs.Courses as courses
-use Rattle.hwp_cpu_course.specs.hwp_cpu_row.hwp_geom.Layout.{IsSound}
+use Rattle.hwp_cpu.specs.Courses as courses
+use Rattle.hwp_cpu_row.specs.hwp_geom.Layout.{IsSound}
 use Rattle.hwp_cpu.proofs.GuestsKept.{guests-begun}
 use Rattle.std.specs.List.{list_any}
-use Rattle.hwp_cpu_course.specs.hwp_cpu_row.hwp_law_commands.Commands.{is_watch}
+use Rattle.hwp_cpu_row.specs.hwp_law_commands.Commands.{is_watch}
 
 -- ---- the beginning
 

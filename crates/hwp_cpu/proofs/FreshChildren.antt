@@ -1,7 +1,7 @@
 -- Where a fork begins, no thread of the child has set a policy, each is one of the processor, and none is the one that forks.
 use Rattle.std.specs.Prelude.{IsSomeAnd}
-use Rattle.hwp_cpu_course.specs.hwp_cpu_command.hwp_kill.Prctl.{policy_set}
-use Rattle.hwp_cpu_course.specs.hwp_cpu_row.hwp_law_commands.Settings.{arguments, last_policy, set_after, set_behind, setting_of, settings, unset}
+use Rattle.hwp_cpu_command_laws.specs.hwp_cpu_command.hwp_kill.Prctl.{policy_set}
+use Rattle.hwp_cpu_row.specs.hwp_law_commands.Settings.{arguments, last_policy, set_after, set_behind, setting_of, settings, unset}
 use Rattle.std.proofs.Common.{◌≡◌, ◌≢◌, ℕ, zero, suc, ◌+◌, ◌<◌, ◌≤◌, ◌==◌, ◌&&◌, ◌||◌, not, Bool, true, false, cond, true≢false, List, [], ◌∷◌, ◌++◌, Option, Some, None, length, map, slice_get, take, count_by, append-nil, refl, sym, ap, ◌∙◌, subst, arith}
 use Rattle.std.specs.List.{cons_option, list_any, zip}
 use Rattle.std.specs.Option.{option_map_or}
@@ -9,26 +9,26 @@ use Rattle.std.proofs.lemmas.Bool.{eq-eqb, eqb-true, not-false}
 use Rattle.std.proofs.lemmas.List.{length-map, nil_from_length}
 use Rattle.std.proofs.lemmas.List.Sums.{sum_by-cons}
 use Rattle.std.proofs.lemmas.Option.{none-some, same_Some}
-use Rattle.hwp_cpu_course.specs.hwp_cpu_row.hwp_geom.declared.Cpu.{Cpu}
-use Rattle.hwp_cpu_course.specs.hwp_cpu_row.hwp_geom.declared.Layout.{Layout}
-use Rattle.hwp_cpu_course.specs.hwp_cpu_row.hwp_geom.declared.Proc.{Proc}
-use Rattle.hwp_cpu_course.specs.hwp_cpu_row.hwp_geom.declared.Thread.{Thread}
-use Rattle.hwp_cpu_course.specs.hwp_cpu_row.hwp_geom.declared.ThreadDecl.{ThreadDecl}
-use Rattle.hwp_cpu_course.specs.hwp_cpu_row.hwp_geom.declared.Who.{Who}
-use Rattle.hwp_cpu_course.specs.hwp_cpu_command.hwp_kill.declared.Policy.{Policy}
-use Rattle.hwp_cpu_course.specs.hwp_cpu_row.hwp_script_lines.declared.Command.{Command}
-use Rattle.hwp_cpu_course.specs.hwp_cpu_row.hwp_script_lines.declared.Command.TheVariants as commands
-use Rattle.hwp_cpu_course.specs.hwp_cpu_row.hwp_script_read.Forks.{cannot_share, is_away, is_fork_of, is_thread_of, is_used_by, is_wrong_child}
-use Rattle.hwp_cpu_course.specs.hwp_cpu_row.hwp_script_read.Valid.{AreForksFit, IsCommandOf}
-use Rattle.hwp_cpu_course.specs.hwp_cpu_row.hwp_report_text.declared.Answer.{Answer}
-use Rattle.hwp_cpu_course.specs.hwp_cpu_row.hwp_report_text.declared.Answer.TheVariants as answers
-use Rattle.hwp_cpu_course.proofs.of_hwp_cpu_row.of_hwp_law_commands.CowLaws.{both-false}
-use Rattle.hwp_cpu_course.specs.hwp_cpu_row.hwp_core_rule.declared.Setting.{Setting}
-use Rattle.hwp_cpu_course.specs.hwp_cpu_row.hwp_core_rule.declared.View.{View}
-use Rattle.hwp_cpu_course.specs.hwp_cpu_row.hwp_core_rule.parts.Policies.{settings_of}
-use Rattle.hwp_cpu_course.specs.hwp_cpu_row.declared.Row.{Row}
-use Rattle.hwp_cpu_course.specs.hwp_cpu_command.Runs.{CanFork, IsFresh}
-use Rattle.hwp_cpu_course.specs.hwp_cpu_command.Settings.{policies_in}
+use Rattle.hwp_cpu_row.specs.hwp_geom.declared.Cpu.{Cpu}
+use Rattle.hwp_cpu_row.specs.hwp_geom.declared.Layout.{Layout}
+use Rattle.hwp_cpu_row.specs.hwp_geom.declared.Proc.{Proc}
+use Rattle.hwp_cpu_row.specs.hwp_geom.declared.Thread.{Thread}
+use Rattle.hwp_cpu_row.specs.hwp_geom.declared.ThreadDecl.{ThreadDecl}
+use Rattle.hwp_cpu_row.specs.hwp_geom.declared.Who.{Who}
+use Rattle.hwp_cpu_command_laws.specs.hwp_cpu_command.hwp_kill.declared.Policy.{Policy}
+use Rattle.hwp_cpu_row.specs.hwp_script_lines.declared.Command.{Command}
+use Rattle.hwp_cpu_row.specs.hwp_script_lines.declared.Command.TheVariants as commands
+use Rattle.hwp_cpu_row.specs.hwp_script_read.Forks.{cannot_share, is_away, is_fork_of, is_thread_of, is_used_by, is_wrong_child}
+use Rattle.hwp_cpu_row.specs.hwp_script_read.Valid.{AreForksFit, IsCommandOf}
+use Rattle.hwp_cpu_row.specs.hwp_report_text.declared.Answer.{Answer}
+use Rattle.hwp_cpu_row.specs.hwp_report_text.declared.Answer.TheVariants as answers
+use Rattle.hwp_cpu_row.proofs.of_hwp_law_commands.CowLaws.{both-false}
+use Rattle.hwp_cpu_row.specs.hwp_core_rule.declared.Setting.{Setting}
+use Rattle.hwp_cpu_row.specs.hwp_core_rule.declared.View.{View}
+use Rattle.hwp_cpu_row.specs.hwp_core_rule.parts.Policies.{settings_of}
+use Rattle.hwp_cpu_row.specs.declared.Row.{Row}
+use Rattle.hwp_cpu_command_laws.specs.hwp_cpu_command.Runs.{CanFork, IsFresh}
+use Rattle.hwp_cpu_command_laws.specs.hwp_cpu_command.Settings.{policies_in}
 use Rattle.hwp_cpu_causes.specs.hwp_law_served.Handles.{answers_by}
 use Rattle.hwp_cpu.specs.Processors.{AreForkedOnce, at_number}
 

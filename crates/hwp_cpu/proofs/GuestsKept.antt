@@ -3,37 +3,37 @@ use Rattle.std.proofs.Common.{◌≡◌, ℕ, ◌+◌, ◌<◌, Bool, List, [], 
 use Rattle.std.specs.List.{cons_option}
 use Rattle.std.proofs.lemmas.List.{length-append}
 use Rattle.std.proofs.lemmas.Option.{none-some, same_Some}
-use Rattle.hwp_cpu_course.specs.hwp_cpu_row.hwp_geom.declared.Cpu.{Cpu}
-use Rattle.hwp_cpu_course.specs.hwp_cpu_row.hwp_geom.declared.Layout.{Layout}
-use Rattle.hwp_cpu_course.specs.hwp_cpu_row.hwp_geom.declared.Who.{Who}
-use Rattle.hwp_cpu_course.specs.hwp_cpu_row.hwp_geom.Layout.{IsSound}
-use Rattle.hwp_cpu_course.specs.hwp_cpu_row.hwp_page.declared.At.{At}
-use Rattle.hwp_cpu_course.specs.hwp_cpu_row.hwp_page.History.{BodyValue}
-use Rattle.hwp_cpu_course.specs.hwp_cpu_row.hwp_core_task.declared.Turn.{Turn}
-use Rattle.hwp_cpu_course.specs.hwp_cpu_row.hwp_script_lines.declared.Command.{Command}
-use Rattle.hwp_cpu_course.specs.hwp_cpu_row.hwp_script_read.Valid.{IsCommandOf}
-use Rattle.hwp_cpu_course.specs.hwp_cpu_row.hwp_report_text.declared.Answer.{Answer}
-use Rattle.hwp_cpu_course.specs.hwp_cpu_row.hwp_report_text.declared.Answer.TheVariants as answers
-use Rattle.hwp_cpu_course.specs.hwp_cpu_row.hwp_core_rule.declared.View.{View}
-use Rattle.hwp_cpu_course.specs.hwp_cpu_row.hwp_core_task.Known.{HasMadeNone}
-use Rattle.hwp_cpu_course.specs.hwp_cpu_row.hwp_law_commands.declared.GuestAccess.{GuestAccess}
-use Rattle.hwp_cpu_course.specs.hwp_cpu_row.hwp_law_commands.Guests.{denied, guest_access, guest_line, guest_lines}
-use Rattle.hwp_cpu_course.specs.hwp_cpu_row.declared.Local.{Local}
-use Rattle.hwp_cpu_course.specs.hwp_cpu_row.declared.Row.{Row}
-use Rattle.hwp_cpu_course.specs.hwp_cpu_row.CowLists.{acting_in, copied_in}
-use Rattle.hwp_cpu_course.specs.hwp_cpu_row.GuestLists as lists
-use Rattle.hwp_cpu_course.specs.hwp_cpu_row.GuestLists.{AreGuestsOf, MayTell, States, admission_in, first_guests, line_in}
-use Rattle.hwp_cpu_course.specs.hwp_cpu_row.Locals.{IsFirst, collects}
-use Rattle.hwp_cpu_course.proofs.of_hwp_cpu_row.GuestListLaws.{denied-known, first-are, first-known, may-take, may-tell, told-are, told-known}
-use Rattle.hwp_cpu_course.specs.hwp_cpu_command.declared.job.Job.{Job}
-use Rattle.hwp_cpu_course.specs.hwp_cpu_command.Jobs as jobs
-use Rattle.hwp_cpu_course.specs.hwp_cpu_command.Jobs.{denial_of}
-use Rattle.hwp_cpu_course.proofs.of_hwp_cpu_command_laws.CommandRuns.{has-begun}
-use Rattle.hwp_cpu_course.proofs.of_hwp_cpu_command_laws.DeniedAnswers.{IsGone, says-denied, says-plain, unsignalled, untold-denied}
-use Rattle.hwp_cpu_course.specs.declared.Course.{Course}
-use Rattle.hwp_cpu_course.specs.Courses as courses
-use Rattle.hwp_cpu_course.specs.Courses.{answer_of, local_after, row_of}
-use Rattle.hwp_cpu_course.specs.hwp_cpu_command.hwp_soft.declared.Soft.{Soft}
+use Rattle.hwp_cpu_row.specs.hwp_geom.declared.Cpu.{Cpu}
+use Rattle.hwp_cpu_row.specs.hwp_geom.declared.Layout.{Layout}
+use Rattle.hwp_cpu_row.specs.hwp_geom.declared.Who.{Who}
+use Rattle.hwp_cpu_row.specs.hwp_geom.Layout.{IsSound}
+use Rattle.hwp_cpu_row.specs.hwp_page.declared.At.{At}
+use Rattle.hwp_cpu_row.specs.hwp_page.History.{BodyValue}
+use Rattle.hwp_cpu_row.specs.hwp_core_task.declared.Turn.{Turn}
+use Rattle.hwp_cpu_row.specs.hwp_script_lines.declared.Command.{Command}
+use Rattle.hwp_cpu_row.specs.hwp_script_read.Valid.{IsCommandOf}
+use Rattle.hwp_cpu_row.specs.hwp_report_text.declared.Answer.{Answer}
+use Rattle.hwp_cpu_row.specs.hwp_report_text.declared.Answer.TheVariants as answers
+use Rattle.hwp_cpu_row.specs.hwp_core_rule.declared.View.{View}
+use Rattle.hwp_cpu_row.specs.hwp_core_task.Known.{HasMadeNone}
+use Rattle.hwp_cpu_row.specs.hwp_law_commands.declared.GuestAccess.{GuestAccess}
+use Rattle.hwp_cpu_row.specs.hwp_law_commands.Guests.{denied, guest_access, guest_line, guest_lines}
+use Rattle.hwp_cpu_row.specs.declared.Local.{Local}
+use Rattle.hwp_cpu_row.specs.declared.Row.{Row}
+use Rattle.hwp_cpu_row.specs.CowLists.{acting_in, copied_in}
+use Rattle.hwp_cpu_row.specs.GuestLists as lists
+use Rattle.hwp_cpu_row.specs.GuestLists.{AreGuestsOf, MayTell, States, admission_in, first_guests, line_in}
+use Rattle.hwp_cpu_row.specs.Locals.{IsFirst, collects}
+use Rattle.hwp_cpu_row.proofs.GuestListLaws.{denied-known, first-are, first-known, may-take, may-tell, told-are, told-known}
+use Rattle.hwp_cpu_command_laws.specs.hwp_cpu_command.declared.job.Job.{Job}
+use Rattle.hwp_cpu_command_laws.specs.hwp_cpu_command.Jobs as jobs
+use Rattle.hwp_cpu_command_laws.specs.hwp_cpu_command.Jobs.{denial_of}
+use Rattle.hwp_cpu_command_laws.proofs.CommandRuns.{has-begun}
+use Rattle.hwp_cpu_command_laws.proofs.DeniedAnswers.{IsGone, says-denied, says-plain, unsignalled, untold-denied}
+use Rattle.hwp_cpu.specs.declared.course.Course.{Course}
+use Rattle.hwp_cpu.specs.Courses as courses
+use Rattle.hwp_cpu.specs.Courses.{answer_of, local_after, row_of}
+use Rattle.hwp_cpu_command_laws.specs.hwp_cpu_command.hwp_soft.declared.Soft.{Soft}
 use Rattle.hwp_cpu_causes.specs.hwp_law_served.Guests.{IsDeniedRow, IsGuestRow, KnowsGuests, SaysGone}
 use Rattle.hwp_cpu_causes.specs.hwp_law_served.Handles.{answers_by}
 use Rattle.hwp_cpu_causes.specs.hwp_law_served.Rows.{guest_at}

@@ -6,33 +6,33 @@ use Rattle.std.proofs.lemmas.Bool.{eq-eqb, ne_eqb}
 use Rattle.std.proofs.lemmas.List.{length-map, map-append}
 use Rattle.std.proofs.lemmas.List.Elements.{filter-append, filter_map-append}
 use Rattle.std.proofs.lemmas.Option.{none-some, same_Some}
-use Rattle.hwp_cpu_course.specs.hwp_cpu_row.hwp_geom.declared.Layout.{Layout}
-use Rattle.hwp_cpu_course.specs.hwp_cpu_row.hwp_geom.declared.Proc.{Proc}
-use Rattle.hwp_cpu_course.specs.hwp_cpu_row.hwp_geom.declared.Thread.{Thread}
-use Rattle.hwp_cpu_course.specs.hwp_cpu_row.hwp_geom.declared.ThreadDecl.{ThreadDecl}
-use Rattle.hwp_cpu_course.specs.hwp_cpu_row.hwp_geom.Limits.{command_limit}
-use Rattle.hwp_cpu_course.specs.hwp_cpu_command.hwp_kill.declared.Policy.{Policy}
-use Rattle.hwp_cpu_course.specs.hwp_cpu_command.hwp_kill.Prctl.{policy_set}
-use Rattle.hwp_cpu_course.specs.hwp_cpu_row.hwp_script_lines.declared.Command.{Command}
-use Rattle.hwp_cpu_course.specs.hwp_cpu_row.hwp_script_lines.declared.Command.TheVariants as commands
-use Rattle.hwp_cpu_course.specs.hwp_cpu_row.hwp_report_text.declared.Answer.{Answer}
-use Rattle.hwp_cpu_course.specs.hwp_cpu_row.hwp_report_text.declared.Answer.TheVariants as answers
-use Rattle.hwp_cpu_course.specs.hwp_cpu_row.hwp_law_commands.Cows.{acting}
-use Rattle.hwp_cpu_course.specs.hwp_cpu_row.hwp_law_commands.Settings.{arguments, last_policy, set_behind, setting_of, settings, unset}
-use Rattle.hwp_cpu_course.proofs.of_hwp_cpu_row.of_hwp_law_commands.CowLaws.{acting-sets}
-use Rattle.hwp_cpu_course.proofs.of_hwp_cpu_row.of_hwp_law_commands.SettingLaws.{settings-few, settings-more}
-use Rattle.hwp_cpu_course.specs.hwp_cpu_row.hwp_core_rule.declared.Setting.{Setting}
-use Rattle.hwp_cpu_course.specs.hwp_cpu_row.hwp_core_rule.declared.View.{View}
-use Rattle.hwp_cpu_course.specs.hwp_cpu_row.hwp_core_rule.parts.Policies.{settings_of}
-use Rattle.hwp_cpu_course.specs.hwp_cpu_row.hwp_claim_frame.Done.{Grows}
-use Rattle.hwp_cpu_course.specs.hwp_cpu_row.declared.Row.{Row}
-use Rattle.hwp_cpu_course.specs.hwp_cpu_command.hwp_cpu_control.Forks.{threads_of}
-use Rattle.hwp_cpu_course.specs.hwp_cpu_command.hwp_cpu_control.Prctls.{HasSettingLeft}
-use Rattle.hwp_cpu_course.specs.hwp_cpu_command.declared.job.Job.{Job}
-use Rattle.hwp_cpu_course.specs.hwp_cpu_command.Jobs.{who}
-use Rattle.hwp_cpu_course.specs.hwp_cpu_command.Settings.{AreCounted, of_thread, policies_in, policies_now, set_now}
-use Rattle.hwp_cpu_course.specs.hwp_cpu_command.Stays.{IsAtStop, Stepped}
-use Rattle.hwp_cpu_course.proofs.of_hwp_cpu_command_laws.CommandDeeds.{done, unset-policies-at-start}
+use Rattle.hwp_cpu_row.specs.hwp_geom.declared.Layout.{Layout}
+use Rattle.hwp_cpu_row.specs.hwp_geom.declared.Proc.{Proc}
+use Rattle.hwp_cpu_row.specs.hwp_geom.declared.Thread.{Thread}
+use Rattle.hwp_cpu_row.specs.hwp_geom.declared.ThreadDecl.{ThreadDecl}
+use Rattle.hwp_cpu_row.specs.hwp_geom.Limits.{command_limit}
+use Rattle.hwp_cpu_command_laws.specs.hwp_cpu_command.hwp_kill.declared.Policy.{Policy}
+use Rattle.hwp_cpu_command_laws.specs.hwp_cpu_command.hwp_kill.Prctl.{policy_set}
+use Rattle.hwp_cpu_row.specs.hwp_script_lines.declared.Command.{Command}
+use Rattle.hwp_cpu_row.specs.hwp_script_lines.declared.Command.TheVariants as commands
+use Rattle.hwp_cpu_row.specs.hwp_report_text.declared.Answer.{Answer}
+use Rattle.hwp_cpu_row.specs.hwp_report_text.declared.Answer.TheVariants as answers
+use Rattle.hwp_cpu_row.specs.hwp_law_commands.Cows.{acting}
+use Rattle.hwp_cpu_row.specs.hwp_law_commands.Settings.{arguments, last_policy, set_behind, setting_of, settings, unset}
+use Rattle.hwp_cpu_row.proofs.of_hwp_law_commands.CowLaws.{acting-sets}
+use Rattle.hwp_cpu_row.proofs.of_hwp_law_commands.SettingLaws.{settings-few, settings-more}
+use Rattle.hwp_cpu_row.specs.hwp_core_rule.declared.Setting.{Setting}
+use Rattle.hwp_cpu_row.specs.hwp_core_rule.declared.View.{View}
+use Rattle.hwp_cpu_row.specs.hwp_core_rule.parts.Policies.{settings_of}
+use Rattle.hwp_cpu_row.specs.hwp_claim_frame.Done.{Grows}
+use Rattle.hwp_cpu_row.specs.declared.Row.{Row}
+use Rattle.hwp_cpu_command_laws.specs.hwp_cpu_command.hwp_cpu_control.Forks.{threads_of}
+use Rattle.hwp_cpu_command_laws.specs.hwp_cpu_command.hwp_cpu_control.Prctls.{HasSettingLeft}
+use Rattle.hwp_cpu_command_laws.specs.hwp_cpu_command.declared.job.Job.{Job}
+use Rattle.hwp_cpu_command_laws.specs.hwp_cpu_command.Jobs.{who}
+use Rattle.hwp_cpu_command_laws.specs.hwp_cpu_command.Settings.{AreCounted, of_thread, policies_in, policies_now, set_now}
+use Rattle.hwp_cpu_command_laws.specs.hwp_cpu_command.Stays.{IsAtStop, Stepped}
+use Rattle.hwp_cpu_command_laws.proofs.CommandDeeds.{done, unset-policies-at-start}
 use Rattle.hwp_cpu_causes.specs.hwp_law_served.Accounts.{set_by, set_for}
 use Rattle.hwp_cpu_causes.specs.hwp_law_served.Handles.{answers_by}
 

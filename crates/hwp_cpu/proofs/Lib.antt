@@ -1,3 +1,14 @@
+pub mod CourseCollects
+pub mod DueLaws
+pub mod SoftMade
+pub mod CopyRests
+pub mod PartBegins
+pub mod RestLaws
+pub mod ToldSince
+pub mod CourseLaws
+pub mod RestCosts
+pub mod PauseOwns
+pub mod CourseCosts
 pub mod Rows
 pub mod KnownHandles
 pub mod KnownPolicies

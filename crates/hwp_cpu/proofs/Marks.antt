@@ -1,35 +1,35 @@
 -- What a command has marked so far: as its own task goes on, as a frame is taken out of use beside it, and where that is done.
-use Rattle.hwp_cpu_course.specs.hwp_cpu_row.hwp_core_task.declared.Turn.{Turn}
-use Rattle.hwp_cpu_course.specs.hwp_cpu_row.hwp_page.History.{BodyValue}
+use Rattle.hwp_cpu_row.specs.hwp_core_task.declared.Turn.{Turn}
+use Rattle.hwp_cpu_row.specs.hwp_page.History.{BodyValue}
 use Rattle.std.proofs.Common.{◌≡◌, inl, inr, ℕ, List, [], ◌∷◌, ◌++◌, Option, Some, None, filter_map, length, map, append_assoc, append-nil, refl, sym, ap, ◌∙◌}
 use Rattle.std.specs.List.{cons_option}
 use Rattle.std.proofs.lemmas.List.{append_cancel_left}
 use Rattle.std.proofs.lemmas.List.Elements.{filter_map-append}
-use Rattle.hwp_cpu_course.specs.hwp_cpu_row.hwp_geom.declared.Frame.{Frame}
-use Rattle.hwp_cpu_course.specs.hwp_cpu_row.hwp_geom.declared.Layout.{Layout}
-use Rattle.hwp_cpu_course.specs.hwp_cpu_row.hwp_geom.declared.Who.{Who}
-use Rattle.hwp_cpu_course.specs.hwp_cpu_row.hwp_core_rule.declared.Mark.{Mark}
-use Rattle.hwp_cpu_course.specs.hwp_cpu_row.hwp_claim_frame.Done.{Grows, Marking, marking_of}
-use Rattle.hwp_cpu_course.specs.hwp_cpu_row.hwp_cpu_check.declared.EventOutcome.{EventOutcome}
-use Rattle.hwp_cpu_course.specs.hwp_cpu_row.hwp_cpu_check.Done.{marked_in}
-use Rattle.hwp_cpu_course.specs.hwp_cpu_row.declared.Offlining.{Offlining}
-use Rattle.hwp_cpu_course.specs.hwp_cpu_row.Acts.{AreInTime, Offlined, Told, acts}
-use Rattle.hwp_cpu_course.proofs.of_hwp_cpu_row.Acts.{acts-offlined, acts-told}
-use Rattle.hwp_cpu_course.specs.hwp_cpu_command.declared.Job.{Job}
-use Rattle.hwp_cpu_course.specs.hwp_cpu_command.declared.job.Job.TheVariants as kinds
-use Rattle.hwp_cpu_course.specs.hwp_cpu_command.Done.{marked_beyond, marked_now}
-use Rattle.hwp_cpu_course.specs.hwp_cpu_command.Jobs.{Next, bare, offlined_by, told_of}
-use Rattle.hwp_cpu_course.specs.hwp_cpu_command.hwp_soft.declared.Soft.{Soft}
-use Rattle.hwp_cpu_course.specs.hwp_cpu_command.hwp_soft.declared.SoftAnswer.{SoftAnswer}
-use Rattle.hwp_cpu_course.specs.hwp_cpu_command.hwp_soft.declared.SoftAnswer.TheVariants as soft_answers
-use Rattle.hwp_cpu_course.specs.hwp_cpu_command.hwp_soft.declared.soft.SoftAt.TheVariants as soft_at
-use Rattle.hwp_cpu_course.specs.hwp_cpu_command.hwp_soft.Done as soft_done
-use Rattle.hwp_cpu_course.specs.hwp_cpu_command.hwp_soft.Softs as softs
-use Rattle.hwp_cpu_course.proofs.of_hwp_cpu_command.JobEnds.{soft-over}
-use Rattle.hwp_cpu_course.proofs.of_hwp_cpu_command_laws.Beside.{marked-parts}
-use Rattle.hwp_cpu_course.proofs.of_hwp_cpu_command_laws.ToldGrows.{told-longer}
-use Rattle.hwp_cpu_course.specs.declared.Course.{Course}
-use Rattle.hwp_cpu_course.specs.Courses.{offlining, with_result}
+use Rattle.hwp_cpu_row.specs.hwp_geom.declared.Frame.{Frame}
+use Rattle.hwp_cpu_row.specs.hwp_geom.declared.Layout.{Layout}
+use Rattle.hwp_cpu_row.specs.hwp_geom.declared.Who.{Who}
+use Rattle.hwp_cpu_row.specs.hwp_core_rule.declared.Mark.{Mark}
+use Rattle.hwp_cpu_row.specs.hwp_claim_frame.Done.{Grows, Marking, marking_of}
+use Rattle.hwp_cpu_row.specs.hwp_cpu_check.declared.EventOutcome.{EventOutcome}
+use Rattle.hwp_cpu_row.specs.hwp_cpu_check.Done.{marked_in}
+use Rattle.hwp_cpu_row.specs.declared.Offlining.{Offlining}
+use Rattle.hwp_cpu_row.specs.Acts.{AreInTime, Offlined, Told, acts}
+use Rattle.hwp_cpu_row.proofs.Acts.{acts-offlined, acts-told}
+use Rattle.hwp_cpu_command_laws.specs.hwp_cpu_command.declared.Job.{Job}
+use Rattle.hwp_cpu_command_laws.specs.hwp_cpu_command.declared.job.Job.TheVariants as kinds
+use Rattle.hwp_cpu_command_laws.specs.hwp_cpu_command.Done.{marked_beyond, marked_now}
+use Rattle.hwp_cpu_command_laws.specs.hwp_cpu_command.Jobs.{Next, bare, offlined_by, told_of}
+use Rattle.hwp_cpu_command_laws.specs.hwp_cpu_command.hwp_soft.declared.Soft.{Soft}
+use Rattle.hwp_cpu_command_laws.specs.hwp_cpu_command.hwp_soft.declared.SoftAnswer.{SoftAnswer}
+use Rattle.hwp_cpu_command_laws.specs.hwp_cpu_command.hwp_soft.declared.SoftAnswer.TheVariants as soft_answers
+use Rattle.hwp_cpu_command_laws.specs.hwp_cpu_command.hwp_soft.declared.soft.SoftAt.TheVariants as soft_at
+use Rattle.hwp_cpu_command_laws.specs.hwp_cpu_command.hwp_soft.Done as soft_done
+use Rattle.hwp_cpu_command_laws.specs.hwp_cpu_command.hwp_soft.Softs as softs
+use Rattle.hwp_cpu_command_laws.proofs.of_hwp_cpu_command.JobEnds.{soft-over}
+use Rattle.hwp_cpu_command_laws.proofs.Beside.{marked-parts}
+use Rattle.hwp_cpu_command_laws.proofs.ToldGrows.{told-longer}
+use Rattle.hwp_cpu.specs.declared.course.Course.{Course}
+use Rattle.hwp_cpu.specs.Courses.{offlining, with_result}
 use Rattle.hwp_cpu_causes.specs.hwp_law_served.Accounts.{act_marking, own_marking}
 use Rattle.hwp_cpu.specs.Serving.{marked_beside, marked_so_far}
 

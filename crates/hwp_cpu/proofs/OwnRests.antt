@@ -1,64 +1,64 @@
 -- The command's own task goes on, pauses behind a machine check, or has its answer.
-use Rattle.hwp_cpu_course.specs.hwp_cpu_command.hwp_cpu_copy.declared.Copying.{Copying}
-use Rattle.hwp_cpu_course.specs.hwp_cpu_command.hwp_cpu_copy.Copyings as copyings
-use Rattle.hwp_cpu_course.specs.hwp_cpu_command.hwp_cpu_copy.Fits as copying_fits
-use Rattle.hwp_cpu_course.specs.hwp_cpu_command.hwp_fault.declared.Request.{Request}
-use Rattle.hwp_cpu_course.proofs.of_hwp_cpu_command.of_hwp_cpu_copy.CopyResting as copy-resting
-use Rattle.hwp_cpu_course.proofs.of_hwp_cpu_command.of_hwp_cpu_copy.CopyLaws.{own-after}
+use Rattle.hwp_cpu_command_laws.specs.hwp_cpu_command.hwp_cpu_copy.declared.Copying.{Copying}
+use Rattle.hwp_cpu_command_laws.specs.hwp_cpu_command.hwp_cpu_copy.Copyings as copyings
+use Rattle.hwp_cpu_command_laws.specs.hwp_cpu_command.hwp_cpu_copy.Fits as copying_fits
+use Rattle.hwp_cpu_command_laws.specs.hwp_cpu_command.hwp_fault.declared.Request.{Request}
+use Rattle.hwp_cpu_command_laws.proofs.of_hwp_cpu_command.of_hwp_cpu_copy.CopyResting as copy-resting
+use Rattle.hwp_cpu_command_laws.proofs.of_hwp_cpu_command.of_hwp_cpu_copy.CopyLaws.{own-after}
 use Rattle.hwp_cpu.proofs.CopyLeaves.{copy-leaves}
 use Rattle.hwp_cpu.proofs.Collecting.{access-plain, copy-kind, copy-leaves-none, left-denied, left-plain}
-use Rattle.hwp_cpu_course.specs.hwp_cpu_row.hwp_page.declared.At.{At}
-use Rattle.hwp_cpu_course.specs.hwp_cpu_row.hwp_geom.declared.VSlot.{VSlot}
-use Rattle.hwp_cpu_course.proofs.of_hwp_cpu_command.JobEnds.{ends}
+use Rattle.hwp_cpu_row.specs.hwp_page.declared.At.{At}
+use Rattle.hwp_cpu_row.specs.hwp_geom.declared.VSlot.{VSlot}
+use Rattle.hwp_cpu_command_laws.proofs.of_hwp_cpu_command.JobEnds.{ends}
 use Rattle.hwp_cpu_causes.proofs.RowServed.{own-does, own-served}
 use Rattle.hwp_cpu_causes.proofs.LeftBeside.{left-paused}
 use Rattle.hwp_cpu_causes.proofs.OnTheWay.{on-the-way, runs-access}
-use Rattle.hwp_cpu_course.proofs.of_hwp_cpu_command.of_hwp_cpu_access.InstructionLaws.{paused}
-use Rattle.hwp_cpu_course.proofs.of_hwp_cpu_command.of_hwp_cpu_access.Resting.{rests}
-use Rattle.hwp_cpu_course.proofs.of_hwp_cpu_command.JobLaws as jobbing
+use Rattle.hwp_cpu_command_laws.proofs.of_hwp_cpu_command.of_hwp_cpu_access.InstructionLaws.{paused}
+use Rattle.hwp_cpu_command_laws.proofs.of_hwp_cpu_command.of_hwp_cpu_access.Resting.{rests}
+use Rattle.hwp_cpu_command_laws.proofs.of_hwp_cpu_command.JobLaws as jobbing
 use Rattle.hwp_cpu.specs.Serving.{HasCopyPaused, left_so_far, IsUnderWay, HasToldAll, IsPaused, OwnGoesOn}
-use Rattle.hwp_cpu_course.specs.hwp_cpu_row.declared.Local.{Local}
+use Rattle.hwp_cpu_row.specs.declared.Local.{Local}
 use Rattle.std.proofs.Common.{Option, None, inl, inr, refl, ◌<◌, length, is_some, Some, subst, sym, true, ap, ◌≡◌, List, ◌∙◌, [], ℕ}
-use Rattle.hwp_cpu_course.specs.hwp_cpu_command.hwp_cpu_access.declared.Instruction.{Instruction}
-use Rattle.hwp_cpu_course.specs.hwp_cpu_command.FileHandles.{handles_after}
+use Rattle.hwp_cpu_command_laws.specs.hwp_cpu_command.hwp_cpu_access.declared.Instruction.{Instruction}
+use Rattle.hwp_cpu_command_laws.specs.hwp_cpu_command.FileHandles.{handles_after}
 use Rattle.hwp_cpu_causes.specs.Beside.{IsOwnServed, ArePriorWith, DoesSo}
-use Rattle.hwp_cpu_course.specs.hwp_cpu_command.Stays.{IsHalted, Stepped}
+use Rattle.hwp_cpu_command_laws.specs.hwp_cpu_command.Stays.{IsHalted, Stepped}
 use Rattle.hwp_cpu_causes.proofs.HandleNumbers.{IsNumbered, numbered}
 use Rattle.hwp_cpu_causes.specs.hwp_law_served.Accounts.{failures}
-use Rattle.hwp_cpu_course.specs.hwp_cpu_row.hwp_report_text.declared.Answer.{Answer}
-use Rattle.hwp_cpu_course.specs.hwp_cpu_row.hwp_script_lines.declared.Command.{Command}
-use Rattle.hwp_cpu_course.specs.hwp_cpu_row.hwp_core_task.Calls.{IsOnTurn}
-use Rattle.hwp_cpu_course.proofs.of_hwp_cpu_command_laws.CommandRuns.{runs-who}
-use Rattle.hwp_cpu_course.specs.hwp_cpu_row.declared.Row.{Row}
-use Rattle.hwp_cpu_course.specs.hwp_cpu_row.hwp_geom.declared.Layout.{Layout}
+use Rattle.hwp_cpu_row.specs.hwp_report_text.declared.Answer.{Answer}
+use Rattle.hwp_cpu_row.specs.hwp_script_lines.declared.Command.{Command}
+use Rattle.hwp_cpu_row.specs.hwp_core_task.Calls.{IsOnTurn}
+use Rattle.hwp_cpu_command_laws.proofs.CommandRuns.{runs-who}
+use Rattle.hwp_cpu_row.specs.declared.Row.{Row}
+use Rattle.hwp_cpu_row.specs.hwp_geom.declared.Layout.{Layout}
 use Rattle.hwp_cpu.specs.Processors.{at_number}
-use Rattle.hwp_cpu_course.specs.hwp_cpu_command.Done.{failed_now, owed_now, marked_beyond}
-use Rattle.hwp_cpu_course.specs.hwp_cpu_row.hwp_geom.declared.Cpu.{Cpu}
-use Rattle.hwp_cpu_course.specs.hwp_cpu_row.hwp_geom.declared.FileNo.{FileNo}
+use Rattle.hwp_cpu_command_laws.specs.hwp_cpu_command.Done.{failed_now, owed_now, marked_beyond}
+use Rattle.hwp_cpu_row.specs.hwp_geom.declared.Cpu.{Cpu}
+use Rattle.hwp_cpu_row.specs.hwp_geom.declared.FileNo.{FileNo}
 use Rattle.hwp_cpu_causes.specs.hwp_law_served.Handles.{answers_by, number_at}
 use Rattle.hwp_cpu.proofs.ProcessorNotes.{no-loss, failed-end}
 use Rattle.hwp_cpu.proofs.EachKind.{on-turn}
-use Rattle.hwp_cpu_course.specs.hwp_cpu_command.declared.job.Job.{Job}
+use Rattle.hwp_cpu_command_laws.specs.hwp_cpu_command.declared.job.Job.{Job}
 use Rattle.hwp_cpu_causes.specs.hwp_law_served.Offlinings.{left_beside, left_by, left_itself}
-use Rattle.hwp_cpu_course.specs.hwp_cpu_command.hwp_cpu_access.declared.instruction.Pause.{Pause}
-use Rattle.hwp_cpu_course.specs.hwp_cpu_row.hwp_geom.declared.Who.{Who}
-use Rattle.hwp_cpu_course.specs.hwp_cpu_row.hwp_core_rule.declared.Made.{Made}
+use Rattle.hwp_cpu_command_laws.specs.hwp_cpu_command.hwp_cpu_access.declared.instruction.Pause.{Pause}
+use Rattle.hwp_cpu_row.specs.hwp_geom.declared.Who.{Who}
+use Rattle.hwp_cpu_row.specs.hwp_core_rule.declared.Made.{Made}
 use Rattle.std.specs.List.{cons_option}
 use Rattle.hwp_cpu.proofs.LeftCommand.{left-by-denied, left-command}
-use Rattle.hwp_cpu_course.specs.hwp_cpu_row.hwp_core_rule.declared.View.{View}
-use Rattle.hwp_cpu_course.proofs.of_hwp_cpu_command_laws.CommandStops.{stopped-halts}
-use Rattle.hwp_cpu_course.specs.declared.Course.{Course}
-use Rattle.hwp_cpu_course.proofs.of_hwp_cpu_command_laws.Beside.{IsAtPause, job-at-pause, paused-unmarked, paused-unowed}
-use Rattle.hwp_cpu_course.specs.hwp_cpu_row.hwp_core_task.Hands.{hand_of, empty}
-use Rattle.hwp_cpu_course.proofs.of_hwp_cpu_command_laws.CommandDeeds.{unowed-at-end}
-use Rattle.hwp_cpu_course.specs.hwp_cpu_command.Runs.{Runs}
-use Rattle.hwp_cpu_course.specs.hwp_cpu_command.declared.job.Job.TheVariants as kinds
-use Rattle.hwp_cpu_course.specs.hwp_cpu_row.hwp_report_text.declared.Answer.TheVariants as answers
-use Rattle.hwp_cpu_course.specs.hwp_cpu_command.Jobs as jobs
-use Rattle.hwp_cpu_course.specs.hwp_cpu_command.hwp_cpu_access.Instructions as instructions
-use Rattle.hwp_cpu_course.specs.hwp_cpu_command.hwp_cpu_access.Fits as instruction_fits
-use Rattle.hwp_cpu_course.proofs.of_hwp_cpu_command_laws.DeniedAnswers.{unmade-denied}
-use Rattle.hwp_cpu_course.specs.hwp_cpu_row.hwp_core_task.Known.{HasMadeNone}
+use Rattle.hwp_cpu_row.specs.hwp_core_rule.declared.View.{View}
+use Rattle.hwp_cpu_command_laws.proofs.CommandStops.{stopped-halts}
+use Rattle.hwp_cpu.specs.declared.course.Course.{Course}
+use Rattle.hwp_cpu_command_laws.proofs.Beside.{IsAtPause, job-at-pause, paused-unmarked, paused-unowed}
+use Rattle.hwp_cpu_row.specs.hwp_core_task.Hands.{hand_of, empty}
+use Rattle.hwp_cpu_command_laws.proofs.CommandDeeds.{unowed-at-end}
+use Rattle.hwp_cpu_command_laws.specs.hwp_cpu_command.Runs.{Runs}
+use Rattle.hwp_cpu_command_laws.specs.hwp_cpu_command.declared.job.Job.TheVariants as kinds
+use Rattle.hwp_cpu_row.specs.hwp_report_text.declared.Answer.TheVariants as answers
+use Rattle.hwp_cpu_command_laws.specs.hwp_cpu_command.Jobs as jobs
+use Rattle.hwp_cpu_command_laws.specs.hwp_cpu_command.hwp_cpu_access.Instructions as instructions
+use Rattle.hwp_cpu_command_laws.specs.hwp_cpu_command.hwp_cpu_access.Fits as instruction_fits
+use Rattle.hwp_cpu_command_laws.proofs.DeniedAnswers.{unmade-denied}
+use Rattle.hwp_cpu_row.specs.hwp_core_task.Known.{HasMadeNone}
 
 -- ---- it goes on
 

@@ -1,50 +1,50 @@
 -- A processor is a task: where it fits, its step can be made, and what follows fits.
-use Rattle.hwp_cpu_course.specs.hwp_cpu_row.hwp_geom.declared.VSlot.{VSlot}
-use Rattle.hwp_cpu_course.proofs.CourseLaws.{lawful}
+use Rattle.hwp_cpu_row.specs.hwp_geom.declared.VSlot.{VSlot}
+use Rattle.hwp_cpu.proofs.CourseLaws.{lawful}
 use Rattle.std.proofs.Common.{◌≡◌, ◌≢◌, ℕ, ◌+◌, ◌≤◌, arith, List, [], ◌∷◌, ◌++◌, Option, Some, None, length, option_map, slice_get, vec_capacity, refl, sym, ap, ◌∙◌, subst, inr, false, true, true≢false, ◌⊎◌, ◌<◌, inl, Bool}
 use Rattle.std.proofs.lemmas.Option.{none-some, slice_get_within}
 use Rattle.std.specs.Arc.{arc_value}
-use Rattle.hwp_cpu_course.specs.hwp_cpu_row.hwp_geom.declared.Cpu.{Cpu}
-use Rattle.hwp_cpu_course.specs.hwp_cpu_row.hwp_geom.declared.Layout.{Layout}
-use Rattle.hwp_cpu_course.specs.hwp_cpu_row.hwp_geom.declared.Who.{Who}
-use Rattle.hwp_cpu_course.specs.hwp_cpu_row.hwp_geom.Layout.{IsSound}
-use Rattle.hwp_cpu_course.specs.hwp_cpu_row.hwp_page.History.{BodyValue}
-use Rattle.hwp_cpu_course.specs.hwp_cpu_row.hwp_script_lines.declared.Command.{Command}
-use Rattle.hwp_cpu_course.specs.hwp_cpu_row.hwp_report_text.declared.Answer.{Answer}
-use Rattle.hwp_cpu_course.specs.hwp_cpu_row.hwp_core_rule.declared.Step.{Step}
-use Rattle.hwp_cpu_course.specs.hwp_cpu_row.hwp_core_rule.declared.View.{View}
-use Rattle.hwp_cpu_course.specs.hwp_cpu_row.hwp_core_task.declared.Turn.{Turn}
-use Rattle.hwp_cpu_course.specs.hwp_cpu_row.hwp_core_task.Calls.{CanMake, Steps, logs}
-use Rattle.hwp_cpu_course.specs.hwp_cpu_command.declared.job.Job.{Job}
-use Rattle.hwp_cpu_course.specs.hwp_cpu_command.Jobs as jobs
-use Rattle.hwp_cpu_course.specs.hwp_cpu_command.FileHandles.{HasChangeWithin}
-use Rattle.hwp_cpu_course.specs.hwp_cpu_command.Stays.{Stepped, HasGivenUp}
-use Rattle.hwp_cpu_course.proofs.of_hwp_cpu_command_laws.CommandRuns.{runs-who, runs-on, runs-within}
-use Rattle.hwp_cpu_course.specs.hwp_cpu_row.declared.Row.{Row}
-use Rattle.hwp_cpu_course.specs.hwp_cpu_row.declared.Local.{Local}
+use Rattle.hwp_cpu_row.specs.hwp_geom.declared.Cpu.{Cpu}
+use Rattle.hwp_cpu_row.specs.hwp_geom.declared.Layout.{Layout}
+use Rattle.hwp_cpu_row.specs.hwp_geom.declared.Who.{Who}
+use Rattle.hwp_cpu_row.specs.hwp_geom.Layout.{IsSound}
+use Rattle.hwp_cpu_row.specs.hwp_page.History.{BodyValue}
+use Rattle.hwp_cpu_row.specs.hwp_script_lines.declared.Command.{Command}
+use Rattle.hwp_cpu_row.specs.hwp_report_text.declared.Answer.{Answer}
+use Rattle.hwp_cpu_row.specs.hwp_core_rule.declared.Step.{Step}
+use Rattle.hwp_cpu_row.specs.hwp_core_rule.declared.View.{View}
+use Rattle.hwp_cpu_row.specs.hwp_core_task.declared.Turn.{Turn}
+use Rattle.hwp_cpu_row.specs.hwp_core_task.Calls.{CanMake, Steps, logs}
+use Rattle.hwp_cpu_command_laws.specs.hwp_cpu_command.declared.job.Job.{Job}
+use Rattle.hwp_cpu_command_laws.specs.hwp_cpu_command.Jobs as jobs
+use Rattle.hwp_cpu_command_laws.specs.hwp_cpu_command.FileHandles.{HasChangeWithin}
+use Rattle.hwp_cpu_command_laws.specs.hwp_cpu_command.Stays.{Stepped, HasGivenUp}
+use Rattle.hwp_cpu_command_laws.proofs.CommandRuns.{runs-who, runs-on, runs-within}
+use Rattle.hwp_cpu_row.specs.declared.Row.{Row}
+use Rattle.hwp_cpu_row.specs.declared.Local.{Local}
 use Rattle.hwp_cpu.specs.declared.processor.Processor.{Processor}
 use Rattle.hwp_cpu.specs.Processors.{carried_on, told_local, line_of, row_now, with_guest, AreCommands, BeginsAt, Follows, IsAdmitted, IsAnswered, IsReady, Next, NextOf, Shows, ShowsOf, at_number, bare, left_of, plan, plan_of, put, put_of, who, who_of}
 use Rattle.hwp_cpu.specs.Serving.{IsActedOn, Fits, FitsAt, IsRunning, GivesUp, KeepsGuests, OwnGoesOn, GoesOn, RunsBeside}
 use Rattle.hwp_cpu.proofs.CommandBegins.{settled}
 use Rattle.hwp_cpu.proofs.ProcessorKeeps.{later-none}
-use Rattle.hwp_cpu_course.specs.Courses.{local_after, FitsOf, IsGoing, rests, row_of, AfterOwn, AfterOwnIf, FitsOwn, AfterSoft, bare_of, AfterOwnBy, answer_of, part, with_result, part_of, answer, passed}
+use Rattle.hwp_cpu.specs.Courses.{local_after, FitsOf, IsGoing, rests, row_of, AfterOwn, AfterOwnIf, FitsOwn, AfterSoft, bare_of, AfterOwnBy, answer_of, part, with_result, part_of, answer, passed}
 use Rattle.hwp_cpu.proofs.BesideEnds.{beside-on, rests-on, holds-done, way-done}
-use Rattle.hwp_cpu_course.specs.hwp_cpu_row.Locals.{collects}
-use Rattle.hwp_cpu_course.proofs.of_hwp_cpu_command_laws.Beside.{given-up-unanswered, given-up-stays}
+use Rattle.hwp_cpu_row.specs.Locals.{collects}
+use Rattle.hwp_cpu_command_laws.proofs.Beside.{given-up-unanswered, given-up-stays}
 use Rattle.hwp_cpu.proofs.GoingOn.{IsEnding, go-on, Turned}
 use Rattle.hwp_cpu.proofs.OwnLines.{given-up-goes}
 use Rattle.hwp_cpu.proofs.OwnTurns.{own-turn}
-use Rattle.hwp_cpu_course.specs.declared.Course.{Course}
-use Rattle.hwp_cpu_course.specs.hwp_cpu_command.hwp_soft.declared.Soft.{Soft}
-use Rattle.hwp_cpu_course.specs.hwp_cpu_row.hwp_law_commands.Notes.{is_for_pages}
-use Rattle.hwp_cpu_course.specs.hwp_cpu_command.hwp_soft.declared.SoftAnswer.{SoftAnswer}
-use Rattle.hwp_cpu_course.specs.hwp_cpu_command.Runs.{Runs}
-use Rattle.hwp_cpu_course.specs.hwp_cpu_row.hwp_core_task.Known.{HasMadeNone}
-use Rattle.hwp_cpu_course.specs.hwp_cpu_row.hwp_geom.declared.Frame.{Frame}
-use Rattle.hwp_cpu_course.specs.hwp_cpu_command.declared.job.Job.TheVariants as kinds
-use Rattle.hwp_cpu_course.specs.Courses as courses
-use Rattle.hwp_cpu_course.specs.hwp_cpu_command.hwp_soft.Softs as softs
-use Rattle.hwp_cpu_course.specs.hwp_cpu_row.GuestLists.{line_in}
+use Rattle.hwp_cpu.specs.declared.course.Course.{Course}
+use Rattle.hwp_cpu_command_laws.specs.hwp_cpu_command.hwp_soft.declared.Soft.{Soft}
+use Rattle.hwp_cpu_row.specs.hwp_law_commands.Notes.{is_for_pages}
+use Rattle.hwp_cpu_command_laws.specs.hwp_cpu_command.hwp_soft.declared.SoftAnswer.{SoftAnswer}
+use Rattle.hwp_cpu_command_laws.specs.hwp_cpu_command.Runs.{Runs}
+use Rattle.hwp_cpu_row.specs.hwp_core_task.Known.{HasMadeNone}
+use Rattle.hwp_cpu_row.specs.hwp_geom.declared.Frame.{Frame}
+use Rattle.hwp_cpu_command_laws.specs.hwp_cpu_command.declared.job.Job.TheVariants as kinds
+use Rattle.hwp_cpu.specs.Courses as courses
+use Rattle.hwp_cpu_command_laws.specs.hwp_cpu_command.hwp_soft.Softs as softs
+use Rattle.hwp_cpu_row.specs.GuestLists.{line_in}
 use Rattle.hwp_cpu_causes.proofs.of_hwp_law_served.CommandKeeps.{made-none-later}
 use Rattle.hwp_cpu.proofs.GuestsKept.{admitted-now, guests-answered, guests-turn}
 use Rattle.hwp_cpu.proofs.Within.{bare-denial, course-denial}

@@ -9,71 +9,71 @@ use Rattle.std.proofs.lemmas.Bool.{false_from_ne_true}
 use Rattle.std.proofs.lemmas.List.{length-map, map-append, nil_from_length}
 use Rattle.std.proofs.lemmas.List.Elements.{filter_map-append}
 use Rattle.std.proofs.lemmas.Option.{none-some, same_Some}
-use Rattle.hwp_cpu_course.specs.hwp_cpu_row.hwp_geom.declared.Cpu.{Cpu}
-use Rattle.hwp_cpu_course.specs.hwp_cpu_row.hwp_geom.declared.Frame.{Frame}
-use Rattle.hwp_cpu_course.specs.hwp_cpu_row.hwp_geom.declared.Damage.{Damage}
-use Rattle.hwp_cpu_course.specs.hwp_cpu_row.hwp_geom.declared.Damage.TheVariants as damages
-use Rattle.hwp_cpu_course.specs.hwp_cpu_row.hwp_geom.declared.Layout.{Layout}
-use Rattle.hwp_cpu_course.specs.hwp_cpu_row.hwp_geom.declared.VSlot.{VSlot}
-use Rattle.hwp_cpu_course.specs.hwp_cpu_row.hwp_script_lines.declared.Command.TheVariants as commands
-use Rattle.hwp_cpu_course.specs.hwp_cpu_row.hwp_law_commands.Cows.{acting}
+use Rattle.hwp_cpu_row.specs.hwp_geom.declared.Cpu.{Cpu}
+use Rattle.hwp_cpu_row.specs.hwp_geom.declared.Frame.{Frame}
+use Rattle.hwp_cpu_row.specs.hwp_geom.declared.Damage.{Damage}
+use Rattle.hwp_cpu_row.specs.hwp_geom.declared.Damage.TheVariants as damages
+use Rattle.hwp_cpu_row.specs.hwp_geom.declared.Layout.{Layout}
+use Rattle.hwp_cpu_row.specs.hwp_geom.declared.VSlot.{VSlot}
+use Rattle.hwp_cpu_row.specs.hwp_script_lines.declared.Command.TheVariants as commands
+use Rattle.hwp_cpu_row.specs.hwp_law_commands.Cows.{acting}
 use Rattle.hwp_cpu_causes.specs.hwp_law_served.Handles.{answers_by}
-use Rattle.hwp_cpu_course.specs.hwp_cpu_row.hwp_geom.declared.Page.{Page}
-use Rattle.hwp_cpu_course.specs.hwp_cpu_row.hwp_geom.declared.Who.{Who}
-use Rattle.hwp_cpu_course.specs.hwp_cpu_row.hwp_geom.Pairs.{Pairs}
-use Rattle.hwp_cpu_course.specs.hwp_cpu_row.hwp_page.declared.What.{What}
-use Rattle.hwp_cpu_course.specs.hwp_cpu_row.hwp_page.declared.What.TheVariants as entries
-use Rattle.hwp_cpu_course.specs.hwp_cpu_row.hwp_page.Losses.{is_loss}
-use Rattle.hwp_cpu_course.specs.hwp_cpu_row.hwp_page.Situations.{outcome_of}
-use Rattle.hwp_cpu_course.specs.hwp_cpu_row.hwp_core_rule.declared.Made.{Made}
-use Rattle.hwp_cpu_course.specs.hwp_cpu_row.hwp_core_rule.declared.Mark.{Mark}
-use Rattle.hwp_cpu_course.specs.hwp_cpu_row.hwp_core_rule.declared.MarkKind.TheVariants as mark_kinds
-use Rattle.hwp_cpu_course.specs.hwp_cpu_row.hwp_core_rule.declared.Setting.{Setting}
-use Rattle.hwp_cpu_course.specs.hwp_cpu_row.hwp_core_rule.declared.Spoiled.{Spoiled}
-use Rattle.hwp_cpu_course.specs.hwp_cpu_row.hwp_core_rule.declared.View.{View}
-use Rattle.hwp_cpu_course.specs.hwp_cpu_row.hwp_core_rule.Lists.{EachMember}
-use Rattle.hwp_cpu_course.specs.hwp_cpu_row.hwp_core_rule.Views.{no_debts}
-use Rattle.hwp_cpu_course.proofs.of_hwp_cpu_row.of_hwp_core_rule.Lists.{at_last, at_push, each-push, sum-zero}
-use Rattle.hwp_cpu_course.specs.hwp_cpu_row.hwp_core_task.Calls.{CanMake}
-use Rattle.hwp_cpu_course.specs.hwp_cpu_row.hwp_core_task.Known.{HasMadeNone, deeds}
-use Rattle.hwp_cpu_course.specs.hwp_cpu_row.hwp_claim_act.declared.Failed.{Failed}
-use Rattle.hwp_cpu_course.specs.hwp_cpu_row.hwp_claim_act.Abandoned as abandoned
-use Rattle.hwp_cpu_course.specs.hwp_cpu_row.hwp_claim_frame.Claims.{HasMarkedNone, is_own}
-use Rattle.hwp_cpu_course.specs.hwp_cpu_row.hwp_claim_frame.Done.{Grows, Marking, counts_owed, marking_of, poisoning}
-use Rattle.hwp_cpu_course.specs.hwp_cpu_row.hwp_script_lines.declared.Command.{Command}
-use Rattle.hwp_cpu_course.specs.hwp_cpu_row.hwp_report_text.declared.Answer.{Answer}
-use Rattle.hwp_cpu_course.specs.hwp_cpu_row.hwp_report_text.declared.Answer.TheVariants as answers
-use Rattle.hwp_cpu_course.specs.hwp_cpu_row.hwp_report_text.declared.How.{How}
-use Rattle.hwp_cpu_course.specs.hwp_cpu_row.hwp_report_text.declared.How.TheVariants as hows
-use Rattle.hwp_cpu_course.specs.hwp_cpu_row.hwp_report_text.declared.MarkLine.TheVariants as lines
-use Rattle.hwp_cpu_course.specs.hwp_cpu_row.hwp_claim.declared.Found.{Found}
-use Rattle.hwp_cpu_course.specs.hwp_cpu_row.declared.FrameChange.{FrameChange}
-use Rattle.hwp_cpu_course.specs.hwp_cpu_row.declared.FrameChange.TheVariants as owns
-use Rattle.hwp_cpu_course.specs.hwp_cpu_row.declared.Offlining.{Offlining}
-use Rattle.hwp_cpu_course.specs.hwp_cpu_row.declared.Row.{Row}
-use Rattle.hwp_cpu_course.specs.hwp_cpu_row.declared.Watching.{Watching}
-use Rattle.hwp_cpu_course.specs.hwp_cpu_row.Acts.{Act, Offlined, Told, acts}
-use Rattle.hwp_cpu_course.specs.hwp_cpu_row.hwp_cpu_check.declared.EventOutcome.{EventOutcome}
-use Rattle.hwp_cpu_course.specs.hwp_cpu_row.hwp_cpu_check.Done.{marked_in}
-use Rattle.hwp_cpu_course.specs.hwp_cpu_row.hwp_cpu_check.Told.{frame_of}
-use Rattle.hwp_cpu_course.specs.hwp_cpu_command.hwp_cpu_access.Done.{FailuresGrow}
-use Rattle.hwp_cpu_course.specs.hwp_cpu_command.declared.Job.{Job}
-use Rattle.hwp_cpu_course.specs.hwp_cpu_command.declared.job.Job.TheVariants as kinds
-use Rattle.hwp_cpu_course.specs.hwp_cpu_command.hwp_soft.declared.Soft.{Soft}
-use Rattle.hwp_cpu_course.specs.hwp_cpu_command.hwp_soft.Softs as softs
-use Rattle.hwp_cpu_course.specs.hwp_cpu_command.Done.{HasCounted, HasDone, can_fail, failed_now, marked_beyond, marked_now}
-use Rattle.hwp_cpu_course.specs.hwp_cpu_command.Settings.{policies_now}
-use Rattle.hwp_cpu_course.specs.hwp_cpu_command.Jobs as jobs
-use Rattle.hwp_cpu_course.specs.hwp_cpu_command.Runs.{Runs}
-use Rattle.hwp_cpu_course.specs.hwp_cpu_command.Stays.{HasSpoiled, IsAtStop, Stepped}
-use Rattle.hwp_cpu_course.proofs.of_hwp_cpu_command.JobEnds.{answered-over, paid-at-end}
-use Rattle.hwp_cpu_course.proofs.of_hwp_cpu_command_laws.CommandDeeds.{done, failures-at-end, grown, none-listed, unfailed-at-start, unmarked-at-start, unowed-at-start, unset-policies-at-start}
-use Rattle.hwp_cpu_course.proofs.of_hwp_cpu_command_laws.CommandRuns.{can-fail-stays, runs-who}
-use Rattle.hwp_cpu_course.proofs.of_hwp_cpu_command_laws.Beside.{marked-parts}
-use Rattle.hwp_cpu_course.proofs.of_hwp_cpu_command_laws.CommandStops.{has-spoiled, spoils-after, untold-at-start}
-use Rattle.hwp_cpu_course.proofs.of_hwp_cpu_command_laws.TaskLeaves.{soft-leaves}
-use Rattle.hwp_cpu_course.specs.declared.Course.{Course}
-use Rattle.hwp_cpu_course.specs.Courses.{begin, part_of}
+use Rattle.hwp_cpu_row.specs.hwp_geom.declared.Page.{Page}
+use Rattle.hwp_cpu_row.specs.hwp_geom.declared.Who.{Who}
+use Rattle.hwp_cpu_row.specs.hwp_geom.Pairs.{Pairs}
+use Rattle.hwp_cpu_row.specs.hwp_page.declared.What.{What}
+use Rattle.hwp_cpu_row.specs.hwp_page.declared.What.TheVariants as entries
+use Rattle.hwp_cpu_row.specs.hwp_page.Losses.{is_loss}
+use Rattle.hwp_cpu_row.specs.hwp_page.Situations.{outcome_of}
+use Rattle.hwp_cpu_row.specs.hwp_core_rule.declared.Made.{Made}
+use Rattle.hwp_cpu_row.specs.hwp_core_rule.declared.Mark.{Mark}
+use Rattle.hwp_cpu_row.specs.hwp_core_rule.declared.MarkKind.TheVariants as mark_kinds
+use Rattle.hwp_cpu_row.specs.hwp_core_rule.declared.Setting.{Setting}
+use Rattle.hwp_cpu_row.specs.hwp_core_rule.declared.Spoiled.{Spoiled}
+use Rattle.hwp_cpu_row.specs.hwp_core_rule.declared.View.{View}
+use Rattle.hwp_cpu_row.specs.hwp_core_rule.Lists.{EachMember}
+use Rattle.hwp_cpu_row.specs.hwp_core_rule.Views.{no_debts}
+use Rattle.hwp_cpu_row.proofs.of_hwp_core_rule.Lists.{at_last, at_push, each-push, sum-zero}
+use Rattle.hwp_cpu_row.specs.hwp_core_task.Calls.{CanMake}
+use Rattle.hwp_cpu_row.specs.hwp_core_task.Known.{HasMadeNone, deeds}
+use Rattle.hwp_cpu_row.specs.hwp_claim_act.declared.Failed.{Failed}
+use Rattle.hwp_cpu_row.specs.hwp_claim_act.Abandoned as abandoned
+use Rattle.hwp_cpu_row.specs.hwp_claim_frame.Claims.{HasMarkedNone, is_own}
+use Rattle.hwp_cpu_row.specs.hwp_claim_frame.Done.{Grows, Marking, counts_owed, marking_of, poisoning}
+use Rattle.hwp_cpu_row.specs.hwp_script_lines.declared.Command.{Command}
+use Rattle.hwp_cpu_row.specs.hwp_report_text.declared.Answer.{Answer}
+use Rattle.hwp_cpu_row.specs.hwp_report_text.declared.Answer.TheVariants as answers
+use Rattle.hwp_cpu_row.specs.hwp_report_text.declared.How.{How}
+use Rattle.hwp_cpu_row.specs.hwp_report_text.declared.How.TheVariants as hows
+use Rattle.hwp_cpu_row.specs.hwp_report_text.declared.MarkLine.TheVariants as lines
+use Rattle.hwp_cpu_row.specs.hwp_claim.declared.Found.{Found}
+use Rattle.hwp_cpu_row.specs.declared.FrameChange.{FrameChange}
+use Rattle.hwp_cpu_row.specs.declared.FrameChange.TheVariants as owns
+use Rattle.hwp_cpu_row.specs.declared.Offlining.{Offlining}
+use Rattle.hwp_cpu_row.specs.declared.Row.{Row}
+use Rattle.hwp_cpu_row.specs.declared.Watching.{Watching}
+use Rattle.hwp_cpu_row.specs.Acts.{Act, Offlined, Told, acts}
+use Rattle.hwp_cpu_row.specs.hwp_cpu_check.declared.EventOutcome.{EventOutcome}
+use Rattle.hwp_cpu_row.specs.hwp_cpu_check.Done.{marked_in}
+use Rattle.hwp_cpu_row.specs.hwp_cpu_check.Told.{frame_of}
+use Rattle.hwp_cpu_command_laws.specs.hwp_cpu_command.hwp_cpu_access.Done.{FailuresGrow}
+use Rattle.hwp_cpu_command_laws.specs.hwp_cpu_command.declared.Job.{Job}
+use Rattle.hwp_cpu_command_laws.specs.hwp_cpu_command.declared.job.Job.TheVariants as kinds
+use Rattle.hwp_cpu_command_laws.specs.hwp_cpu_command.hwp_soft.declared.Soft.{Soft}
+use Rattle.hwp_cpu_command_laws.specs.hwp_cpu_command.hwp_soft.Softs as softs
+use Rattle.hwp_cpu_command_laws.specs.hwp_cpu_command.Done.{HasCounted, HasDone, can_fail, failed_now, marked_beyond, marked_now}
+use Rattle.hwp_cpu_command_laws.specs.hwp_cpu_command.Settings.{policies_now}
+use Rattle.hwp_cpu_command_laws.specs.hwp_cpu_command.Jobs as jobs
+use Rattle.hwp_cpu_command_laws.specs.hwp_cpu_command.Runs.{Runs}
+use Rattle.hwp_cpu_command_laws.specs.hwp_cpu_command.Stays.{HasSpoiled, IsAtStop, Stepped}
+use Rattle.hwp_cpu_command_laws.proofs.of_hwp_cpu_command.JobEnds.{answered-over, paid-at-end}
+use Rattle.hwp_cpu_command_laws.proofs.CommandDeeds.{done, failures-at-end, grown, none-listed, unfailed-at-start, unmarked-at-start, unowed-at-start, unset-policies-at-start}
+use Rattle.hwp_cpu_command_laws.proofs.CommandRuns.{can-fail-stays, runs-who}
+use Rattle.hwp_cpu_command_laws.proofs.Beside.{marked-parts}
+use Rattle.hwp_cpu_command_laws.proofs.CommandStops.{has-spoiled, spoils-after, untold-at-start}
+use Rattle.hwp_cpu_command_laws.proofs.TaskLeaves.{soft-leaves}
+use Rattle.hwp_cpu.specs.declared.course.Course.{Course}
+use Rattle.hwp_cpu.specs.Courses.{begin, part_of}
 use Rattle.hwp_cpu_causes.specs.Beside.{AddsBeside, ArePriorWith}
 use Rattle.hwp_cpu_causes.specs.hwp_law.Pairings.{is_soft}
 use Rattle.hwp_cpu_causes.specs.hwp_law_served.Accounts.{IsHow, IsNote, act_marking, failures, is_same, marking_by, markings, markings_in, own_marking}
@@ -90,8 +90,8 @@ use Rattle.hwp_cpu.specs.Serving.{AreNoted, HasAccount, IsListed, marked_so_far}
 use Rattle.hwp_cpu.proofs.Marks.{GrowAlike, beside-alike, regrown}
 use Rattle.hwp_cpu.proofs.Rows.{notes-more, spoil-more}
 use Rattle.hwp_cpu.proofs.EachKind.{spoils-line, prior-none}
-use Rattle.hwp_cpu_course.specs.hwp_cpu_row.hwp_core_task.Hands.{empty}
-use Rattle.hwp_cpu_course.specs.hwp_cpu_row.hwp_report_text.declared.GuestLine.{GuestLine}
+use Rattle.hwp_cpu_row.specs.hwp_core_task.Hands.{empty}
+use Rattle.hwp_cpu_row.specs.hwp_report_text.declared.GuestLine.{GuestLine}
 
 -- ---- over a step
 

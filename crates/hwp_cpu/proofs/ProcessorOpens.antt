@@ -1,32 +1,32 @@
 -- At opening a processor fits: it has made no step, and its first command begins.
-use Rattle.hwp_cpu_course.specs.hwp_cpu_row.hwp_script_read.Valid.{IsCommandOf}
-use Rattle.hwp_cpu_course.specs.hwp_cpu_row.hwp_geom.declared.VSlot.{VSlot}
-use Rattle.hwp_cpu_course.specs.hwp_cpu_row.CowLists.{KnowsCows, acting_in, copied_in, first_cows}
-use Rattle.hwp_cpu_course.proofs.of_hwp_cpu_row.CowListLaws.{acting-known, copied-known, first-are, first-known}
-use Rattle.hwp_cpu_course.specs.hwp_cpu_command.Runs.{CanFork}
-use Rattle.hwp_cpu_course.specs.hwp_cpu_row.hwp_cpu_check.hwp_guest.declared.Admit.{Admit}
-use Rattle.hwp_cpu_course.specs.hwp_cpu_row.hwp_report_text.declared.Answer.{Answer}
+use Rattle.hwp_cpu_row.specs.hwp_script_read.Valid.{IsCommandOf}
+use Rattle.hwp_cpu_row.specs.hwp_geom.declared.VSlot.{VSlot}
+use Rattle.hwp_cpu_row.specs.CowLists.{KnowsCows, acting_in, copied_in, first_cows}
+use Rattle.hwp_cpu_row.proofs.CowListLaws.{acting-known, copied-known, first-are, first-known}
+use Rattle.hwp_cpu_command_laws.specs.hwp_cpu_command.Runs.{CanFork}
+use Rattle.hwp_cpu_row.specs.hwp_cpu_check.hwp_guest.declared.Admit.{Admit}
+use Rattle.hwp_cpu_row.specs.hwp_report_text.declared.Answer.{Answer}
 use Rattle.hwp_cpu.proofs.ActingFits.{at-least, fork-acted}
 use Rattle.hwp_cpu.proofs.FreshChildren.{can-fork}
 use Rattle.std.proofs.Common.{◌≡◌, ℕ, zero, suc, ◌<◌, ◌≤◌, inl, List, [], ◌∷◌, Option, Some, None, length, slice_get, refl, sym, ap, subst, arith, Bool, true≢false, false, true, ◌∙◌}
 use Rattle.std.proofs.lemmas.Option.{none-some, same_Some, slice_get_within}
-use Rattle.hwp_cpu_course.specs.hwp_cpu_row.hwp_geom.declared.Cpu.{Cpu}
-use Rattle.hwp_cpu_course.specs.hwp_cpu_row.hwp_geom.declared.Layout.{Layout}
-use Rattle.hwp_cpu_course.specs.hwp_cpu_row.hwp_geom.declared.Thread.{Thread}
-use Rattle.hwp_cpu_course.specs.hwp_cpu_row.hwp_script_lines.declared.Command.{Command}
-use Rattle.hwp_cpu_course.specs.hwp_cpu_row.hwp_core_rule.declared.Part.{Part}
-use Rattle.hwp_cpu_course.specs.hwp_cpu_row.hwp_core_rule.declared.View.{View}
-use Rattle.hwp_cpu_course.specs.hwp_cpu_row.hwp_core_rule.Opening.{opening_view}
-use Rattle.hwp_cpu_course.specs.hwp_cpu_row.hwp_core_task.Calls.{IsOnTurn}
-use Rattle.hwp_cpu_course.specs.hwp_cpu_command.Jobs.{banks_before, left_in}
-use Rattle.hwp_cpu_course.specs.hwp_cpu_command.Settings.{policies_in}
-use Rattle.hwp_cpu_course.specs.hwp_cpu_command.Stays.{IsAtStop}
-use Rattle.hwp_cpu_course.proofs.of_hwp_cpu_command_laws.CommandRuns.{before-begins, begins-fits, begins-runs}
-use Rattle.hwp_cpu_course.proofs.of_hwp_cpu_command_laws.CommandStops.{begins-stop, untold-at-start}
-use Rattle.hwp_cpu_course.specs.hwp_cpu_row.hwp_banks.Banks.{Banks, empty_banks}
-use Rattle.hwp_cpu_course.specs.hwp_cpu_row.declared.Local.{Local}
-use Rattle.hwp_cpu_course.specs.hwp_cpu_row.Locals.{IsWatching, IsFirst, collects, HasRoom}
-use Rattle.hwp_cpu_course.specs.hwp_cpu_row.hwp_law_commands.Settings.{settings}
+use Rattle.hwp_cpu_row.specs.hwp_geom.declared.Cpu.{Cpu}
+use Rattle.hwp_cpu_row.specs.hwp_geom.declared.Layout.{Layout}
+use Rattle.hwp_cpu_row.specs.hwp_geom.declared.Thread.{Thread}
+use Rattle.hwp_cpu_row.specs.hwp_script_lines.declared.Command.{Command}
+use Rattle.hwp_cpu_row.specs.hwp_core_rule.declared.Part.{Part}
+use Rattle.hwp_cpu_row.specs.hwp_core_rule.declared.View.{View}
+use Rattle.hwp_cpu_row.specs.hwp_core_rule.Opening.{opening_view}
+use Rattle.hwp_cpu_row.specs.hwp_core_task.Calls.{IsOnTurn}
+use Rattle.hwp_cpu_command_laws.specs.hwp_cpu_command.Jobs.{banks_before, left_in}
+use Rattle.hwp_cpu_command_laws.specs.hwp_cpu_command.Settings.{policies_in}
+use Rattle.hwp_cpu_command_laws.specs.hwp_cpu_command.Stays.{IsAtStop}
+use Rattle.hwp_cpu_command_laws.proofs.CommandRuns.{before-begins, begins-fits, begins-runs}
+use Rattle.hwp_cpu_command_laws.proofs.CommandStops.{begins-stop, untold-at-start}
+use Rattle.hwp_cpu_row.specs.hwp_banks.Banks.{Banks, empty_banks}
+use Rattle.hwp_cpu_row.specs.declared.Local.{Local}
+use Rattle.hwp_cpu_row.specs.Locals.{IsWatching, IsFirst, collects, HasRoom}
+use Rattle.hwp_cpu_row.specs.hwp_law_commands.Settings.{settings}
 use Rattle.hwp_cpu_causes.specs.hwp_law_served.Handles.{answers_by}
 use Rattle.hwp_cpu_causes.specs.hwp_law_served.Served.{AreRowsActed}
 use Rattle.hwp_cpu_causes.proofs.of_hwp_law_served.Handles.{numbers-begin}
@@ -39,18 +39,18 @@ use Rattle.hwp_cpu.proofs.Rows.{past-end}
 use Rattle.hwp_cpu.proofs.ProcessorNotes.{account-starts, noted-starts}
 use Rattle.hwp_cpu.proofs.Revivals.{revival-left}
 use Rattle.hwp_cpu.proofs.Watching.{of-machine, watch-starts, own-starts}
-use Rattle.hwp_cpu_course.specs.Courses.{local_left, BeginsCourse}
+use Rattle.hwp_cpu.specs.Courses.{local_left, BeginsCourse}
 use Rattle.std.specs.List.{list_any}
-use Rattle.hwp_cpu_course.specs.hwp_cpu_row.declared.Watching.{Watching}
-use Rattle.hwp_cpu_course.specs.hwp_cpu_row.hwp_law_commands.Watched.{Watched}
+use Rattle.hwp_cpu_row.specs.declared.Watching.{Watching}
+use Rattle.hwp_cpu_row.specs.hwp_law_commands.Watched.{Watched}
 use Rattle.hwp_cpu_causes.specs.hwp_law_served.Offlinings.{watched_at}
 use Rattle.hwp_cpu.proofs.CourseBegins.{course-begins}
 use Rattle.std.specs.Prelude.{IsSome}
-use Rattle.hwp_cpu_course.specs.hwp_cpu_row.hwp_law_commands.Commands.{is_watch}
-use Rattle.hwp_cpu_course.specs.hwp_cpu_command.hwp_scrub.Visits.{AreBanks}
-use Rattle.hwp_cpu_course.specs.declared.Course.{Course}
-use Rattle.hwp_cpu_course.specs.hwp_cpu_command.Jobs as jobs
-use Rattle.hwp_cpu_course.specs.hwp_cpu_row.GuestLists.{admission_in}
+use Rattle.hwp_cpu_row.specs.hwp_law_commands.Commands.{is_watch}
+use Rattle.hwp_cpu_command_laws.specs.hwp_cpu_command.hwp_scrub.Visits.{AreBanks}
+use Rattle.hwp_cpu.specs.declared.course.Course.{Course}
+use Rattle.hwp_cpu_command_laws.specs.hwp_cpu_command.Jobs as jobs
+use Rattle.hwp_cpu_row.specs.GuestLists.{admission_in}
 
 module _ (layout : Layout) (cpu : Cpu) (list : List Command) (are : AreCommands layout cpu list) (at-first : Local) (is_first : IsFirst layout (list_any is_watch list) at-first) where
   abbrev view : View

@@ -2,22 +2,22 @@
 use Rattle.std.proofs.Common.{◌≡◌, ℕ, ◌<◌, ◌≤◌, ◌⊎◌, inl, inr, List, Some, length, map, slice_get, sym, ap, ◌∙◌, subst}
 use Rattle.std.proofs.lemmas.Bool.{cases_lt}
 use Rattle.std.proofs.lemmas.Option.{none-some}
-use Rattle.hwp_cpu_course.specs.hwp_cpu_row.hwp_geom.declared.Cpu.{Cpu}
-use Rattle.hwp_cpu_course.specs.hwp_cpu_row.hwp_geom.declared.Layout.{Layout}
-use Rattle.hwp_cpu_course.specs.hwp_cpu_row.hwp_script_lines.declared.Command.{Command}
-use Rattle.hwp_cpu_course.specs.hwp_cpu_row.declared.Row.{Row}
-use Rattle.hwp_cpu_course.specs.hwp_cpu_row.declared.Local.{Local}
-use Rattle.hwp_cpu_course.specs.hwp_cpu_row.hwp_core_rule.declared.Made.{Made}
-use Rattle.hwp_cpu_course.specs.hwp_cpu_row.hwp_core_rule.declared.Part.{Part}
-use Rattle.hwp_cpu_course.specs.hwp_cpu_row.hwp_core_rule.declared.State.{State}
-use Rattle.hwp_cpu_course.specs.hwp_cpu_row.hwp_core_rule.declared.View.{View}
-use Rattle.hwp_cpu_course.specs.hwp_cpu_row.hwp_core_rule.Lists.{EachMember}
-use Rattle.hwp_cpu_course.specs.hwp_cpu_row.hwp_core_rule.Rule.{Holds}
-use Rattle.hwp_cpu_course.proofs.of_hwp_cpu_row.of_hwp_core_rule.Lists.{at_map}
-use Rattle.hwp_cpu_course.proofs.of_hwp_cpu_row.of_hwp_core_rule.NotLater.{one-view}
-use Rattle.hwp_cpu_course.specs.hwp_cpu_row.hwp_core_task.Boards.{AreSeated, view_of}
-use Rattle.hwp_cpu_course.specs.hwp_cpu_row.hwp_core_task.Hands.{Hand}
-use Rattle.hwp_cpu_course.specs.hwp_cpu_row.hwp_core_task.Known.{HasMadeNone}
+use Rattle.hwp_cpu_row.specs.hwp_geom.declared.Cpu.{Cpu}
+use Rattle.hwp_cpu_row.specs.hwp_geom.declared.Layout.{Layout}
+use Rattle.hwp_cpu_row.specs.hwp_script_lines.declared.Command.{Command}
+use Rattle.hwp_cpu_row.specs.declared.Row.{Row}
+use Rattle.hwp_cpu_row.specs.declared.Local.{Local}
+use Rattle.hwp_cpu_row.specs.hwp_core_rule.declared.Made.{Made}
+use Rattle.hwp_cpu_row.specs.hwp_core_rule.declared.Part.{Part}
+use Rattle.hwp_cpu_row.specs.hwp_core_rule.declared.State.{State}
+use Rattle.hwp_cpu_row.specs.hwp_core_rule.declared.View.{View}
+use Rattle.hwp_cpu_row.specs.hwp_core_rule.Lists.{EachMember}
+use Rattle.hwp_cpu_row.specs.hwp_core_rule.Rule.{Holds}
+use Rattle.hwp_cpu_row.proofs.of_hwp_core_rule.Lists.{at_map}
+use Rattle.hwp_cpu_row.proofs.of_hwp_core_rule.NotLater.{one-view}
+use Rattle.hwp_cpu_row.specs.hwp_core_task.Boards.{AreSeated, view_of}
+use Rattle.hwp_cpu_row.specs.hwp_core_task.Hands.{Hand}
+use Rattle.hwp_cpu_row.specs.hwp_core_task.Known.{HasMadeNone}
 use Rattle.hwp_cpu_causes.specs.hwp_law_served.Served.{HasActed, IsBegun}
 use Rattle.hwp_cpu_causes.proofs.of_hwp_law_served.RunEnds.{of-deeds}
 use Rattle.hwp_cpu.specs.Processors.{at_number}

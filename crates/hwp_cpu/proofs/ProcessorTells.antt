@@ -1,17 +1,17 @@
 -- The class of a processor tells what it holds.
-use Rattle.hwp_cpu_course.proofs.CourseLaws as course-class
+use Rattle.hwp_cpu.proofs.CourseLaws as course-class
 use Rattle.std.proofs.Common.{◌≡◌, ◌≢◌, ℕ, ◌≤◌, Option, Some, None}
 use Rattle.std.proofs.lemmas.Option.{none-some}
-use Rattle.hwp_cpu_course.specs.hwp_cpu_row.hwp_geom.declared.Frame.{Frame}
-use Rattle.hwp_cpu_course.specs.hwp_cpu_row.hwp_geom.declared.Layout.{Layout}
-use Rattle.hwp_cpu_course.specs.hwp_cpu_row.hwp_core_rule.declared.View.{View}
-use Rattle.hwp_cpu_course.specs.hwp_cpu_row.hwp_core_task.Classes.{TellsClass}
-use Rattle.hwp_cpu_course.specs.hwp_cpu_row.hwp_core_task.Ranks.{HasFrame, HasPage}
-use Rattle.hwp_cpu_course.proofs.of_hwp_cpu_command.of_hwp_cpu_control.EmptyHands.{no-frame, no-page}
+use Rattle.hwp_cpu_row.specs.hwp_geom.declared.Frame.{Frame}
+use Rattle.hwp_cpu_row.specs.hwp_geom.declared.Layout.{Layout}
+use Rattle.hwp_cpu_row.specs.hwp_core_rule.declared.View.{View}
+use Rattle.hwp_cpu_row.specs.hwp_core_task.Classes.{TellsClass}
+use Rattle.hwp_cpu_row.specs.hwp_core_task.Ranks.{HasFrame, HasPage}
+use Rattle.hwp_cpu_command_laws.proofs.of_hwp_cpu_command.of_hwp_cpu_control.EmptyHands.{no-frame, no-page}
 use Rattle.hwp_cpu.specs.declared.processor.Processor.{Processor}
 use Rattle.hwp_cpu.specs.Processors.{claims, claims_of, class, class_of, plan, plan_of}
 use Rattle.hwp_cpu.specs.Serving.{Fits, FitsAt, task}
-use Rattle.hwp_cpu_course.specs.declared.Course.{Course}
+use Rattle.hwp_cpu.specs.declared.course.Course.{Course}
 use Rattle.hwp_cpu_causes.specs.hwp_law_served.hwp_soft.declared.soft.SoftAt.TheVariants as at
 
 pub tells : TellsClass task

@@ -1,42 +1,42 @@
 -- A command takes poison back once at most, so a processor can do it with each of its commands.
-use Rattle.hwp_cpu_course.specs.hwp_cpu_row.hwp_report_text.declared.OfflineResult.{OfflineResult}
+use Rattle.hwp_cpu_row.specs.hwp_report_text.declared.OfflineResult.{OfflineResult}
 use Rattle.std.proofs.Common.{if◌then◌else◌, ◌≡◌, ℕ, ◌+◌, ◌<◌, ◌≤◌, ◌==◌, ◌&&◌, Bool, true, false, not, List, [], ◌∷◌, ◌++◌, Option, Some, None, length, filter_map, ap, ◌∙◌, refl, arith, suc, map}
 use Rattle.std.proofs.lemmas.List.Sums.{sum_by-append, sum_by-cons}
 use Rattle.std.specs.Int.{from_bool}
 use Rattle.std.specs.List.{cons_option, sum_by}
-use Rattle.hwp_cpu_course.specs.hwp_cpu_row.hwp_geom.declared.Cpu.{Cpu}
-use Rattle.hwp_cpu_course.specs.hwp_cpu_row.hwp_geom.declared.Who.{Who}
-use Rattle.hwp_cpu_course.specs.hwp_cpu_row.hwp_geom.Limits.{command_limit}
-use Rattle.hwp_cpu_course.specs.hwp_cpu_row.hwp_geom.Pairs.{Pairs}
-use Rattle.hwp_cpu_course.specs.hwp_cpu_row.hwp_claim.declared.Found.{Found}
-use Rattle.hwp_cpu_course.specs.hwp_cpu_row.hwp_cpu_check.declared.EventOutcome.{EventOutcome}
-use Rattle.hwp_cpu_course.specs.hwp_cpu_row.hwp_cpu_check.Told.{frame_of}
+use Rattle.hwp_cpu_row.specs.hwp_geom.declared.Cpu.{Cpu}
+use Rattle.hwp_cpu_row.specs.hwp_geom.declared.Who.{Who}
+use Rattle.hwp_cpu_row.specs.hwp_geom.Limits.{command_limit}
+use Rattle.hwp_cpu_row.specs.hwp_geom.Pairs.{Pairs}
+use Rattle.hwp_cpu_row.specs.hwp_claim.declared.Found.{Found}
+use Rattle.hwp_cpu_row.specs.hwp_cpu_check.declared.EventOutcome.{EventOutcome}
+use Rattle.hwp_cpu_row.specs.hwp_cpu_check.Told.{frame_of}
 use Rattle.hwp_cpu_causes.specs.hwp_law.Records.{is_poisoning}
-use Rattle.hwp_cpu_course.specs.hwp_cpu_row.hwp_report_text.declared.MarkLine.{MarkLine}
-use Rattle.hwp_cpu_course.specs.hwp_cpu_row.hwp_core_rule.declared.Mark.{Mark}
-use Rattle.hwp_cpu_course.specs.hwp_cpu_row.hwp_core_rule.declared.MarkKind.{MarkKind}
-use Rattle.hwp_cpu_course.specs.hwp_cpu_row.hwp_core_rule.declared.MarkKind.TheVariants as mark_kinds
-use Rattle.hwp_cpu_course.specs.hwp_cpu_row.hwp_core_rule.declared.View.{View}
-use Rattle.hwp_cpu_course.specs.hwp_cpu_row.hwp_core_rule.parts.Counter.{is_revival}
-use Rattle.hwp_cpu_course.specs.hwp_cpu_row.hwp_core_rule.parts.Marks.{revivals_by}
-use Rattle.hwp_cpu_course.specs.hwp_cpu_row.declared.FrameChange.{FrameChange}
-use Rattle.hwp_cpu_course.specs.hwp_cpu_row.declared.FrameChange.TheVariants as owns
-use Rattle.hwp_cpu_course.specs.hwp_cpu_row.declared.Row.{Row}
+use Rattle.hwp_cpu_row.specs.hwp_report_text.declared.MarkLine.{MarkLine}
+use Rattle.hwp_cpu_row.specs.hwp_core_rule.declared.Mark.{Mark}
+use Rattle.hwp_cpu_row.specs.hwp_core_rule.declared.MarkKind.{MarkKind}
+use Rattle.hwp_cpu_row.specs.hwp_core_rule.declared.MarkKind.TheVariants as mark_kinds
+use Rattle.hwp_cpu_row.specs.hwp_core_rule.declared.View.{View}
+use Rattle.hwp_cpu_row.specs.hwp_core_rule.parts.Counter.{is_revival}
+use Rattle.hwp_cpu_row.specs.hwp_core_rule.parts.Marks.{revivals_by}
+use Rattle.hwp_cpu_row.specs.declared.FrameChange.{FrameChange}
+use Rattle.hwp_cpu_row.specs.declared.FrameChange.TheVariants as owns
+use Rattle.hwp_cpu_row.specs.declared.Row.{Row}
 use Rattle.hwp_cpu_causes.specs.hwp_law_served.Accounts.{IsLineOf, IsNote}
 use Rattle.hwp_cpu_causes.specs.hwp_law_served.Rows.{Note, note_by, note_of, notes_from, own_note, row_notes, told_note, act_note}
-use Rattle.hwp_cpu_course.specs.hwp_cpu_command.hwp_soft_unpoison.Unpoisons.{HasRevivalLeft}
+use Rattle.hwp_cpu_command_laws.specs.hwp_cpu_command.hwp_soft_unpoison.Unpoisons.{HasRevivalLeft}
 use Rattle.hwp_cpu.specs.Processors.{at_number}
-use Rattle.hwp_cpu_course.specs.hwp_cpu_row.Acts.{Act, Told, acts, Offlined, acts_from}
+use Rattle.hwp_cpu_row.specs.Acts.{Act, Told, acts, Offlined, acts_from}
 use Rattle.hwp_cpu_causes.specs.hwp_law_served.hwp_report_text.declared.OfflineResult.{OfflineResult}
-use Rattle.hwp_cpu_course.specs.hwp_cpu_row.hwp_core_rule.Lists.{EachMember}
+use Rattle.hwp_cpu_row.specs.hwp_core_rule.Lists.{EachMember}
 use Rattle.hwp_cpu_causes.specs.hwp_law_served.Served.{IsOffliningServed, AreRowsActed}
-use Rattle.hwp_cpu_course.specs.hwp_cpu_row.hwp_script_lines.declared.Command.{Command}
-use Rattle.hwp_cpu_course.specs.hwp_cpu_row.hwp_banks.Banks.{empty_banks, Banks}
-use Rattle.hwp_cpu_course.specs.hwp_cpu_row.hwp_geom.declared.Layout.{Layout}
-use Rattle.hwp_cpu_course.specs.hwp_cpu_row.hwp_report_text.declared.Answer.{Answer}
+use Rattle.hwp_cpu_row.specs.hwp_script_lines.declared.Command.{Command}
+use Rattle.hwp_cpu_row.specs.hwp_banks.Banks.{empty_banks, Banks}
+use Rattle.hwp_cpu_row.specs.hwp_geom.declared.Layout.{Layout}
+use Rattle.hwp_cpu_row.specs.hwp_report_text.declared.Answer.{Answer}
 use Rattle.hwp_cpu_causes.specs.hwp_law_served.Offlinings.{IsOfflineServed}
-use Rattle.hwp_cpu_course.specs.hwp_cpu_row.declared.Offlining.{Offlining}
-use Rattle.hwp_cpu_course.specs.hwp_cpu_row.hwp_geom.declared.Frame.{Frame}
+use Rattle.hwp_cpu_row.specs.declared.Offlining.{Offlining}
+use Rattle.hwp_cpu_row.specs.hwp_geom.declared.Frame.{Frame}
 use Rattle.hwp_cpu_causes.specs.hwp_law_served.hwp_report_text.declared.OfflineResult.TheVariants as results
 
 -- 1 for the note of a poison that was taken back, else 0

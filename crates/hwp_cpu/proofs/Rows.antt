@@ -1,24 +1,24 @@
 -- What is so of some rows is so of them and one more.
 use Rattle.std.proofs.Common.{◌≡◌, ℕ, zero, suc, ◌+◌, ◌<◌, ◌≤◌, ◌⊎◌, inl, inr, List, [], ◌∷◌, ◌++◌, Option, Some, None, length, slice_get, get_or, append-nil, append_assoc, refl, sym, ap, ◌∙◌, subst, arith}
 use Rattle.std.proofs.lemmas.Option.{none-some, same_Some, slice_get-get_or, slice_get_within}
-use Rattle.hwp_cpu_course.specs.hwp_cpu_row.hwp_geom.declared.Cpu.{Cpu}
-use Rattle.hwp_cpu_course.specs.hwp_cpu_row.hwp_geom.declared.Layout.{Layout}
-use Rattle.hwp_cpu_course.specs.hwp_cpu_row.hwp_geom.declared.VSlot.{VSlot}
-use Rattle.hwp_cpu_course.specs.hwp_cpu_row.hwp_geom.declared.Who.{Who}
-use Rattle.hwp_cpu_course.specs.hwp_cpu_row.hwp_law_commands.Cows.{acting, copied_from}
-use Rattle.hwp_cpu_course.specs.hwp_cpu_row.hwp_script_lines.declared.Command.{Command}
-use Rattle.hwp_cpu_course.specs.hwp_cpu_row.hwp_report_text.declared.Answer.{Answer}
-use Rattle.hwp_cpu_course.specs.hwp_cpu_row.hwp_report_text.declared.Answer.TheVariants as answers
-use Rattle.hwp_cpu_course.specs.hwp_cpu_row.hwp_core_rule.declared.Spoiled.{Spoiled}
-use Rattle.hwp_cpu_course.specs.hwp_cpu_row.hwp_core_rule.declared.View.{View}
-use Rattle.hwp_cpu_course.proofs.of_hwp_cpu_row.of_hwp_core_rule.Lists.{at_longer, at_push}
-use Rattle.hwp_cpu_course.specs.hwp_cpu_row.declared.Row.{Row}
-use Rattle.hwp_cpu_course.specs.hwp_cpu_row.hwp_banks.Banks.{Banks}
+use Rattle.hwp_cpu_row.specs.hwp_geom.declared.Cpu.{Cpu}
+use Rattle.hwp_cpu_row.specs.hwp_geom.declared.Layout.{Layout}
+use Rattle.hwp_cpu_row.specs.hwp_geom.declared.VSlot.{VSlot}
+use Rattle.hwp_cpu_row.specs.hwp_geom.declared.Who.{Who}
+use Rattle.hwp_cpu_row.specs.hwp_law_commands.Cows.{acting, copied_from}
+use Rattle.hwp_cpu_row.specs.hwp_script_lines.declared.Command.{Command}
+use Rattle.hwp_cpu_row.specs.hwp_report_text.declared.Answer.{Answer}
+use Rattle.hwp_cpu_row.specs.hwp_report_text.declared.Answer.TheVariants as answers
+use Rattle.hwp_cpu_row.specs.hwp_core_rule.declared.Spoiled.{Spoiled}
+use Rattle.hwp_cpu_row.specs.hwp_core_rule.declared.View.{View}
+use Rattle.hwp_cpu_row.proofs.of_hwp_core_rule.Lists.{at_longer, at_push}
+use Rattle.hwp_cpu_row.specs.declared.Row.{Row}
+use Rattle.hwp_cpu_row.specs.hwp_banks.Banks.{Banks}
 use Rattle.hwp_cpu_causes.specs.hwp_law_served.Handles.{answers_by}
 use Rattle.hwp_cpu_causes.specs.hwp_law_served.Rows.{Note, notes_from, row_notes}
 use Rattle.hwp_cpu_causes.specs.hwp_law_served.Served.{AreRowsActed, IsOwnSpoil, IsOwnStop, IsRowServed, StaysStopped}
 use Rattle.hwp_cpu_causes.proofs.of_hwp_law_served.lines.ScrubBank.{with-free}
-use Rattle.hwp_cpu_course.specs.hwp_cpu_command.hwp_scrub.Visits.{AreBanks}
+use Rattle.hwp_cpu_command_laws.specs.hwp_cpu_command.hwp_scrub.Visits.{AreBanks}
 use Rattle.hwp_cpu.specs.Processors.{at_number}
 use Rattle.hwp_cpu.specs.Serving.{HasStopped}
 

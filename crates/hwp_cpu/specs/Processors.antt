@@ -3,37 +3,37 @@
 use Rattle.std.specs.Prelude.{◌≡◌, ℕ, ◌+◌, ◌-◌, ◌*◌, ◌<◌, ◌≤◌, Bool, false, List, [], ◌∷◌, ◌++◌, Option, Some, None, All, count_by, length, option_map, slice_get, vec_capacity}
 use Rattle.std.specs.Arc.{arc_value}
 use Rattle.std.specs.List.{list_any}
-use Rattle.hwp_cpu_course.specs.hwp_cpu_row.hwp_geom.declared.Cpu.{Cpu}
-use Rattle.hwp_cpu_course.specs.hwp_cpu_row.hwp_geom.declared.Frame.{Frame}
-use Rattle.hwp_cpu_course.specs.hwp_cpu_row.hwp_geom.declared.Layout.{Layout}
-use Rattle.hwp_cpu_course.specs.hwp_cpu_row.hwp_geom.declared.Who.{Who}
-use Rattle.hwp_cpu_course.specs.hwp_cpu_row.hwp_geom.Layout.{IsSound}
-use Rattle.hwp_cpu_course.specs.hwp_cpu_row.hwp_geom.Limits.{command_limit}
-use Rattle.hwp_cpu_course.specs.hwp_cpu_row.hwp_geom.Pairs.{Pairs}
-use Rattle.hwp_cpu_course.specs.hwp_cpu_row.hwp_page.History.{BodyValue}
-use Rattle.hwp_cpu_course.specs.hwp_cpu_row.hwp_script_lines.declared.Command.{Command}
-use Rattle.hwp_cpu_course.specs.hwp_cpu_row.hwp_law_commands.Commands.{is_watch}
-use Rattle.hwp_cpu_course.specs.hwp_cpu_row.hwp_script_read.Forks.{is_fork_of}
-use Rattle.hwp_cpu_course.specs.hwp_cpu_row.hwp_script_read.Valid.{AreForksFit, AreTwinsFit, IsCommandOf}
-use Rattle.hwp_cpu_course.specs.hwp_cpu_row.hwp_report_text.declared.Answer.{Answer}
-use Rattle.hwp_cpu_course.specs.hwp_cpu_row.hwp_core_rule.declared.Step.{Step}
-use Rattle.hwp_cpu_course.specs.hwp_cpu_row.hwp_core_rule.Words.{Words}
-use Rattle.hwp_cpu_course.specs.hwp_cpu_row.hwp_core_task.declared.Turn.{Turn}
-use Rattle.hwp_cpu_course.specs.hwp_cpu_row.hwp_core_task.declared.Turn.TheVariants as turns
-use Rattle.hwp_cpu_course.specs.hwp_cpu_row.hwp_core_task.Ranks.{command_weight}
-use Rattle.hwp_cpu_course.specs.hwp_cpu_command.FileHandles.{HasChangeWithin, StandsOn}
-use Rattle.hwp_cpu_course.specs.hwp_cpu_command.declared.Job.{Job}
-use Rattle.hwp_cpu_course.specs.hwp_cpu_command.Jobs as jobs
-use Rattle.hwp_cpu_course.specs.declared.Course.{Course}
-use Rattle.hwp_cpu_course.specs.Courses as courses
-use Rattle.hwp_cpu_course.specs.Courses.{BeginsCourse, local_after, local_left, part, row_of}
-use Rattle.hwp_cpu_course.specs.hwp_cpu_row.declared.Local.{Local}
-use Rattle.hwp_cpu_course.specs.hwp_cpu_row.CowLists.{acting_in, copied_in, told_in}
-use Rattle.hwp_cpu_course.specs.hwp_cpu_row.GuestLists as guests
-use Rattle.hwp_cpu_course.specs.hwp_cpu_row.GuestLists.{MayTake, MayTell, States, admission_in, line_in}
-use Rattle.hwp_cpu_course.specs.hwp_cpu_row.Locals.{IsFirst}
-use Rattle.hwp_cpu_course.specs.hwp_cpu_row.declared.Row.{Row}
-use Rattle.hwp_cpu_course.specs.hwp_cpu_row.hwp_report_text.declared.GuestLine.{GuestLine}
+use Rattle.hwp_cpu_row.specs.hwp_geom.declared.Cpu.{Cpu}
+use Rattle.hwp_cpu_row.specs.hwp_geom.declared.Frame.{Frame}
+use Rattle.hwp_cpu_row.specs.hwp_geom.declared.Layout.{Layout}
+use Rattle.hwp_cpu_row.specs.hwp_geom.declared.Who.{Who}
+use Rattle.hwp_cpu_row.specs.hwp_geom.Layout.{IsSound}
+use Rattle.hwp_cpu_row.specs.hwp_geom.Limits.{command_limit}
+use Rattle.hwp_cpu_row.specs.hwp_geom.Pairs.{Pairs}
+use Rattle.hwp_cpu_row.specs.hwp_page.History.{BodyValue}
+use Rattle.hwp_cpu_row.specs.hwp_script_lines.declared.Command.{Command}
+use Rattle.hwp_cpu_row.specs.hwp_law_commands.Commands.{is_watch}
+use Rattle.hwp_cpu_row.specs.hwp_script_read.Forks.{is_fork_of}
+use Rattle.hwp_cpu_row.specs.hwp_script_read.Valid.{AreForksFit, AreTwinsFit, IsCommandOf}
+use Rattle.hwp_cpu_row.specs.hwp_report_text.declared.Answer.{Answer}
+use Rattle.hwp_cpu_row.specs.hwp_core_rule.declared.Step.{Step}
+use Rattle.hwp_cpu_row.specs.hwp_core_rule.Words.{Words}
+use Rattle.hwp_cpu_row.specs.hwp_core_task.declared.Turn.{Turn}
+use Rattle.hwp_cpu_row.specs.hwp_core_task.declared.Turn.TheVariants as turns
+use Rattle.hwp_cpu_row.specs.hwp_core_task.Ranks.{command_weight}
+use Rattle.hwp_cpu_command_laws.specs.hwp_cpu_command.FileHandles.{HasChangeWithin, StandsOn}
+use Rattle.hwp_cpu_command_laws.specs.hwp_cpu_command.declared.Job.{Job}
+use Rattle.hwp_cpu_command_laws.specs.hwp_cpu_command.Jobs as jobs
+use Rattle.hwp_cpu.specs.declared.course.Course.{Course}
+use Rattle.hwp_cpu.specs.Courses as courses
+use Rattle.hwp_cpu.specs.Courses.{BeginsCourse, local_after, local_left, part, row_of}
+use Rattle.hwp_cpu_row.specs.declared.Local.{Local}
+use Rattle.hwp_cpu_row.specs.CowLists.{acting_in, copied_in, told_in}
+use Rattle.hwp_cpu_row.specs.GuestLists as guests
+use Rattle.hwp_cpu_row.specs.GuestLists.{MayTake, MayTell, States, admission_in, line_in}
+use Rattle.hwp_cpu_row.specs.Locals.{IsFirst}
+use Rattle.hwp_cpu_row.specs.declared.Row.{Row}
+use Rattle.hwp_cpu_row.specs.hwp_report_text.declared.GuestLine.{GuestLine}
 use Rattle.hwp_cpu.specs.declared.processor.Processor.{Processor}
 
 -- the command of this number of the processor

@@ -2,7 +2,7 @@ ghost use Rattle.std.specs.Prelude.{◌≡◌, [], ◌∷◌, ◌++◌, IfOk};
 ghost use Rattle.hwp_cpu.specs.Processors.{AreFinished};
 
 use crate::processor::Processor;
-use hwp_cpu_course::{List, OutOfMemory, Row};
+use hwp_cpu_row::{List, OutOfMemory, Row};
 use std::alloc::Global;
 
 /// The rows of each processor.

@@ -1,7 +1,10 @@
 //! The commands of one processor as one task: they run one after the other, and each comes to a row.
 #![tactic(auto)]
 
+mod collect;
+mod course;
 mod crew;
+mod due;
 mod processor;
 
 pub use crew::{Rows, dismiss, enlist, rows_of};

@@ -1,14 +1,15 @@
 ghost use Rattle.std.specs.Prelude.{◌≡◌, ◌+◌, ◌<◌, ◌≤◌, length, slice_get, None, IsSome, IfOk, OnErr, IsSomeAnd};
 ghost use Rattle.std.specs.List.{list_any};
 ghost use Rattle.std.specs.Arc.{arc_value};
-ghost use Rattle.hwp_cpu_course.specs.hwp_cpu_row.hwp_geom.Layout.{IsSound};
-ghost use Rattle.hwp_cpu_course.specs.hwp_cpu_row.hwp_geom.Limits.{command_limit};
-ghost use Rattle.hwp_cpu_course.specs.hwp_cpu_row.hwp_law_commands.Commands.{is_watch};
-ghost use Rattle.hwp_cpu_course.specs.hwp_cpu_command.FileHandles.{HasChangeWithin};
+ghost use Rattle.hwp_cpu_row.specs.hwp_geom.Layout.{IsSound};
+ghost use Rattle.hwp_cpu_row.specs.hwp_geom.Limits.{command_limit};
+ghost use Rattle.hwp_cpu_row.specs.hwp_law_commands.Commands.{is_watch};
+ghost use Rattle.hwp_cpu_command_laws.specs.hwp_cpu_command.FileHandles.{HasChangeWithin};
 ghost use Rattle.hwp_cpu.specs.Processors.{AreCommands, AtBeginning, BeginsAt, IsAnswered, IsReady, MayTellOf, at_number, command_now, left_of, line_of, told_local};
 
-use hwp_cpu_course::{
-    Answer, Body, Command, Course, Cpu, GuestLine, Layout, List, Local, OutOfMemory, Ranked, Row,
+use crate::course::Course;
+use hwp_cpu_row::{
+    Answer, Body, Command, Cpu, GuestLine, Layout, List, Local, OutOfMemory, Ranked, Row,
     Scheduled, Step, Task, Turn, Who,
 };
 use std::alloc::{AllocError, Global};

@@ -46,8 +46,8 @@ use Rattle.hwp_top_turns.specs.hwp_soft.contracts.soft.SoftAt as SoftAt
 use Rattle.hwp_top_turns.specs.hwp_soft.contracts.soft.Soft as Soft
 use Rattle.hwp_top_turns.specs.hwp_soft_unpoison.contracts.unpoison.Unpoison as Unpoison
 use Rattle.hwp_top_turns.specs.hwp_cpu_command.contracts.job.Job as Job
-use Rattle.hwp_top_turns.specs.hwp_cpu_course.contracts.due.DueFrames as DueFrames
-use Rattle.hwp_top_turns.specs.hwp_cpu_course.contracts.course.Course as Course
+use Rattle.hwp_top_turns.specs.hwp_cpu.contracts.due.DueFrames as DueFrames
+use Rattle.hwp_top_turns.specs.hwp_cpu.contracts.course.Course as Course
 use Rattle.hwp_top_turns.specs.hwp_cpu.contracts.processor.Processor as Processor
 
 list-send : (T : RattleType) → IsSend T → IsSend (List.the_row T)

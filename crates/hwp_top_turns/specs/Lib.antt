@@ -11,7 +11,6 @@ pub use Rattle.hwp_top_report.specs.hwp_cpu_access as hwp_cpu_access
 pub use Rattle.hwp_top_report.specs.hwp_cpu_check as hwp_cpu_check
 pub use Rattle.hwp_top_report.specs.hwp_cpu_command as hwp_cpu_command
 pub use Rattle.hwp_top_report.specs.hwp_cpu_control as hwp_cpu_control
-pub use Rattle.hwp_top_report.specs.hwp_cpu_course as hwp_cpu_course
 pub use Rattle.hwp_top_report.specs.hwp_cpu_row as hwp_cpu_row
 pub use Rattle.hwp_top_report.specs.hwp_evict as hwp_evict
 pub use Rattle.hwp_top_report.specs.hwp_fault as hwp_fault

@@ -1,6 +1,6 @@
 use Rattle.std.proofs.Common.{subst, Option, sym, ◌∙◌}
 use Rattle.std.specs.Arc.{arc_value}
-use Rattle.hwp_cpu_course.specs.declared.Course.{Course}
+use Rattle.hwp_cpu.specs.declared.course.Course.{Course}
 use Rattle.hwp_cpu.specs.Processors.{ShowsOf, command_now}
 use Rattle.hwp_cpu.proofs.GuestsKept.{tells-now}
 use Rattle.hwp_cpu.proofs.Within.{course-within}

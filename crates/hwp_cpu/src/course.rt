@@ -1,0 +1,345 @@
+ghost use Rattle.std.specs.Prelude.{◌≡◌, ◌<◌, ◌≤◌, true, None, length, OnOk, OnErr};
+ghost use Rattle.hwp_cpu_row.specs.hwp_geom.Layout.{IsSound};
+ghost use Rattle.hwp_cpu_row.specs.hwp_script_read.Valid.{IsCommandOf};
+ghost use Rattle.hwp_cpu_row.specs.Locals.{collects};
+ghost use Rattle.hwp_cpu_command_laws.specs.hwp_cpu_command.Begins.{CanCopy, CanDeny};
+ghost use Rattle.hwp_cpu_command_laws.specs.hwp_cpu_command.FileHandles.{HasChangeWithin, StandsOn};
+ghost use Rattle.hwp_cpu_command_laws.specs.hwp_cpu_command.Jobs.{told_of};
+ghost use Rattle.hwp_cpu.specs.Courses.{AfterCollecting, AfterOwnBy, AfterRest, BeginsCourse, Covers, IsGoingOn, answer, local_after, local_left, offline_result, passed, rests, row_of, with_result};
+
+use crate::due::DueFrames;
+use hwp_cpu_command_laws::{Job, offlined_by};
+use hwp_cpu_row::{
+    Admit, Answer, Body, Command, Frame, Layout, Local, OfflineResult, Offlining, OutOfMemory,
+    Ranked, Row, Scheduled, Step, Task, Turn, VSlot, Watching, Who,
+};
+use hwp_soft::{Soft, SoftAnswer};
+use std::alloc::Global;
+
+/// A command with the frames that are taken out of use beside it (this project's rule). Where its own task pauses behind a machine check, and
+/// where that has its answer, its processor's collector takes the notes of what it told, the frames that are due are taken out of use one
+/// after the other, and then it goes on.
+#[derive(Drop)]
+pub struct Course {
+    /// The command's own task.
+    own: Job,
+    /// The frame that is taken out of use now; none while the command's own task goes on.
+    beside: Option<Soft>,
+    /// The processor's collector, if it has one.
+    watching: Option<Watching>,
+    /// How many of the events that the command told of the collector has got.
+    noted: usize,
+    /// The frames that are due, and what came of them so far.
+    due: DueFrames,
+    /// How many frames the machine has, for which the collector has room. A turn on a machine with another number notes nothing.
+    frames: u16,
+}
+
+impl Course {
+    /// The command at its beginning. It takes what its processor's banks hold, where it can add to that, and its collector. A store copies
+    /// the page of the translation `copies` first, where there is one. An access that its guest doesn't admit does
+    /// nothing, and is answered so.
+    pub fn new(
+        alloc: Global,
+        layout: &Layout,
+        who: Who,
+        command: Command,
+        copies: Option<VSlot>,
+        admit: Admit,
+        local: &mut Local,
+    ) -> Course
+        requires sound { IsSound layout.now }
+        requires of { IsCommandOf layout.now who.cpu.0 command }
+        requires copies { CanCopy layout.now who.cpu.0 command copies }
+        requires denied { CanDeny command admit }
+        ensures begins { BeginsCourse layout.now who command copies admit local.old result }
+        ensures local { local.new ≡ local_left result local.old }
+    {
+        let own = Job::new(alloc, layout, who, command, copies, admit, local);
+        Course {
+            own,
+            beside: None,
+            watching: local.watching.take(),
+            noted: 0,
+            due: DueFrames::new(alloc),
+            frames: layout.frames,
+        }
+    }
+
+    /// The same in place of the command that is there, which is let go: what it carries lies where the other one lay.
+    pub fn begin_next(
+        &mut self,
+        alloc: Global,
+        layout: &Layout,
+        who: Who,
+        command: Command,
+        copies: Option<VSlot>,
+        admit: Admit,
+        local: &mut Local,
+    )
+        requires sound { IsSound layout.now }
+        requires of { IsCommandOf layout.now who.cpu.0 command }
+        requires copies { CanCopy layout.now who.cpu.0 command copies }
+        requires denied { CanDeny command admit }
+        ensures begins { BeginsCourse layout.now who command copies admit local.old self.new }
+        ensures local { local.new ≡ local_left self.new local.old }
+    {
+        self.own
+            .begin_next(alloc, layout, who, command, copies, admit, local);
+        clear(&mut self.beside);
+        set(&mut self.watching, local.watching.take());
+        self.noted = 0;
+        set(&mut self.due, DueFrames::new(alloc));
+        self.frames = layout.frames;
+    }
+
+    /// What the command answers; `None` until its own task is over and no frame is due, and where memory ran out.
+    #[inline(always)]
+    pub fn answer(&self) -> Option<Answer>
+        ensures { result ≡ answer self.now }
+    {
+        match self.beside {
+            Some(_) => None,
+            None => self.own.answer(),
+        }
+    }
+
+    /// The row of a command that is over, with this answer. Its processor gets back what the command took of it.
+    pub fn finish(&mut self, alloc: Global, answer: Answer, local: &mut Local) -> Row
+        requires within { HasChangeWithin self.old.own }
+        ensures row { result ≡ row_of self.old answer }
+        ensures local { local.new ≡ local_after self.old answer local.old }
+        ensures stands { StandsOn self.old.own answer self.old.watching }
+    {
+        set(&mut local.watching, self.watching.take());
+        let offlined = self.due.finish(alloc);
+        self.own.finish(alloc, answer, offlined, local)
+    }
+
+    /// Whether frames may be taken out of use: an access pauses, or any other command has its answer.
+    fn rests(&self) -> bool
+        ensures { result ≡ rests self.now.own }
+    {
+        match &self.own {
+            Job::Instruction(instruction) => instruction.pause().is_some(),
+            Job::Copying(copying) => copying.pause().is_some(),
+            other => other.answer().is_some(),
+        }
+    }
+
+    /// What an access told without a pause notes nothing, and the collector passes it over.
+    fn pass(&mut self)
+        ensures { self.new ≡ record self.old { noted = passed self.old.own self.old.noted } }
+    {
+        match &self.own {
+            Job::Instruction(instruction) => self.noted = instruction.told().len(),
+            Job::Copying(copying) => self.noted = copying.told().len(),
+            _ => {}
+        }
+    }
+
+    /// The turn of its own task, where the processor collects.
+    fn after_own(&mut self, layout: &Layout, turn: Turn) -> Turn
+        requires on { collects self.old.watching ≡ true }
+        requires covered { Covers self.old.frames self.old.watching }
+        ensures { AfterOwnBy layout.now self.old (rests self.old.own) turn self.new result }
+    {
+        if !self.rests() {
+            self.pass();
+            return turn;
+        }
+        let pauses = self.own.pauses();
+        let then = self.after_rest(layout);
+        if pauses { turn } else { then }
+    }
+
+    /// Its own task rests, and the processor collects: what it told since is noted, and the first frame that is due is taken out of use.
+    /// Without room for that the command is given up.
+    fn after_rest(&mut self, layout: &Layout) -> Turn
+        requires on { collects self.old.watching ≡ true }
+        requires covered { Covers self.old.frames self.old.watching }
+        ensures { AfterRest layout.now self.old self.new result }
+    {
+        let told = self.own.told().len();
+        if self.noted < told && layout.frames == self.frames && self.collect(layout).is_err() {
+            self.own.give_up();
+            return Turn::Moved;
+        }
+        self.go_on()
+    }
+
+    /// The collector takes the notes of what the command told since it got some last.
+    fn collect(&mut self, layout: &Layout) -> Result<(), OutOfMemory>
+        requires on { collects self.old.watching ≡ true }
+        requires covered { Covers layout.now.frames self.old.watching }
+        requires noted { self.old.noted ≤ length (told_of self.old.own) }
+        ensures ok { OnOk result (AfterCollecting layout.now self.old self.new) }
+        ensures err { OnErr result (self.new ≡ self.old) }
+    {
+        let Some(mut watching) = self.watching.take() else {
+            unreachable!()
+        };
+        let told = self.own.told();
+        let (_, since) = told.split_at(self.noted);
+        let noted = told.len();
+        match self.due.collect(layout, since, &mut watching.collector) {
+            Ok(()) => {
+                self.noted = noted;
+                set(&mut self.watching, Some(watching));
+                Ok(())
+            }
+            Err(refused) => {
+                set(&mut self.watching, Some(watching));
+                Err(refused)
+            }
+        }
+    }
+
+    /// The frame that was taken out of use beside it came to this.
+    fn after_soft(&mut self, frame: Frame, answer: SoftAnswer) -> Turn
+        requires room { 0 < self.old.due.spare }
+        ensures { IsGoingOn (with_result self.old frame answer) self.new result }
+    {
+        let offlining = Offlining {
+            frame,
+            result: offline_result(answer),
+            change: offlined_by(frame, answer),
+            told: self.own.told().len(),
+        };
+        self.due.push(offlining);
+        self.go_on()
+    }
+
+    /// The next frame that is due is taken out of use; or, where none is, the command's own task goes on.
+    fn go_on(&mut self) -> Turn
+        ensures { IsGoingOn self.old self.new result }
+    {
+        match self.due.next() {
+            Some(frame) => {
+                let soft = Soft::new(self.own.who(), frame);
+                set(&mut self.beside, Some(soft));
+                Turn::Moved
+            }
+            None => {
+                self.own.resume();
+                set(&mut self.beside, None);
+                if self.own.answer().is_some() {
+                    Turn::Answered
+                } else {
+                    Turn::Moved
+                }
+            }
+        }
+    }
+}
+
+/// What was there is let go where it lies.
+fn set<T: Drop>(place: &mut T, value: T)
+    ensures { place.new ≡ value }
+{
+    *place = value;
+}
+
+/// Nothing is there. To find that out costs less than to let go of what isn't there.
+#[inline(always)]
+fn clear<T: Drop>(place: &mut Option<T>)
+    ensures { place.new ≡ None }
+{
+    if place.is_some() {
+        set(place, None);
+    }
+}
+
+/// Whether the processor collects corrected errors.
+#[inline(always)]
+fn collects(watching: &Option<Watching>) -> bool
+    ensures { result ≡ collects watching.now }
+{
+    match watching {
+        Some(watching) => watching.on,
+        None => false,
+    }
+}
+
+/// What came of a frame that was to be taken out of use. One that is due isn't the kernel's.
+fn offline_result(answer: SoftAnswer) -> OfflineResult
+    ensures { result ≡ offline_result answer }
+{
+    match answer {
+        SoftAnswer::Stopped | SoftAnswer::Kernel => OfflineResult::Stopped,
+        SoftAnswer::Already => OfflineResult::Already,
+        SoftAnswer::HasBad(mask) => OfflineResult::HasBad(mask),
+        SoftAnswer::NoFrame => OfflineResult::NoFrame,
+        SoftAnswer::TakenFree { .. } => OfflineResult::TakenFree,
+        SoftAnswer::Moved { frame, at, .. } => OfflineResult::Moved(frame, at),
+    }
+}
+
+impl Task for Course {
+    ghost use Rattle.hwp_cpu.specs.Courses as courses;
+
+    ghost task = { courses.task };
+
+    #[inline(always)]
+    fn who(&self) -> Who {
+        self.own.who()
+    }
+
+    #[inline(always)]
+    fn plan(&self) -> Option<Step> {
+        match &self.beside {
+            Some(soft) => soft.plan(),
+            None => self.own.plan(),
+        }
+    }
+
+    #[inline(always)]
+    fn give(&mut self) -> Option<Body> {
+        match &mut self.beside {
+            Some(soft) => soft.give(),
+            None => self.own.give(),
+        }
+    }
+
+    #[inline(always)]
+    fn settle(&mut self, layout: &Layout, found: u64, body: Option<Body>) -> Turn {
+        if let Some(soft) = &mut self.beside {
+            let turn = soft.settle(layout, found, body);
+            let Some(answer) = soft.answer() else {
+                return turn;
+            };
+            let frame = soft.frame();
+            return self.after_soft(frame, answer);
+        }
+        let turn = self.own.settle(layout, found, body);
+        if collects(&self.watching) {
+            self.after_own(layout, turn)
+        } else {
+            turn
+        }
+    }
+}
+
+impl Ranked for Course {
+    #[inline(always)]
+    fn class(&self) -> u8 {
+        match &self.beside {
+            Some(soft) => soft.class(),
+            None => self.own.class(),
+        }
+    }
+
+    fn ranked() {}
+}
+
+impl Scheduled for Course {
+    #[inline(always)]
+    fn is_over(&self) -> bool {
+        match &self.beside {
+            Some(soft) => soft.is_over(),
+            None => self.own.is_over(),
+        }
+    }
+
+    fn tells() {}
+}

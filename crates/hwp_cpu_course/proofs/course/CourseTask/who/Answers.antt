@@ -1,5 +1,0 @@
-use Rattle.hwp_cpu_course.proofs.course.CourseTask.who.Goals as goal
-use Rattle.hwp_cpu_course.proofs.CourseLaws.{lawful}
-
-pub returns-clause-law : goal.returns-clause-law
-returns-clause-law c = lawful
