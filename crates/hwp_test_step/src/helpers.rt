@@ -74,6 +74,14 @@ pub fn call(
     call_untold(rt, alloc, words, script, read, sink, &[])
 }
 
+/// The report that `step` writes of a script, with nothing that fails.
+pub fn report_of(rt: &impl Abort, alloc: Global, script: &str) -> MemSink {
+    let left = call(rt, alloc, &["step"], script.as_bytes(), &[], (4096, &[]));
+    let Left { reported, out, .. } = left;
+    assert!(rt; reported);
+    out
+}
+
 /// The call gave a report or not, ended with the status, and left these texts on `out` and on `err`. What it left is let go here.
 pub fn leaves(rt: &impl Abort, left: Left, reported: bool, status: u8, out: &str, err: &str) {
     let texts = (

@@ -1,9 +1,18 @@
-//! Tests of the top call: faults of the source and the sink, and scripts made from a seed.
+//! Tests of the top call: faults of the source and the sink, scripts made from a seed, and races, which are two processors under every
+//! order of their first turns. Each report of a race is judged, and those of some meetings are compared with what they may come to.
 #![tactic(auto)]
 
+#[cfg(test)]
+mod copying;
 #[cfg(test)]
 mod faults;
 #[cfg(test)]
 mod helpers;
+#[cfg(test)]
+mod judging;
+#[cfg(test)]
+mod meetings;
+#[cfg(test)]
+mod offlinings;
 #[cfg(test)]
 mod seeds;

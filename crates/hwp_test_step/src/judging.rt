@@ -1,8 +1,6 @@
 //! Two processors under every order of their first turns: the checker calls each report legal.
 
-use crate::stepping::report_of;
-use hwp_check::{Verdict, judge};
-use hwp_io::{MemSource, read_all};
+use crate::helpers::{call, leaves, report_of};
 use std::alloc::Global;
 use std::process::Abort;
 
@@ -25,15 +23,12 @@ pub fn scheduled(rt: &impl Abort, alloc: Global, front: &str, turns: u32, number
     script
 }
 
-/// The report of a script is legal.
+/// `check` says that the report of a script is legal.
 pub fn are_legal(rt: &impl Abort, alloc: Global, script: &str, report: &[u8]) {
     let mut input = script.as_bytes().to_vec(alloc).expect(rt, "memory");
     input.extend_from_slice(report).expect(rt, "memory");
-    let limit = input.len();
-    let mut src = MemSource::new(input, Vec::new(alloc));
-    let input = read_all(alloc, &mut src, limit).expect(rt, "the input");
-    let verdict = judge(alloc, input).expect(rt, "a script");
-    assert!(rt; matches!(verdict, Verdict::Legal));
+    let left = call(rt, alloc, &["check"], input.as_slice(), &[], (4096, &[]));
+    leaves(rt, left, false, 0, "legal\n", "");
 }
 
 /// The report that a script gives begins so, and is legal.

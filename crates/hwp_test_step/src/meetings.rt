@@ -1,7 +1,7 @@
 //! Two commands on one frame, or on one file, under every order of twelve turns: the reports that they can come to.
 
+use crate::helpers::report_of;
 use crate::judging::{are_legal, scheduled};
-use crate::stepping::report_of;
 use std::alloc::Global;
 use std::process::Abort;
 
