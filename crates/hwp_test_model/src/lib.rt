@@ -1,7 +1,10 @@
 //! Tests of calls of the machine that no program shows as they are: a page that fails, tasks on a board in plain vectors, turn by turn,
-//! what tasks answer that give references back or let a page go, and what that board and the table are closed with.
+//! what tasks answer that give references back or let a page go, what that board and the table are closed with, and how often
+//! translation caches hit, fill and flush.
 #![tactic(auto)]
 
+#[cfg(test)]
+mod caches;
 #[cfg(test)]
 mod ends;
 #[cfg(test)]

@@ -1,4 +1,4 @@
-//! Worked scripts on the seats of a board. The numbers were worked out by hand, from the rules of FORMATS.md.
+//! Worked scripts on the seats of a board, each with a translation cache: how often they hit, fill and flush. The numbers were worked out by hand, from the rules of FORMATS.md.
 
 ghost use Rattle.std.specs.Prelude.{◌≡◌, []};
 ghost use Rattle.hwp_script_read.specs.Valid.{IsValid};
@@ -6,7 +6,7 @@ ghost use Rattle.hwp_tlb.specs.hwp_table_words.Known.{first_knowing};
 ghost use Rattle.hwp_tlb.specs.hwp_table_words.Seats.{IsTableOf};
 
 use hwp_script_read::{List, Script, read};
-use hwp_tlb::{OfTable, OutOfMemory, TlbBoard, TlbCounts, TlbPass, TlbSeat, TlbShared, begin};
+use hwp_tlb::{OfTable, TlbBoard, TlbCounts, TlbPass, TlbSeat, TlbShared, begin};
 use hwp_top_turns::play;
 use std::alloc::Global;
 use std::marker::Brand;
@@ -54,19 +54,20 @@ fn script(rt: &impl Abort, alloc: Global, bytes: &[u8]) -> Script
 
 /// The seats of the script's processors, behind all their turns.
 fn played<'a, N: OfTable>(
+    rt: &impl Abort,
     alloc: Global,
     sheet: &'a TlbShared,
     script: &'a Script,
     pass: TlbPass,
-) -> Result<List<TlbSeat<'a>>, OutOfMemory>
+) -> List<TlbSeat<'a>>
     requires valid { IsValid script.now }
     requires named { N.table ≡ sheet.now.table_id }
     requires table { IsTableOf 16 script.now.layout sheet.now.table_id × (sheet.now.key ≡ script.now.layout) }
     requires seat { (pass.table_id ≡ sheet.now.table_id) × (pass.me ≡ (first_knowing script.now.layout, [])) }
 {
-    let mut board = TlbBoard::<N>::new(alloc, sheet, &script.layout, pass)?;
-    play(alloc, script, &mut board)?;
-    Ok(board.seats())
+    let mut board = TlbBoard::<N>::new(alloc, sheet, &script.layout, pass).expect(rt, "memory");
+    play(alloc, script, &mut board).expect(rt, "memory");
+    board.seats()
 }
 
 /// Each seat counts what is due.
@@ -88,7 +89,7 @@ fn counts_are(rt: &impl Abort, alloc: Global, bytes: &[u8], due: &[[u64; 3]]) {
     let layout = script.layout.copy(alloc).expect(rt, "memory");
     let layout = Arc::new(alloc, layout).expect(rt, "memory");
     let (table, pass) = begin(alloc, &layout).expect(rt, "memory");
-    let seats = played::<Brand>(alloc, &table.shared, &script, pass).expect(rt, "memory");
+    let seats = played::<Brand>(rt, alloc, &table.shared, &script, pass);
     count(rt, seats.as_slice(), due);
 }
 
