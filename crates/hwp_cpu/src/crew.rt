@@ -9,7 +9,8 @@ use std::alloc::Global;
 pub type Rows = List<List<Row>>;
 
 /// Adds a processor at the end of the crew, where there is memory; else lets it go. Each crate that lets processors go proves anew how
-/// every type inside is let go, so hwp_top_turns calls this and `dismiss`.
+/// every type inside is let go. So this crate alone does: hwp_top_turns calls this and `dismiss`, and hwp_top_threads `deal_seats` and
+/// `gather_seats`.
 pub fn enlist(crew: &mut Vec<Processor>, processor: Processor) -> Result<(), OutOfMemory>
     ensures { IfOk result (λ _. crew.new.items ≡ crew.old.items ++ processor ∷ []) }
 {

@@ -6,6 +6,8 @@ mod course;
 mod crew;
 mod due;
 mod processor;
+mod seats;
 
 pub use crew::{Rows, dismiss, enlist, rows_of};
 pub use processor::Processor;
+pub use seats::{CrewWorker, deal_seats, gather_seats};

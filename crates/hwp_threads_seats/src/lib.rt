@@ -7,3 +7,4 @@ mod gathering;
 
 pub use dealing::{SeatWorker, deal};
 pub use gathering::gather;
+pub use hwp_table_words::{Pass, Sheet, Ways};

@@ -13,8 +13,8 @@ pub use hwp_table_words::{Bare, Cached, Ended, Pass, Sheet, Slot, TlbCounts, Way
 pub use hwp_top_report::{
     Board, CacheWord, CounterWord, Cpu, Frame, FrameWord, Kind, Layout, List, MAX_SCRIPT, Ops,
     OutOfMemory, Page, PageWord, PolicyWord, ProcessWord, Processor, Pte, Report, Rows, Script,
-    SharedWord, StopWord, Task, Text, Turn, Who, index, is_text, kind_name, policy_word, print,
-    read_number, rows_of,
+    SharedWord, StopWord, Task, Text, Turn, Who, deal_seats, gather_seats, index, is_text,
+    kind_name, policy_word, print, read_number, rows_of,
 };
 pub use plain::{report_of, run_plain};
 pub use playing::play;
