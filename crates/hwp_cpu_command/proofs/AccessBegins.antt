@@ -26,12 +26,15 @@ access-declared layout cpu (commands.KLoad thread slot line) at is of = subst (I
 access-declared layout cpu (commands.Store thread slot line word) at is of = subst (IsDeclared layout cpu) (same_Some _ at is) of
 access-declared layout cpu command at is of = absurd (none-some at is)
 
-pub access-begins : (layout : Layout) (who : Who) (command : Command) (at : LineAccess) (banks : Banks) (collects : Bool) (j : Job) → access_in command ≡ Some at → BeginsLine layout who at banks collects j → Begins layout who command banks collects j
-access-begins layout who (commands.Load thread slot line) at banks collects j is begins = subst (λ (a : LineAccess). BeginsLine layout who a banks collects j) (sym (same_Some _ at is)) begins
-access-begins layout who (commands.Fetch thread slot line) at banks collects j is begins = subst (λ (a : LineAccess). BeginsLine layout who a banks collects j) (sym (same_Some _ at is)) begins
-access-begins layout who (commands.KLoad thread slot line) at banks collects j is begins = subst (λ (a : LineAccess). BeginsLine layout who a banks collects j) (sym (same_Some _ at is)) begins
-access-begins layout who (commands.Store thread slot line word) at banks collects j is begins = subst (λ (a : LineAccess). BeginsLine layout who a banks collects j) (sym (same_Some _ at is)) begins
-access-begins layout who command at banks collects j is begins = absurd (none-some at is)
+line-begins : (layout : Layout) (who : Who) (command : Command) (at : LineAccess) (banks : Banks) (collects : Bool) (j : Job) → access_in command ≡ Some at → BeginsLine layout who at banks collects j → Begins layout who command banks collects j
+line-begins layout who (commands.Load thread slot line) at banks collects j is begins = subst (λ (a : LineAccess). BeginsLine layout who a banks collects j) (sym (same_Some _ at is)) begins
+line-begins layout who (commands.Fetch thread slot line) at banks collects j is begins = subst (λ (a : LineAccess). BeginsLine layout who a banks collects j) (sym (same_Some _ at is)) begins
+line-begins layout who (commands.KLoad thread slot line) at banks collects j is begins = subst (λ (a : LineAccess). BeginsLine layout who a banks collects j) (sym (same_Some _ at is)) begins
+line-begins layout who (commands.Store thread slot line word) at banks collects j is begins = subst (λ (a : LineAccess). BeginsLine layout who a banks collects j) (sym (same_Some _ at is)) begins
+line-begins layout who command at banks collects j is begins = absurd (none-some at is)
+
+pub access-begins : (layout : Layout) (who : Who) (command : Command) (at : LineAccess) (banks : Banks) {given collects : Bool} (j : Job) → access_in command ≡ Some at → given ≡ collects → BeginsLine layout who at banks given j → Begins layout who command banks collects j
+access-begins layout who command at banks {given} {collects} j is same begins = line-begins layout who command at banks collects j is (subst (λ (b : Bool). BeginsLine layout who at banks b j) same begins)
 
 -- it is the access that the command is
 pub access-is : (command : Command) (at : LineAccess) → access_in command ≡ Some at → access_of command ≡ Some (access at.thread at.slot at.line)

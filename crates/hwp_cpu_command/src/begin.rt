@@ -9,14 +9,11 @@ ghost use Rattle.hwp_cpu_row.specs.hwp_banks.Banks.{raw_event};
 ghost use Rattle.hwp_cpu_row.specs.Locals.{collects, number_in};
 ghost use Rattle.hwp_cpu_row.specs.hwp_law_commands.Commands.{access_of, process_of_thread};
 ghost use Rattle.hwp_cpu_row.specs.hwp_law_commands.Settings.{arguments};
-ghost use Rattle.hwp_cpu_control.specs.Spoils as spoils;
-ghost use Rattle.hwp_soft.specs.hwp_claim.Injects as injects;
-ghost use Rattle.hwp_soft.specs.Softs as softs;
 ghost use Rattle.hwp_scrub.specs.Scrubs as scrubs;
 ghost use Rattle.hwp_evict.specs.Fsyncs as fsyncs;
 ghost use Rattle.hwp_scrub.specs.declared.LocalChange.TheVariants as changes;
 ghost use Rattle.hwp_scrub.specs.Logs as logs;
-ghost use Rattle.hwp_cpu_command.specs.Begins.{Begins, BeginsAs, BeginsCopy, BeginsFork, BeginsLine, BeginsPrctl, BeginsRaiseUser, BeginsWith, CanCopy, CanCopyFrom, CanDeny, IsDeniedAnyhow, access_in, begun_access, is_rare, line_access, request_of};
+ghost use Rattle.hwp_cpu_command.specs.Begins.{Begins, BeginsAs, BeginsCopy, BeginsFork, BeginsLine, BeginsPrctl, BeginsRaiseUser, BeginsWith, CanCopy, CanCopyFrom, CanDeny, IsDeniedAnyhow, access_in, is_rare, line_access, request_of};
 ghost use Rattle.hwp_cpu_command.specs.FileHandles.{HasHandle, local_left};
 ghost use Rattle.hwp_cpu_command.specs.Jobs.{left_in};
 ghost use Rattle.hwp_cpu_command.specs.declared.job.Job.TheVariants as jobs;
@@ -109,18 +106,10 @@ impl Job {
         let banks = &mut local.banks;
         match copies {
             Some(from) => copy(alloc, layout, who, &command, from, collects, banks, self),
-            None => {
-                begin(
-                    alloc,
-                    layout,
-                    who,
-                    command,
-                    collects,
-                    banks,
-                    &local.handles,
-                    self,
-                )
-            }
+            None => match access_in(&command) {
+                Some(at) => access(alloc, layout, who, at, collects, banks, self),
+                None => begin_other(alloc, layout, who, &command, banks, &local.handles, self),
+            },
         }
     }
 }
@@ -196,31 +185,8 @@ fn copy(
     );
 }
 
-/// The command at its beginning, of a processor with these banks and handles, in place of the one that is there. What a kind of command
-/// needs room for stands in a function of its own.
-fn begin(
-    alloc: Global,
-    layout: &Layout,
-    who: Who,
-    command: Command,
-    collects: bool,
-    banks: &mut [Bank; BANKS],
-    handles: &Handles,
-    job: &mut Job,
-)
-    requires sound { IsSound layout.now }
-    requires of { IsCommandOf layout.now who.cpu.0 command }
-    ensures begins { Begins layout.now who command banks.old collects job.new }
-    ensures handle { HasHandle handles.now job.new }
-    ensures banks { banks.new ≡ left_in job.new banks.old }
-{
-    match access_in(&command) {
-        Some(at) => access(alloc, layout, who, at, collects, banks, job),
-        None => begin_other(alloc, layout, who, &command, banks, handles, job),
-    }
-}
-
-/// The same of a command that is no access, which doesn't ask whether its processor collects corrected errors.
+/// A command that is no access, at its beginning, in place of the one that is there. It doesn't ask whether its processor collects corrected
+/// errors.
 fn begin_other(
     alloc: Global,
     layout: &Layout,
@@ -240,16 +206,25 @@ fn begin_other(
     match *command {
         Command::Load { .. } | Command::Fetch { .. } => unreachable!(),
         Command::KLoad { .. } | Command::Store { .. } => unreachable!(),
-        Command::Free { slot } => evict(Evict::free_slot(who, slot, page_of(layout, slot)), job),
-        Command::Drop { page } => evict(Evict::drop_page(who, page), job),
-        Command::Sync { page } => evict(Evict::sync_page(who, page), job),
-        Command::Out { page } => evict(Evict::out_page(who, page), job),
-        Command::Fsync { file } => ask(who, file, handles, false, job),
-        Command::Open { file } => ask(who, file, handles, true, job),
-        Command::Bad { frame, line } => spoil_line(who, frame, line, Damage::Bad, job),
-        Command::Weak { frame, line } => spoil_line(who, frame, line, Damage::Weak, job),
-        Command::Inject { frame } => inject(alloc, who, frame, job),
-        Command::Soft { frame } => soft(who, frame, job),
+        Command::Free { slot } => {
+            let page = page_of(layout, slot);
+            set(job, Job::Evict(Evict::free_slot(who, slot, page)))
+        }
+        Command::Drop { page } => set(job, Job::Evict(Evict::drop_page(who, page))),
+        Command::Sync { page } => set(job, Job::Evict(Evict::sync_page(who, page))),
+        Command::Out { page } => set(job, Job::Evict(Evict::out_page(who, page))),
+        Command::Fsync { file } => set(job, Job::Fsync(ask(who, file, handles, false))),
+        Command::Open { file } => set(job, Job::Fsync(ask(who, file, handles, true))),
+        Command::Bad { frame, line } => set(
+            job,
+            Job::Spoil(Spoil::new(who, frame, line, Damage::Bad)),
+        ),
+        Command::Weak { frame, line } => set(
+            job,
+            Job::Spoil(Spoil::new(who, frame, line, Damage::Weak)),
+        ),
+        Command::Inject { frame } => set(job, Job::Inject(Inject::new(alloc, who, frame))),
+        Command::Soft { frame } => set(job, Job::Soft(Soft::new(who, frame))),
         _ => begin_rare(alloc, layout, who, command, banks, job),
     }
 }
@@ -331,30 +306,21 @@ fn raise_user(
     Raise::new(alloc, who, Some(raiser), mcg, taken(banks))
 }
 
-/// The value lies in the place, and the one before it is let go there.
+/// The value lies in the place, and the one before it is let go there. A call of `assign` at a job proves what a job is laid out as: it
+/// stands once.
 #[inline(always)]
-fn set<T: Drop>(place: &mut T, value: T)
+fn set(place: &mut Job, value: Job)
+    ensures { place.new ≡ value }
+{
+    assign(place, value);
+}
+
+/// The same of a value of any type: an assignment in a function that knows the type has its parts let go one by one.
+#[inline(always)]
+fn assign<T: Drop>(place: &mut T, value: T)
     ensures { place.new ≡ value }
 {
     *place = value;
-}
-
-fn evict(evict: Evict, job: &mut Job)
-    ensures { job.new ≡ jobs.Evict evict }
-{
-    set(job, Job::Evict(evict));
-}
-
-fn inject(alloc: Global, who: Who, frame: Frame, job: &mut Job)
-    ensures { job.new ≡ jobs.Inject (injects.begin alloc who frame) }
-{
-    set(job, Job::Inject(Inject::new(alloc, who, frame)));
-}
-
-fn soft(who: Who, frame: Frame, job: &mut Job)
-    ensures { job.new ≡ jobs.Soft (softs.begin who frame) }
-{
-    set(job, Job::Soft(Soft::new(who, frame)));
 }
 
 /// A scrub at its beginning, which takes what the banks hold.
@@ -374,13 +340,10 @@ fn taken(banks: &mut [Bank; BANKS]) -> [Bank; BANKS]
 }
 
 /// An `fsync` at its beginning, or where it opens the handle an `open`, with the number of the processor's handle of the file.
-fn ask(who: Who, file: FileNo, handles: &Handles, opens: bool, job: &mut Job)
-    ensures { job.new ≡ jobs.Fsync (fsyncs.begin who file (number_in handles.now file) opens) }
+fn ask(who: Who, file: FileNo, handles: &Handles, opens: bool) -> Fsync
+    ensures { result ≡ fsyncs.begin who file (number_in handles.now file) opens }
 {
-    set(
-        job,
-        Job::Fsync(Fsync::new(who, file, handles.number(file), opens)),
-    );
+    Fsync::new(who, file, handles.number(file), opens)
 }
 
 /// The page that a translation leads to.
@@ -491,7 +454,8 @@ fn access_in(command: &Command) -> Option<LineAccess>
     }
 }
 
-/// An access by a thread of the processor, at its beginning, which takes what the banks hold.
+/// An access by a thread of the processor, at its beginning, which takes what the banks hold. Where an instruction ran before, it begins where
+/// that one lies: to let go of that one whole, and to copy a whole job, costs nearly as much as a turn.
 fn access(
     alloc: Global,
     layout: &Layout,
@@ -505,35 +469,11 @@ fn access(
     requires of { IsAccess layout.now who.cpu.0 at.thread at.slot }
     requires line { at.line < line_limit }
     ensures begins { BeginsLine layout.now who at banks.old collects job.new }
-    ensures banks { banks.new ≡ empty_banks }
+    ensures handle { (handles : List ℕ) → HasHandle handles job.new }
+    ensures banks { banks.new ≡ left_in job.new banks.old }
 {
-    let manner = at.manner;
-    let request = request(layout, who, at.thread, at.slot, at.line, manner.kind);
-    instruction(
-        alloc,
-        request,
-        manner.origin,
-        manner.mode,
-        collects,
-        banks,
-        job,
-    );
-}
-
-/// The instruction of a request at its beginning, which takes what the banks hold. Where an instruction ran before, it begins where that one
-/// lies: to let go of that one whole, and to copy a whole job, costs nearly as much as a turn.
-fn instruction(
-    alloc: Global,
-    request: Request,
-    origin: Origin,
-    mode: Mode,
-    collects: bool,
-    banks: &mut [Bank; BANKS],
-    job: &mut Job,
-)
-    ensures begins { job.new ≡ begun_access alloc request origin mode banks.old collects }
-    ensures banks { banks.new ≡ empty_banks }
-{
+    let Manner { kind, origin, mode } = at.manner;
+    let request = request(layout, who, at.thread, at.slot, at.line, kind);
     let banks = taken(banks);
     match job {
         Job::Instruction(before) => {
@@ -544,13 +484,6 @@ fn instruction(
             Job::Instruction(Instruction::new(alloc, request, origin, mode, banks, collects)),
         ),
     }
-}
-
-/// A line of the frame is damaged.
-fn spoil_line(who: Who, frame: Frame, line: Line, damage: Damage, job: &mut Job)
-    ensures { job.new ≡ jobs.Spoil (spoils.begin who frame line damage) }
-{
-    set(job, Job::Spoil(Spoil::new(who, frame, line, damage)));
 }
 
 /// An event of these registers is logged, at its beginning, which takes what the banks hold.
