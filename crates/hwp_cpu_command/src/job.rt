@@ -218,8 +218,7 @@ impl Job {
         ensures stands { StandsOn self.old answer local.old.watching }
     {
         let own = self.own_change();
-        self.leave(answer, &mut local.handles, &mut local.watching);
-        let told = self.take_told(alloc, &mut local.banks);
+        let told = self.leave(alloc, answer, local);
         row(told, offlined, own, answer)
     }
 
@@ -246,48 +245,32 @@ impl Job {
         }
     }
 
-    /// What a command with this answer leaves of the handles and the collector of its processor.
-    fn leave(&self, answer: Answer, handles: &mut Handles, watching: &mut Option<Watching>)
-        requires within { HasChangeWithin self.now }
-        ensures handles { handles.new ≡ handles_after self.now handles.old }
-        ensures watching { watching.new ≡ watching_after self.now answer watching.old }
-        ensures stands { StandsOn self.now answer watching.old }
-    {
-        match self {
-            Job::Fsync(fsync) => handles.set(fsync.file(), fsync.number()),
-            Job::Log(log) => watch(log.change(), answer, watching),
-            Job::Scrub(_) => end_round(answer, watching),
-            Job::Instruction(_)
-            | Job::Copying(_)
-            | Job::Evict(_)
-            | Job::Prctl(_)
-            | Job::Fork(_)
-            | Job::Raise(_)
-            | Job::Spoil(_)
-            | Job::Nested(_)
-            | Job::Inject(_)
-            | Job::Soft(_)
-            | Job::Unpoison(_)
-            | Job::Denied(_) => {}
-        }
-    }
-
-    /// What was done about the events of its machine checks. The banks get back what the command took from them, and has left.
-    fn take_told(&mut self, alloc: Global, banks: &mut [Bank; BANKS]) -> List<EventOutcome>
+    /// What was done about the events of its machine checks. What a command with this answer leaves to its processor is put there: in the
+    /// banks what the command took from them, and has left, and what it did to the handles and the collector.
+    fn leave(&mut self, alloc: Global, answer: Answer, local: &mut Local) -> List<EventOutcome>
+        requires within { HasChangeWithin self.old }
         ensures told { result ≡ told_of self.old }
-        ensures banks { banks.new ≡ banks_after self.old banks.old }
+        ensures local { local.new ≡ local_after self.old answer local.old }
+        ensures stands { StandsOn self.old answer local.old.watching }
     {
         match self {
-            Job::Instruction(instruction) => instruction.finish(banks),
-            Job::Copying(copying) => copying.finish(banks),
-            Job::Raise(raise) => raise.finish(banks),
-            Job::Scrub(scrub) => scrub.finish(banks),
+            Job::Instruction(instruction) => instruction.finish(&mut local.banks),
+            Job::Copying(copying) => copying.finish(&mut local.banks),
+            Job::Raise(raise) => raise.finish(&mut local.banks),
+            Job::Scrub(scrub) => {
+                end_round(answer, &mut local.watching);
+                scrub.finish(&mut local.banks)
+            }
             Job::Log(log) => {
-                log.finish(banks);
+                watch(log.change(), answer, &mut local.watching);
+                log.finish(&mut local.banks);
+                List::new(alloc)
+            }
+            Job::Fsync(fsync) => {
+                local.handles.set(fsync.file(), fsync.number());
                 List::new(alloc)
             }
             Job::Evict(_)
-            | Job::Fsync(_)
             | Job::Prctl(_)
             | Job::Fork(_)
             | Job::Spoil(_)
