@@ -79,7 +79,7 @@ fn count(rt: &impl Abort, seats: &[TlbSeat<'_>], due: &[[u64; 3]]) {
             fills,
             flushes,
         } = seat.counts();
-        assert!(rt; [hits, fills, flushes] == *due, "{hits} {fills} {flushes}");
+        assert!(rt; [hits, fills, flushes] == *due);
     }
 }
 

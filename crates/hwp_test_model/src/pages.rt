@@ -26,7 +26,7 @@ fn entry(what: What) -> Entry {
 fn add(rt: &impl Abort, body: &mut Body, what: What) {
     let entry = entry(what);
     body.room().expect(rt, "memory");
-    assert!(rt; body.allowed(&entry), "entry {}", body.len());
+    assert!(rt; body.allowed(&entry));
     body.append(entry);
 }
 

@@ -84,6 +84,12 @@ fn turn_of<A: Task, B: Task>(
     }
 }
 
+/// The turn ended so, with a step of this kind or none.
+pub(crate) fn is_turn(rt: &impl Abort, made: (Turn, Option<Kind>), turn: Turn, kind: Option<Kind>) {
+    assert!(rt; made.0 == turn);
+    assert!(rt; made.1 == kind);
+}
+
 /// Makes these turns: whether each is processor 1's, how it ends, and the kind of step that it makes.
 fn play<A: Task, B: Task>(
     rt: &impl Abort,
@@ -103,7 +109,7 @@ fn play<A: Task, B: Task>(
 {
     for (other, turn, kind) in turns {
         let made = turn_of(board, first, second, *other);
-        assert!(rt; made == (*turn, *kind));
+        is_turn(rt, made, *turn, *kind);
     }
 }
 

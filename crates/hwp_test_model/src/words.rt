@@ -9,6 +9,7 @@ ghost use Rattle.hwp_fault_fill.specs.Takes as takes;
 ghost use Rattle.hwp_test_model.specs.TakenFrames.{taken};
 
 use crate::machine::machine;
+use crate::turns::is_turn;
 use hwp_core::{Board, Task, Turn, Unlock};
 use hwp_fault_fill::{Take, TakeAnswer};
 use hwp_page::{Cpu, Frame, Kind, Who};
@@ -85,7 +86,7 @@ fn takes(rt: &impl Abort, board: &mut PlainBoard, task: &mut Take, steps: Steps)
     ensures hand { hand_of (view_of board.new.state 0) ≡ taken task.new.at }
 {
     for (kind, words) in steps {
-        assert!(rt; take(board, task) == (Turn::Moved, Some(*kind)));
+        is_turn(rt, take(board, task), Turn::Moved, Some(*kind));
         assert!(rt; three_words(rt, board) == *words);
     }
 }
@@ -97,10 +98,12 @@ fn lets_go(rt: &impl Abort, board: &mut PlainBoard, task: &mut Unlock, steps: St
     requires fits { unlocks.Fits board.old.layout (view_of board.old.state 0) task.old }
 {
     for (kind, words) in steps {
-        assert!(rt; board.advance(Cpu(0), task) == (Turn::Moved, Some(*kind)));
+        let made = board.advance(Cpu(0), task);
+        is_turn(rt, made, Turn::Moved, Some(*kind));
         assert!(rt; three_words(rt, board) == *words);
     }
-    assert!(rt; board.advance(Cpu(0), task) == (Turn::Finished, None));
+    let made = board.advance(Cpu(0), task);
+    is_turn(rt, made, Turn::Finished, None);
 }
 
 /// KERNEL is 8; of the free word bits 1 and 2 are frames 1 and 2; 16 is one reference to a frame, and 1 its lock.

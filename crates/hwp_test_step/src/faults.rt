@@ -2,12 +2,11 @@
 
 ghost use Rattle.std.specs.Prelude.{◌<◌};
 
-use crate::helpers::{Left, call, call_untold, leaves};
+use crate::helpers::{Left, call, call_untold, has_tables, leaves};
 use std::alloc::Global;
 use std::process::Abort;
-use std::str;
 
-const STORE_AND_LOAD: &str = "\
+const STORE_AND_LOAD: &[u8] = b"\
 hwp 1
 cpus 1
 frames 2
@@ -21,7 +20,7 @@ load 0 0 5
 end
 ";
 
-const STORED_AND_LOADED: &str = "\
+const STORED_AND_LOADED: &[u8] = b"\
 hwp-report 1
 stop none
 count 0
@@ -42,22 +41,20 @@ end
 #[test]
 fn step_tlb_tells_faults(rt: HostRuntime) {
     let words = &["step", "tlb"];
-    let script = STORE_AND_LOAD.as_bytes();
-    let unread = call(&rt, rt.alloc(), words, script, &[1], (4096, &[]));
-    assert!(&rt; unread.tables == (false, false));
-    leaves(&rt, unread, false, 4, "", "read fault\n");
-    let cut = call(&rt, rt.alloc(), words, script, &[], (4, &[2]));
-    assert!(&rt; cut.tables == (false, true));
-    leaves(&rt, cut, true, 5, "hwp-", "write fault\n");
+    let unread = call(&rt, rt.alloc(), words, STORE_AND_LOAD, &[1], (4096, &[]));
+    has_tables(&rt, &unread, false, false);
+    leaves(&rt, unread, false, 4, b"", b"read fault\n");
+    let cut = call(&rt, rt.alloc(), words, STORE_AND_LOAD, &[], (4, &[2]));
+    has_tables(&rt, &cut, false, true);
+    leaves(&rt, cut, true, 5, b"hwp-", b"write fault\n");
 }
 
 /// Each of the words is a usage.
 fn are_usage(rt: &impl Abort, alloc: Global, rows: &[&[&str]]) {
     for words in rows {
-        let script = STORE_AND_LOAD.as_bytes();
-        let left = call(rt, alloc, words, script, &[], (4096, &[]));
-        let usage = "usage: hwp step [tlb]|run [tlb]|check|gen N|sum N\n";
-        leaves(rt, left, false, 2, "", usage);
+        let left = call(rt, alloc, words, STORE_AND_LOAD, &[], (4096, &[]));
+        let usage = b"usage: hwp step [tlb]|run [tlb]|check|gen N|sum N\n";
+        leaves(rt, left, false, 2, b"", usage);
     }
 }
 
@@ -73,13 +70,13 @@ fn run_is_a_call_of_its_own(rt: HostRuntime) {
 fn step_through(rt: &impl Abort, alloc: Global, read: &[u64], sink: (usize, &[u64])) -> Left
     requires { 0 < sink.0 }
 {
-    call(rt, alloc, &["step"], STORE_AND_LOAD.as_bytes(), read, sink)
+    call(rt, alloc, &["step"], STORE_AND_LOAD, read, sink)
 }
 
 /// A failing read of this number leaves nothing on `out`.
 fn is_fault(rt: &impl Abort, alloc: Global, read: u64) {
     let left = step_through(rt, alloc, &[read], (4096, &[]));
-    leaves(rt, left, false, 4, "", "read fault\n");
+    leaves(rt, left, false, 4, b"", b"read fault\n");
 }
 
 #[test]
@@ -93,46 +90,61 @@ fn is_cut(rt: &impl Abort, alloc: Global, take: usize, write: u64, front: &[u8])
     requires { 0 < take }
 {
     let left = step_through(rt, alloc, &[], (take, &[write]));
-    let front = str::from_utf8(front).ok().expect(rt, "a text");
-    leaves(rt, left, true, 5, front, "write fault\n");
+    leaves(rt, left, true, 5, front, b"write fault\n");
 }
 
 #[test]
 fn a_failing_write_leaves_a_front_of_the_report(rt: HostRuntime) {
-    let report = STORED_AND_LOADED.as_bytes();
     for write in 1..13 {
         let kept = 16 * (write - 1);
-        assert!(rt; kept < report.len());
-        is_cut(&rt, rt.alloc(), 16, write as u64, &report[..kept]);
+        assert!(rt; kept < STORED_AND_LOADED.len());
+        is_cut(
+            &rt,
+            rt.alloc(),
+            16,
+            write as u64,
+            &STORED_AND_LOADED[..kept],
+        );
     }
 }
 
 #[test]
 fn each_byte_before_a_failing_write_stays(rt: HostRuntime) {
-    let report = STORED_AND_LOADED.as_bytes();
-    for kept in 0..report.len() {
-        is_cut(&rt, rt.alloc(), 1, kept as u64 + 1, &report[..kept]);
+    for kept in 0..STORED_AND_LOADED.len() {
+        is_cut(
+            &rt,
+            rt.alloc(),
+            1,
+            kept as u64 + 1,
+            &STORED_AND_LOADED[..kept],
+        );
     }
 }
 
 #[test]
 fn a_fault_of_the_error_sink_changes_nothing(rt: HostRuntime) {
     let left = call_untold(&rt, rt.alloc(), &["step"], b"", &[], (4096, &[]), &[1]);
-    leaves(&rt, left, false, 3, "", "");
+    leaves(&rt, left, false, 3, b"", b"");
 }
 
 #[test]
 fn a_report_is_written_in_pieces(rt: HostRuntime) {
     let left = step_through(&rt, rt.alloc(), &[], (16, &[]));
-    assert!(&rt; left.tables == (true, false));
-    leaves(&rt, left, true, 0, STORED_AND_LOADED, "");
+    has_tables(&rt, &left, true, false);
+    leaves(&rt, left, true, 0, STORED_AND_LOADED, b"");
 }
 
 #[test]
 fn check_tells_faults_of_its_source_and_its_sink(rt: HostRuntime) {
-    let script = STORE_AND_LOAD.as_bytes();
-    let unread = call(&rt, rt.alloc(), &["check"], script, &[2], (4096, &[]));
-    leaves(&rt, unread, false, 4, "", "read fault\n");
-    let cut = call(&rt, rt.alloc(), &["check"], script, &[], (4, &[2]));
-    leaves(&rt, cut, false, 5, "not ", "write fault\n");
+    let unread = call(
+        &rt,
+        rt.alloc(),
+        &["check"],
+        STORE_AND_LOAD,
+        &[2],
+        (4096, &[]),
+    );
+    leaves(&rt, unread, false, 4, b"", b"read fault\n");
+    let cut = call(&rt, rt.alloc(), &["check"], STORE_AND_LOAD, &[], (4, &[2]));
+    leaves(&rt, cut, false, 5, b"not ", b"write fault\n");
 }

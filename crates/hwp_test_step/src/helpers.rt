@@ -6,13 +6,13 @@ use hwp_io::{MemSink, MemSource};
 use hwp_top_step::top;
 use std::alloc::Global;
 use std::process::Abort;
-use std::str;
 
 /// What a call left: whether it gave a report, and a table without translation caches, and one with them; its status, and both sinks.
 #[derive(Drop)]
 pub struct Left {
     pub reported: bool,
-    pub tables: (bool, bool),
+    pub ended: bool,
+    pub tlb: bool,
     pub status: u8,
     pub out: MemSink,
     pub err: MemSink,
@@ -48,12 +48,14 @@ pub fn call_untold(
     let mut err = MemSink::new(alloc, 4096, untold.to_vec(alloc).expect(rt, "memory"));
     let done = top(alloc, list.as_slice(), &mut src, &mut out, &mut err);
     let reported = done.report.is_some();
-    let tables = (done.ended.is_some(), done.tlb.is_some());
+    let ended = done.ended.is_some();
+    let tlb = done.tlb.is_some();
     let status = done.status;
     drop(done);
     Left {
         reported,
-        tables,
+        ended,
+        tlb,
         status,
         out,
         err,
@@ -82,13 +84,17 @@ pub fn report_of(rt: &impl Abort, alloc: Global, script: &str) -> MemSink {
     out
 }
 
-/// The call gave a report or not, ended with the status, and left these texts on `out` and on `err`. What it left is let go here.
-pub fn leaves(rt: &impl Abort, left: Left, reported: bool, status: u8, out: &str, err: &str) {
-    let texts = (
-        str::from_utf8(left.out.bytes()).ok(),
-        str::from_utf8(left.err.bytes()).ok(),
-    );
-    assert!(rt; texts == (Some(out), Some(err)));
-    assert!(rt; (left.reported, left.status) == (reported, status));
+/// The call gave a table without translation caches or not, and one with them or not.
+pub fn has_tables(rt: &impl Abort, left: &Left, ended: bool, tlb: bool) {
+    assert!(rt; left.ended == ended);
+    assert!(rt; left.tlb == tlb);
+}
+
+/// The call gave a report or not, ended with the status, and left these bytes on `out` and on `err`. What it left is let go here.
+pub fn leaves(rt: &impl Abort, left: Left, reported: bool, status: u8, out: &[u8], err: &[u8]) {
+    assert!(rt; left.out.bytes() == out);
+    assert!(rt; left.err.bytes() == err);
+    assert!(rt; left.reported == reported);
+    assert!(rt; left.status == status);
     drop(left);
 }

@@ -28,7 +28,7 @@ pub fn are_legal(rt: &impl Abort, alloc: Global, script: &str, report: &[u8]) {
     let mut input = script.as_bytes().to_vec(alloc).expect(rt, "memory");
     input.extend_from_slice(report).expect(rt, "memory");
     let left = call(rt, alloc, &["check"], input.as_slice(), &[], (4096, &[]));
-    leaves(rt, left, false, 0, "legal\n", "");
+    leaves(rt, left, false, 0, b"legal\n", b"");
 }
 
 /// The report that a script gives begins so, and is legal.

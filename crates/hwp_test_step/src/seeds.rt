@@ -1,6 +1,6 @@
 //! `gen` and `sum`: the script that a seed gives, its report, and the summary of that.
 
-use crate::helpers::{Left, call, leaves};
+use crate::helpers::{Left, call, has_tables, leaves};
 use hwp_script::{Script, generate, print, read};
 use std::alloc::Global;
 use std::process::Abort;
@@ -19,7 +19,9 @@ fn has_text(rt: &impl Abort, alloc: Global, bytes: &[u8], script: &Script) {
 /// `gen` writes the script of the seed, which is read back, and reads nothing itself.
 fn writes_script(rt: &impl Abort, alloc: Global, word: &str, seed: u64) {
     let left = unread(rt, alloc, &["gen", word]);
-    assert!(rt; (left.reported, left.tables, left.status) == (false, (false, false), 0));
+    has_tables(rt, &left, false, false);
+    assert!(rt; !left.reported);
+    assert!(rt; left.status == 0);
     let script = generate(alloc, seed).expect(rt, "memory");
     has_text(rt, alloc, left.out.bytes(), &script);
     drop(script);
@@ -57,15 +59,17 @@ fn gen_tells_a_fault_of_the_sink(rt: HostRuntime) {
         left,
         false,
         5,
-        "hwp 1\ncpus 4\nframes 256\nkernel 0",
-        "write fault\n",
+        b"hwp 1\ncpus 4\nframes 256\nkernel 0",
+        b"write fault\n",
     );
 }
 
 /// `sum` runs the script of the seed, reads nothing, and begins its summary with these lines.
 fn sums(rt: &impl Abort, alloc: Global, word: &str, front: &str) -> Left {
     let left = unread(rt, alloc, &["sum", word]);
-    assert!(rt; (left.reported, left.tables, left.status) == (true, (true, false), 0));
+    has_tables(rt, &left, true, false);
+    assert!(rt; left.reported);
+    assert!(rt; left.status == 0);
     assert!(rt; left.out.bytes().starts_with(front.as_bytes()));
     left
 }

@@ -1,6 +1,6 @@
 //! The top call for runs on threads over memory: other words, refused scripts, and faults of the source and the sink.
 
-use crate::helpers::{call, leaves};
+use crate::helpers::{call, has_tables, leaves};
 use hwp_top::Open;
 use std::alloc::Global;
 use std::process::Abort;
@@ -21,7 +21,7 @@ load 0 0 5
 end
 ";
 
-const STORED_AND_LOADED: &str = "\
+const STORED_AND_LOADED: &[u8] = b"\
 hwp-report 1
 stop none
 count 0
@@ -42,30 +42,34 @@ end
 const NESTED: &str = "\
 hwp 1\ncpus 1\nframes 2\nproc 0\nthread 0 0 0 handler\npage 0 anon\ntrans 0 0 0\ncpu 0\nraise nested\nend\n";
 
-const STOPPED: &str = "\
+const STOPPED: &[u8] = b"\
 hwp-report 1\nstop 0 0 shutdown\ncount 0\nframe 0 free bad 0 weak 0\nframe 1 free bad 0 weak 0\npage 0 0\ncpu 0 1\n\
 0 stopped\nend\n";
 
-const USAGE: &str = "usage: hwp step [tlb]|run [tlb]|check|gen N|sum N\n";
+const USAGE: &[u8] = b"usage: hwp step [tlb]|run [tlb]|check|gen N|sum N\n";
 
-/// These words give the report of each script, and tell of a table without translation caches, or of one with them.
+/// A script, its report, and the status.
+const RUNS: &[(&str, &[u8], u8)] = &[(STORE_AND_LOAD, STORED_AND_LOADED, 0), (NESTED, STOPPED, 8)];
+
+/// These words give the report of each script, and a table without translation caches or not, and one with them or not.
 fn runs(
     rt: &(impl Abort + Threads + Wait + Sync),
     alloc: Global,
     words: &[&str],
-    tables: (bool, bool),
+    ended: bool,
+    tlb: bool,
 ) {
-    for (script, report, status) in [(STORE_AND_LOAD, STORED_AND_LOADED, 0), (NESTED, STOPPED, 8)] {
+    for (script, report, status) in RUNS {
         let left = call(rt, alloc, words, script, &[], (4096, &[]), &Open);
-        leaves(rt, &left, true, status, report, "");
-        assert!(rt; left.tables == tables);
+        has_tables(rt, &left, ended, tlb);
+        leaves(rt, left, true, *status, report, b"");
     }
 }
 
 #[test]
 fn a_script_is_run(rt: HostRuntime) {
-    runs(&rt, rt.alloc(), &["run"], (true, false));
-    runs(&rt, rt.alloc(), &["run", "tlb"], (false, true));
+    runs(&rt, rt.alloc(), &["run"], true, false);
+    runs(&rt, rt.alloc(), &["run", "tlb"], false, true);
 }
 
 /// Words for which there is no run on threads.
@@ -96,8 +100,8 @@ fn the_words_run_and_run_tlb_alone_are_served(rt: HostRuntime) {
             (4096, &[]),
             &Open,
         );
-        leaves(&rt, &left, false, 2, "", USAGE);
-        assert!(&rt; left.tables == (false, false));
+        has_tables(&rt, &left, false, false);
+        leaves(&rt, left, false, 2, b"", USAGE);
     }
 }
 
@@ -112,7 +116,7 @@ fn a_refused_script_and_a_source_that_fails_leave_nothing(rt: HostRuntime) {
         (4096, &[]),
         &Open,
     );
-    leaves(&rt, &left, false, 3, "", "script line 2: OverLimit\n");
+    leaves(&rt, left, false, 3, b"", b"script line 2: OverLimit\n");
     let left = call(
         &rt,
         rt.alloc(),
@@ -122,7 +126,7 @@ fn a_refused_script_and_a_source_that_fails_leave_nothing(rt: HostRuntime) {
         (4096, &[]),
         &Open,
     );
-    leaves(&rt, &left, false, 4, "", "read fault\n");
+    leaves(&rt, left, false, 4, b"", b"read fault\n");
 }
 
 #[test]
@@ -138,10 +142,10 @@ fn a_sink_that_fails_has_the_front_of_the_report(rt: HostRuntime) {
     );
     leaves(
         &rt,
-        &left,
+        left,
         true,
         5,
-        "hwp-report 1\nstop none\ncount 0\nf",
-        "write fault\n",
+        b"hwp-report 1\nstop none\ncount 0\nf",
+        b"write fault\n",
     );
 }

@@ -6,7 +6,6 @@ use hwp_io::{MemSink, MemSource};
 use hwp_top::{Gate, top_run};
 use std::alloc::Global;
 use std::process::Abort;
-use std::str;
 use std::sync::Wait;
 use std::thread::Threads;
 
@@ -14,7 +13,8 @@ use std::thread::Threads;
 #[derive(Drop)]
 pub struct Left {
     pub reported: bool,
-    pub tables: (bool, bool),
+    pub ended: bool,
+    pub tlb: bool,
     pub status: u8,
     pub out: MemSink,
     pub err: MemSink,
@@ -51,21 +51,32 @@ pub fn call<R: Abort + Threads + Wait + Sync>(
         &mut err,
         gate,
     );
+    let reported = done.report.is_some();
+    let ended = done.ended.is_some();
+    let tlb = done.tlb.is_some();
+    let status = done.status;
+    drop(done);
     Left {
-        reported: done.report.is_some(),
-        tables: (done.ended.is_some(), done.tlb.is_some()),
-        status: done.status,
+        reported,
+        ended,
+        tlb,
+        status,
         out,
         err,
     }
 }
 
-/// The call gave a report or not, ended with the status, and left these texts on `out` and on `err`.
-pub fn leaves(rt: &impl Abort, left: &Left, reported: bool, status: u8, out: &str, err: &str) {
-    let texts = (
-        str::from_utf8(left.out.bytes()).ok(),
-        str::from_utf8(left.err.bytes()).ok(),
-    );
-    assert!(rt; texts == (Some(out), Some(err)));
-    assert!(rt; (left.reported, left.status) == (reported, status));
+/// The call gave a table without translation caches or not, and one with them or not.
+pub fn has_tables(rt: &impl Abort, left: &Left, ended: bool, tlb: bool) {
+    assert!(rt; left.ended == ended);
+    assert!(rt; left.tlb == tlb);
+}
+
+/// The call gave a report or not, ended with the status, and left these bytes on `out` and on `err`. What it left is let go here.
+pub fn leaves(rt: &impl Abort, left: Left, reported: bool, status: u8, out: &[u8], err: &[u8]) {
+    assert!(rt; left.out.bytes() == out);
+    assert!(rt; left.err.bytes() == err);
+    assert!(rt; left.reported == reported);
+    assert!(rt; left.status == status);
+    drop(left);
 }

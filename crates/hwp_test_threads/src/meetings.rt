@@ -3,7 +3,6 @@
 use crate::gates::{Hold, Meeting, bit};
 use crate::helpers::{call, leaves};
 use hwp_top::Point;
-use std::str;
 
 /// One processor stores while the other one's load begins and ends, and that one loads again when it has stored.
 const TWO: &str = "\
@@ -27,7 +26,7 @@ end
 ";
 
 /// The answers of both.
-const ANSWERED: &str = "\
+const ANSWERED: &[u8] = b"\
 cpu 0 1
 0 stored 0 2
 cpu 1 2
@@ -41,7 +40,7 @@ const EIGHT: &str = "\
 hwp 1\ncpus 8\nframes 8\ncpu 0\nbad 0 0\ncpu 1\nbad 1 0\ncpu 2\nbad 2 0\ncpu 3\nbad 3 0\ncpu 4\nbad 4 0\ncpu 5\nbad 5 0\n\
 cpu 6\nbad 6 0\ncpu 7\nbad 7 0\nend\n";
 
-const EIGHT_DONE: &str = "\
+const EIGHT_DONE: &[u8] = b"\
 hwp-report 1
 stop none
 count 0
@@ -78,7 +77,7 @@ hwp 1\ncpus 2\nframes 3\nfile 0\nproc 0\nthread 0 0 0 handler\npage 0 file 0 fil
 fsync 0\nfsync 0\ncpu 1\nfsync 0\nfsync 0\nend\n";
 
 /// Each is told once.
-const TOLD: &str = "\
+const TOLD: &[u8] = b"\
 hwp-report 1
 stop none
 count 1
@@ -124,10 +123,12 @@ fn one_answers_while_the_other_is_inside_its_command(rt: HostRuntime) {
     let gate = Meeting::new(&holds);
     let left = call(&rt, rt.alloc(), &["run"], TWO, &[], (4096, &[]), &gate);
     // Both points of one command of processor 0, and of two of processor 1.
-    assert!(rt; (gate.is_missed(), gate.came()) == (false, 0xf03));
-    assert!(rt; (left.reported, left.status) == (true, 0));
-    let report = str::from_utf8(left.out.bytes()).unwrap_or("");
-    assert!(rt; report.ends_with(ANSWERED));
+    assert!(rt; !gate.is_missed());
+    assert!(rt; gate.came() == 0xf03);
+    assert!(rt; left.out.bytes().ends_with(ANSWERED));
+    assert!(rt; left.reported);
+    assert!(rt; left.status == 0);
+    drop(left);
 }
 
 #[test]
@@ -143,8 +144,9 @@ fn eight_are_inside_their_commands_at_once(rt: HostRuntime) {
     let gate = Meeting::new(&holds);
     let left = call(&rt, rt.alloc(), &["run"], EIGHT, &[], (4096, &[]), &gate);
     // Both points of one command of each.
-    assert!(rt; (gate.is_missed(), gate.came()) == (false, 0x0303_0303_0303_0303));
-    leaves(&rt, &left, true, 0, EIGHT_DONE, "");
+    assert!(rt; !gate.is_missed());
+    assert!(rt; gate.came() == 0x0303_0303_0303_0303);
+    leaves(&rt, left, true, 0, EIGHT_DONE, b"");
 }
 
 #[test]
@@ -157,6 +159,7 @@ fn each_thread_is_told_of_a_loss_once(rt: HostRuntime) {
     let gate = Meeting::new(&holds);
     let left = call(&rt, rt.alloc(), &["run"], LOSS, &[], (4096, &[]), &gate);
     // Both points of four commands of processor 0, and of two of processor 1.
-    assert!(rt; (gate.is_missed(), gate.came()) == (false, 0xfff));
-    leaves(&rt, &left, true, 0, TOLD, "");
+    assert!(rt; !gate.is_missed());
+    assert!(rt; gate.came() == 0xfff);
+    leaves(&rt, left, true, 0, TOLD, b"");
 }
