@@ -30,16 +30,16 @@ enum FailAt {
     Over { answer: FailAnswer },
 }
 
-/// What a memory failure that came to its result found.
+/// What a memory failure that came to its result found. Small fields stand together, so that they take less room.
 #[derive(Clone, Copy)]
 pub struct Found {
     pub situation: Situation,
+    /// Whether it signalled the thread that needs the page now.
+    pub signalled: bool,
     /// The cycle of the frame.
     pub cycle: u32,
     /// Its entry, where a page was in the frame.
     pub at: Option<At>,
-    /// Whether it signalled the thread that needs the page now.
-    pub signalled: bool,
 }
 
 /// What a `Fail` came to (this project's rule).

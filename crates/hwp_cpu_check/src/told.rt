@@ -2,11 +2,11 @@ use hwp_banks::Event;
 use hwp_claim::Found;
 use hwp_law_commands::{Acted, Grade};
 
-/// An event that a bank holds at a machine check, with its grade.
+/// An event that a bank holds at a machine check, with its grade. Small fields stand together, so that they take less room.
 #[derive(Clone, Copy)]
 pub struct Held {
-    pub bank: u8,
     pub event: Event,
+    pub bank: u8,
     pub grade: Grade,
 }
 

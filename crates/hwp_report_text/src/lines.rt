@@ -119,23 +119,24 @@ pub enum Answer {
     GuestBad,
 }
 
-/// The event of a bank in a machine check: what the bank held, the row of the severity table, and what was done.
+/// The event of a bank in a machine check: what the bank held, the row of the severity table, and what was done. Its fields lie in memory
+/// in this order, and take least room where small ones stand together.
 #[derive(Clone, Copy)]
 pub struct EventLine {
     /// The number of the processor's command, from 0.
     pub seq: u32,
     /// The bank's number.
     pub bank: u8,
+    /// The row of the severity table that graded it.
+    pub row: u8,
+    /// What was done about it.
+    pub acted: Acted,
     /// What the bank's MCi_STATUS held (Intel SDM vol. 3B).
     pub status: u64,
     /// What its MCi_ADDR held: a physical address.
     pub addr: u64,
     /// What its MCi_MISC held.
     pub misc: u64,
-    /// The row of the severity table that graded it.
-    pub row: u8,
-    /// What was done about it.
-    pub acted: Acted,
 }
 
 /// What came of taking a frame out of use, for its corrected errors.
@@ -185,23 +186,24 @@ pub struct OfflinedLine {
     pub result: OfflineResult,
 }
 
-/// The machine check of a guest: what its bank held, the row of the severity table, and what was done.
+/// The machine check of a guest: what its bank held, the row of the severity table, and what was done. Its small fields stand together,
+/// as those of `EventLine` do.
 #[derive(Clone, Copy)]
 pub struct GuestLine {
     /// The number of the processor's command, from 0.
     pub seq: u32,
     /// The number of the guest's bank.
     pub bank: u8,
+    /// The row of the severity table that graded it.
+    pub row: u8,
+    /// Whether it stopped the guest. If not, the guest uses the address no more.
+    pub stops: bool,
     /// What the bank's MCi_STATUS held (Intel SDM vol. 3B).
     pub status: u64,
     /// What its MCi_ADDR held: an address of the guest.
     pub addr: u64,
     /// What its MCi_MISC held.
     pub misc: u64,
-    /// The row of the severity table that graded it.
-    pub row: u8,
-    /// Whether it stopped the guest. If not, the guest uses the address no more.
-    pub stops: bool,
 }
 
 /// A line of a processor.
