@@ -87,6 +87,11 @@ impl Fail {
             FailAt::Claim { .. } | FailAt::Act { .. } => None,
         }
     }
+
+    /// Lets it go. Where a crate drops a value, it proves how each part of that goes; a call of this proves nothing of it.
+    pub fn dismiss(self) {
+        drop(self);
+    }
 }
 
 /// No page was in the frame.
@@ -164,7 +169,8 @@ impl Fail {
     fn set(&mut self, at: FailAt)
         ensures { self.new ≡ record self.old { at = at } }
     {
-        self.at = at;
+        // in one call, and not part by part
+        drop(mem::replace(&mut self.at, at));
     }
 }
 

@@ -154,8 +154,21 @@ impl Handler {
     fn set(&mut self, at: HandlerAt)
         ensures { self.new ≡ record self.old { at = at } }
     {
-        // in one call, and not part by part
-        drop(mem::replace(&mut self.at, at));
+        let_go(mem::replace(&mut self.at, at));
+    }
+
+    /// Lets it go. Where a crate drops a value, it proves how each part of that goes; a call of this proves nothing of it.
+    pub fn dismiss(self) {
+        let Handler { at, .. } = self;
+        let_go(at);
+    }
+}
+
+/// Lets go of the failure, if there is one.
+fn let_go(at: HandlerAt) {
+    match at {
+        HandlerAt::Fail { fail } => fail.dismiss(),
+        HandlerAt::Stop | HandlerAt::GaveUp | HandlerAt::Over { .. } => {}
     }
 }
 

@@ -167,7 +167,7 @@ impl Raise {
             return;
         };
         self.lines.append(handler.told());
-        drop(handler);
+        handler.dismiss();
         self.after_check(stopped);
     }
 
@@ -193,8 +193,13 @@ impl Raise {
     fn set(&mut self, at: RaiseAt)
         ensures { self.new ≡ record self.old { at = at } }
     {
-        // in one call, and not part by part
-        drop(mem::replace(&mut self.at, at));
+        match mem::replace(&mut self.at, at) {
+            RaiseAt::Handle { handler } => handler.dismiss(),
+            RaiseAt::LoadStop
+            | RaiseAt::LoadProcess { .. }
+            | RaiseAt::GiveUp
+            | RaiseAt::Over { .. } => {}
+        }
     }
 }
 
