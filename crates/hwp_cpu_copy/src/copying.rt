@@ -16,10 +16,10 @@ use std::alloc::Global;
 #[derive(Drop)]
 pub struct Copying {
     cow: Cow,
-    /// The store that was asked for, through the twin.
-    store: Request,
     /// The page of the frozen translation.
     page: Page,
+    /// The store that was asked for, through the twin.
+    store: Request,
     /// The access that goes on, or the last one.
     instruction: Instruction,
     at: CopyingAt,

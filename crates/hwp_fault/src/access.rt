@@ -25,11 +25,11 @@ pub struct Access {
 pub struct Request {
     pub who: Who,
     pub thread: Thread,
+    pub process: Proc,
     pub slot: VSlot,
+    pub page: Page,
     pub line: Line,
     pub kind: AccessKind,
-    pub page: Page,
-    pub process: Proc,
 }
 
 /// What an `Access` came to (this project's rule).
