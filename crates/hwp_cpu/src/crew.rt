@@ -9,8 +9,8 @@ use std::alloc::Global;
 pub type Rows = List<List<Row>>;
 
 /// Adds a processor at the end of the crew, where there is memory; else lets it go. Each crate that lets processors go proves anew how
-/// every type inside is let go. So this crate alone does: hwp_top_turns calls this and `dismiss`, and hwp_top_threads `deal_seats` and
-/// `gather_seats`.
+/// every type inside is let go. So this crate alone does: hwp_top_turns calls this, `dismiss` and `rows_of`, and hwp_top_threads
+/// `deal_seats`, `gather_seats` and `rows_of`.
 pub fn enlist(crew: &mut Vec<Processor>, processor: Processor) -> Result<(), OutOfMemory>
     ensures { IfOk result (λ _. crew.new.items ≡ crew.old.items ++ processor ∷ []) }
 {

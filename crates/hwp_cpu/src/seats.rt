@@ -13,7 +13,7 @@ use std::alloc::Global;
 pub type CrewWorker<'a, W> = SeatWorker<'a, W, Processor>;
 
 /// A worker for each processor of the crew, in their order, as `deal` of hwp_threads_seats makes them. What the seat that had all views
-/// has left comes back beside them. It stands here, as `enlist` does, because it lets processors go where memory is refused.
+/// has left comes back beside them. The function stands here, as `enlist` does, because it lets processors go where memory is refused.
 ///
 /// # Errors
 /// `OutOfMemory` where there is none for the workers.
@@ -33,7 +33,8 @@ pub fn deal_seats<'a, W: Ways>(
     deal(alloc, sheet, layout, pass, crew)
 }
 
-/// The one seat that has what all workers' seats have, and the processors in their order, by `gather` of hwp_threads_seats.
+/// The one seat that has what all workers' seats have, and the processors in their order, by `gather` of hwp_threads_seats. It
+/// lets them go where a turn was refused memory.
 ///
 /// # Errors
 /// `OutOfMemory` where a turn of a processor was refused memory, and where there is none for the crew.

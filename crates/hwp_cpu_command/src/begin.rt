@@ -212,8 +212,8 @@ fn begin_other(
     }
 }
 
-/// The same of a command whose task is put in its place whole. That is slower than a function for each kind, which writes few fields there,
-/// and much shorter to prove.
+/// The same of a command whose task is put in its place whole. That is slower than an arm of `begin_other` for each kind, which writes few
+/// fields there, and much shorter to prove.
 fn begin_rare(
     alloc: Global,
     layout: &Layout,
@@ -289,8 +289,8 @@ fn raise_user(
     Raise::new(alloc, who, Some(raiser), mcg, taken(banks))
 }
 
-/// The value lies in the place, and the one before it is let go there. A call of `assign` at a job proves what a job is laid out as: it
-/// stands once.
+/// Puts the value in the place, and lets go of the one before it there. A call of `assign` for a job proves how a job is laid out, so there
+/// is one such call, here.
 #[inline(always)]
 fn set(place: &mut Job, value: Job)
     ensures { place.new ≡ value }
@@ -298,7 +298,7 @@ fn set(place: &mut Job, value: Job)
     assign(place, value);
 }
 
-/// The same of a value of any type: an assignment in a function that knows the type has its parts let go one by one.
+/// The same of a value of any type. An assignment in a function that knows the type lets go of its parts one by one.
 #[inline(always)]
 fn assign<T: Drop>(place: &mut T, value: T)
     ensures { place.new ≡ value }

@@ -6,8 +6,7 @@ use hwp_cpu_control::{
 };
 use hwp_cpu_copy::{Copying, Instruction, InstructionAnswer};
 use hwp_cpu_row::{
-    Answer, BANKS, Bank, EventOutcome, FailAnswer, FrameChange, Handles, Inject, Local, Offlining,
-    Row, Watching,
+    Answer, EventOutcome, FailAnswer, FrameChange, Inject, Local, Offlining, Row, Watching,
 };
 use hwp_evict::{
     At, Body, Evict, EvictAnswer, Frame, Fsync, FsyncAnswer, Layout, List, Outcome, Ranked,
@@ -53,8 +52,8 @@ pub enum Job {
 }
 
 impl Job {
-    ghost use Rattle.hwp_cpu_command.specs.FileHandles.{HasChangeWithin, StandsOn, handles_after, local_after, watching_after};
-    ghost use Rattle.hwp_cpu_command.specs.Jobs.{answer, banks_after, give_up, own_of, pauses, resume, row_of, told_of};
+    ghost use Rattle.hwp_cpu_command.specs.FileHandles.{HasChangeWithin, StandsOn, local_after};
+    ghost use Rattle.hwp_cpu_command.specs.Jobs.{answer, give_up, own_of, pauses, resume, row_of, told_of};
 
     /// What the command answers; `None` until it is over, and where it gave up because memory ran out. Most turns are of an access: what any
     /// other kind needs room for stands in a function of its own.
@@ -245,8 +244,8 @@ impl Job {
         }
     }
 
-    /// What was done about the events of its machine checks. What a command with this answer leaves to its processor is put there: in the
-    /// banks what the command took from them, and has left, and what it did to the handles and the collector.
+    /// Leaves its processor what a command with this answer leaves: in the banks what it took from them, and has left, and what it did to
+    /// the handles and the collector. Gives what was done about the events of its machine checks.
     fn leave(&mut self, alloc: Global, answer: Answer, local: &mut Local) -> List<EventOutcome>
         requires within { HasChangeWithin self.old }
         ensures told { result ≡ told_of self.old }

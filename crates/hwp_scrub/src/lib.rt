@@ -1,4 +1,4 @@
-//! The commands that meet errors which no access met: the scrubber, which goes over frames and meets the lowest bad line and the
+//! The commands on errors that no access meets: the scrubber, which goes over frames and meets the lowest bad line and the
 //! lowest weak line of each; one that raises what its processor's banks hold; and one that logs an event into a bank, or gives its
 //! processor a new collector.
 #![tactic(auto)]

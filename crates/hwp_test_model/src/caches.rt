@@ -1,4 +1,5 @@
-//! Worked scripts on the seats of a board, each with a translation cache: how often they hit, fill and flush. The numbers were worked out by hand, from the rules of FORMATS.md.
+//! Worked scripts on the seats of a board, each with a translation cache: how often they hit, fill and flush. The numbers were worked out
+//! by hand, from the rules of docs/FORMATS.md.
 
 ghost use Rattle.std.specs.Prelude.{◌≡◌, []};
 ghost use Rattle.hwp_script_read.specs.Valid.{IsValid};
