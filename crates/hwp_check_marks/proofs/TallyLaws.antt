@@ -136,6 +136,13 @@ frames-room q frames i d x list within is marks_are =
     let more : sum_by frame_height (take i frames) + frame_height (get_or frames i d) ≤ sum_by frame_height frames = sum_by_more_le frame_height frames i d within in
     omega (arith, low, more, same)
 
+-- the same of any count that has no more than the lines before
+pub frame-room : (frames : List FrameLine) (i : ℕ) (d x : FrameLine) (list : List MarkLine) (was : ℕ) → i < length frames → x ≡ get_or frames i d → list ≡ x.marks → was ≤ sum_by frame_height (take i frames) → was + length list + 1 ≤ sum_by frame_height frames
+frame-room frames i d x list was within is marks_are low =
+    let same : length list ≡ length (get_or frames i d).marks = ap (λ (ms : List MarkLine). length ms) (marks_are ∙ ap (λ (l : FrameLine). l.marks) is) in
+    let more : sum_by frame_height (take i frames) + frame_height (get_or frames i d) ≤ sum_by frame_height frames = sum_by_more_le frame_height frames i d within in
+    omega (arith, low, more, same)
+
 pub pages-room : (q : (ℕ × ℕ) × ℕ) (pages : List (List Entry)) (i : ℕ) (d x list : List Entry) → i < length pages → x ≡ get_or pages i d → list ≡ x → pages_raise q (take i pages) + length list ≤ sum_by page_height pages
 pages-room q pages i d x list within is list_is =
     let same : length list ≡ length (get_or pages i d) = ap (λ (es : List Entry). length es) (list_is ∙ is) in

@@ -1,7 +1,22 @@
-use Rattle.std.proofs.Common.{◌<◌, ℕ, get_or, length, ap, arith}
+use Rattle.std.proofs.Common.{◌≡◌, ◌<◌, ◌≤◌, ℕ, List, drop, get_or, length, ap, arith}
+use Rattle.std.proofs.lemmas.List.{at_drop_all}
+use Rattle.hwp_check_rules.specs.hwp_report_text.declared.FrameLine.{FrameLine}
 use Rattle.hwp_check_frames.specs.Counts.{at_key}
+use Rattle.hwp_check_marks.specs.Spots.{frames_told}
+use Rattle.hwp_check_marks.proofs.TallyLaws.{frame-room}
 use Rattle.hwp_check_marks.proofs.SpotLaws.{frames-most, frames-next}
 use Rattle.hwp_check_marks.proofs.spots.spots_of.Goals as goal
+
+pub add_marks-requires : goal.add_marks-requires
+add_marks-requires c =
+    let low : c.loop-frame.frame < c.args.many = c.loop-frame-test.true in
+    let within : c.loop-frame.frame < length c.args.frames.now = omega (arith, low, c.requires.many) in
+    record {
+      room = λ q.
+          let room = frame-room c.args.frames.now c.loop-frame.frame c.index-frames-from.result (get_or c.args.frames.now c.from.result c.index-frames-from.result) c.as_slice-list.result.now (at_key c.loop-frame.marks q) within
+          (ap (λ (k : ℕ). get_or c.args.frames.now k c.index-frames-from.result) c.from.ensures) c.as_slice-list.ensures (c.loop-frame.invariant.1 q) in
+          omega (arith, room, c.requires.small);
+    }
 
 pub loop-frame-preserved : goal.loop-frame-preserved
 loop-frame-preserved c =
@@ -14,3 +29,12 @@ loop-frame-preserved c =
           frames-most c.args.lines.now c.loop-frame.frame q c.args.frames.now c.index-frames-from.result (get_or c.args.frames.now c.from.result c.index-frames-from.result) c.as_slice-list.result.now (at_key c.loop-frame.marks q) (at_key c.add_marks.new.marks q) within
           (ap (λ (k : ℕ). get_or c.args.frames.now k c.index-frames-from.result) c.from.ensures) c.as_slice-list.ensures (c.in_ok-add_marks.ensures q) (c.loop-frame.invariant.1 q),
     )
+
+pub returns : goal.returns
+returns c =
+    let end = c.loop-frame-test.false in
+    let past : length c.args.frames.now ≤ c.loop-frame.frame = omega (arith, end, c.requires.many) in
+    λ q.
+    let none : frames_told c.args.lines.now c.loop-frame.frame q (drop c.loop-frame.frame c.args.frames.now) ≡ 0 = at_drop_all (λ (l : List FrameLine). frames_told c.args.lines.now c.loop-frame.frame q l) c.args.frames.now c.loop-frame.frame past in
+    let all = c.loop-frame.invariant.0 q in
+    omega (arith, none, all)
