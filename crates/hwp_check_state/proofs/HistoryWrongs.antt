@@ -1,5 +1,5 @@
 -- Where the histories of a report are wrong first.
-use Rattle.std.proofs.Common.{◌≡◌, ℕ, zero, suc, ◌+◌, ◌<◌, ◌≤◌, ◌⊎◌, inl, inr, List, [], ◌∷◌, Option, Some, None, length, take, sum_by, slice_get, unwrap_or, option_and_then, refl, sym, ap, ◌∙◌, subst, arith}
+use Rattle.std.proofs.Common.{◌≡◌, ℕ, zero, suc, ◌+◌, ◌^◌, ◌<◌, ◌≤◌, ◌⊎◌, inl, inr, List, [], ◌∷◌, Option, Some, None, length, take, sum_by, slice_get, unwrap_or, option_and_then, refl, sym, ap, ◌∙◌, subst, arith}
 use Rattle.std.proofs.lemmas.Bool.{cases_lt}
 use Rattle.std.proofs.lemmas.List.{take-take, take_all}
 use Rattle.std.proofs.lemmas.List.Sums.{sum_by_more, sum_by-take-le}
@@ -21,7 +21,7 @@ use Rattle.hwp_check_rules.specs.hwp_law.Places.{entry_at}
 use Rattle.hwp_check_rules.specs.Faults.{IsBarred, IsBehind, IsHistoryFault}
 use Rattle.hwp_check_state.specs.Histories.{FirstFit, IsFirstWrong, IsWrongAt, PageFits}
 use Rattle.hwp_check_rules.specs.Rules.{HistoriesFit}
-use Rattle.hwp_check_rules.specs.Standing.{entry_height, entry_line, page_height, page_line}
+use Rattle.hwp_check_rules.specs.Standing.{entry_height, entry_line, last_line, page_height, page_line}
 use Rattle.hwp_check_rules.specs.Firsts.{IsFirstFault}
 use Rattle.hwp_check_rules.specs.hwp_geom.declared.VSlot.{VSlot}
 use Rattle.hwp_check_rules.specs.hwp_geom.declared.Who.{Who}
@@ -268,6 +268,15 @@ fit-next {copies = copies} script report p entries page below fits q others low 
 pub record Come (script : Script) (copies : Who → Option VSlot) (report : Report) (n line : ℕ) : Type 0 where
   pub below : FitBelow script copies report n
   pub line_is : line ≡ page_line report n
+
+-- the page's lines are within the report's
+pub come-room : {copies : Who → Option VSlot} {script : Script} {report : Report} {n line : ℕ} (entries : List Entry) → Come script copies report n line → slice_get report.pages n ≡ Some entries → last_line report < 2 ^ 64
+    → line + 1 + sum_by entry_height entries < 2 ^ 64
+come-room {report = report} {n = n} {line = line} entries come page room =
+    let is : line ≡ page_line report n = come.line_is in
+    let next : page_line report (n + 1) ≡ page_line report n + 1 + sum_by entry_height entries = page-next report n entries page in
+    let less : sum_by page_height (take (n + 1) report.pages) ≤ sum_by page_height report.pages = sum_by-take-le page_height report.pages (n + 1) in
+    omega (arith, is, next, less, room)
 
 pub come-next : {copies : Who → Option VSlot} {script : Script} {report : Report} {n line : ℕ} (entries : List Entry) (next : ℕ) → Come script copies report n line → slice_get report.pages n ≡ Some entries
     → PageFits script copies (record { 0 = n }) entries → next ≡ line + 1 + sum_by entry_height entries → Come script copies report (n + 1) next

@@ -1,9 +1,9 @@
 -- The losses of a file, and those by earlier commands of a processor, are found in the order of keys.
-use Rattle.std.proofs.Common.{◌≡◌, inl, inr, ℕ, zero, suc, ◌+◌, ◌-◌, ◌*◌, ◌^◌, ◌<◌, ◌≤◌, ◌==◌, ◌&&◌, min, Bool, true, false, cond, nat_lt, List, [], ◌∷◌, ◌++◌, Some, length, count_by, get_or, slice_get, sum_by, take, All, add-one, refl, sym, ap, ◌∙◌, arith}
+use Rattle.std.proofs.Common.{◌≡◌, inl, inr, ℕ, zero, suc, ◌+◌, ◌-◌, ◌*◌, ◌^◌, ◌<◌, ◌≤◌, ◌==◌, ◌&&◌, min, Bool, true, false, cond, nat_lt, List, [], ◌∷◌, ◌++◌, Some, length, count_by, get_or, slice_get, sum_by, take, drop, All, add-one, refl, sym, ap, ◌∙◌, arith}
 use Rattle.std.specs.Int.{from_bool}
 use Rattle.std.specs.List.{AllWithin, zip}
 use Rattle.std.proofs.lemmas.Bool.{cases_eq, cases_lt, eq-eqb, ne_eqb, le-ltb, lt-ltb}
-use Rattle.std.proofs.lemmas.List.{append_assoc, append-nil}
+use Rattle.std.proofs.lemmas.List.{append_assoc, append-nil, at_drop_all, at_drop_more}
 use Rattle.std.proofs.lemmas.Option.{none-some, same_Some, slice_get-get_or}
 use Rattle.std.proofs.lemmas.List.Sums.{count_by-le-length, sum_by-append, sum_by-cons}
 use Rattle.hwp_check_rules.specs.hwp_geom.declared.FileNo.{FileNo}
@@ -85,6 +85,17 @@ module _ (file : FileNo) (w : Who → Bool) (test : Entry → Bool) (same : (e :
 
   such-count : (script : Script) (report : Report) (list : List Loss) → AreLosses script report list → losses_such test script report file ≡ count_by of_file list
   such-count script report list are = pages-count (zip script.layout.pages report.pages) ∙ sym (are.counts of_file)
+
+-- ---- entries, one after the other
+
+pub list-step : (file : FileNo) (entries : List Entry) (i : ℕ) (d item : Entry) (out next : List Loss) → i < length entries → item ≡ get_or entries i d → next ≡ out ++ entry_losses file item
+    → next ++ list_losses file (drop (i + 1) entries) ≡ out ++ list_losses file (drop i entries)
+list-step file entries i d item out next within is more =
+    ap (λ (l : List Loss). l ++ list_losses file (drop (i + 1) entries)) more ∙ append_assoc out (entry_losses file item) (list_losses file (drop (i + 1) entries))
+    ∙ ap (λ (e : Entry). out ++ list_losses file (e ∷ drop (i + 1) entries)) is ∙ sym (at_drop_more (λ (l : List Entry). out ++ list_losses file l) entries i d within)
+
+pub list-end : (file : FileNo) (entries : List Entry) (i : ℕ) (out : List Loss) → length entries ≤ i → out ≡ out ++ list_losses file (drop i entries)
+list-end file entries i out past = sym (append-nil out) ∙ sym (at_drop_all (λ (l : List Entry). out ++ list_losses file l) entries i past)
 
 -- ---- pages, one after the other
 

@@ -1,17 +1,38 @@
--- The policies seen of entries and of pages, one after another: the line of the next, and those collected so far.
-use Rattle.std.proofs.Common.{◌≡◌, ℕ, ◌+◌, ◌^◌, ◌<◌, ◌≤◌, List, ◌++◌, drop, take, get_or, length, ap, ◌∙◌, sym, arith}
+-- The policies seen of an entry, of entries and of pages, one after another: the line of the next, and those collected so far.
+use Rattle.std.proofs.Common.{◌≡◌, ℕ, ◌+◌, ◌^◌, ◌<◌, ◌≤◌, List, [], ◌∷◌, ◌++◌, drop, take, get_or, length, ap, ◌∙◌, sym, arith}
 use Rattle.std.specs.List.{sum_by}
 use Rattle.std.proofs.lemmas.List.{append-nil, append_assoc, at_drop_all, at_drop_more, take_all}
 use Rattle.std.proofs.lemmas.List.Sums.{sum_by_more, sum_by_more_le}
+use Rattle.hwp_check_rules.specs.hwp_geom.declared.Who.{Who}
+use Rattle.hwp_check_rules.specs.hwp_kill.declared.Seen.{Seen}
 use Rattle.hwp_check_rules.specs.hwp_page.declared.Entry.{Entry}
 use Rattle.hwp_check_rules.specs.Standing.{entry_height, page_height}
-use Rattle.hwp_check_state.specs.Sights.{entry_sights, page_sights, pages_sights}
+use Rattle.hwp_check_state.specs.Sights.{entry_sights, listed_sights, page_sights, pages_sights}
 use Rattle.hwp_check_state.specs.declared.sights.Sight.{Sight}
 
 -- a thing more is within the lines of all
 pub room-more : {X : Type 0} (height : X → ℕ) (xs : List X) (first line i : ℕ) (d item : X) → i < length xs → item ≡ get_or xs i d → line ≡ first + sum_by height (take i xs) → first + sum_by height xs < 2 ^ 64 → line + height item < 2 ^ 64
 room-more height xs first line i d item within is at room =
     let same : height item ≡ height (get_or xs i d) = ap height is in omega (arith, at, room, same, sum_by_more_le height xs i d within)
+
+-- so many policies of an entry were read
+abbrev pub ListedSoFar : Who → List Seen → ℕ → List Sight → ℕ → ℕ → List Sight → Type 0
+ListedSoFar who list first start i line out = (line ≡ first + i) × (out ++ listed_sights who line (drop i list) ≡ start ++ listed_sights who first list)
+
+pub listed-step : (who : Who) (list : List Seen) (first line i : ℕ) (d item : Seen) (start out next : List Sight) → i < length list → item ≡ get_or list i d → next ≡ out ++ record { who = who; seen = item; line = line } ∷ []
+    → ListedSoFar who list first start i line out → ListedSoFar who list first start (i + 1) (line + 1) next
+listed-step who list first line i d item start out next within is more (at, so_far) = (
+  omega (arith, at),
+  ap (λ (l : List Sight). l ++ listed_sights who (line + 1) (drop (i + 1) list)) more
+      ∙ append_assoc out (record { who = who; seen = item; line = line } ∷ []) (listed_sights who (line + 1) (drop (i + 1) list))
+      ∙ ap (λ (s : Seen). out ++ listed_sights who line (s ∷ drop (i + 1) list)) is
+      ∙ sym (at_drop_more (λ (l : List Seen). out ++ listed_sights who line l) list i d within)
+      ∙ so_far,
+)
+
+pub listed-end : (who : Who) (list : List Seen) (first line i : ℕ) (start out : List Sight) → length list ≤ i → ListedSoFar who list first start i line out → out ≡ start ++ listed_sights who first list
+listed-end who list first line i start out past (at, so_far) =
+    sym (append-nil out) ∙ sym (at_drop_all (λ (l : List Seen). out ++ listed_sights who line l) list i past) ∙ so_far
 
 -- so many entries of a page were read
 abbrev pub PageSoFar : List Entry → ℕ → List Sight → ℕ → ℕ → List Sight → Type 0

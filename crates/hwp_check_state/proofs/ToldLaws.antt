@@ -1,8 +1,8 @@
 -- A processor's lines, gone through, show the first line of a file of which an answer told a wrong number.
-use Rattle.std.proofs.Common.{◌≡◌, ◌⊎◌, inl, inr, ℕ, zero, suc, ◌+◌, ◌-◌, ◌^◌, ◌<◌, ◌≤◌, ◌==◌, ◌&&◌, not, Bool, true, false, cond, nat_le, nat_lt, List, [], ◌∷◌, Option, Some, None, get_or, length, replicate, set, slice_get, take, refl, sym, ap, ◌∙◌, subst, true≢false, add-one, arith}
+use Rattle.std.proofs.Common.{◌≡◌, ◌⊎◌, inl, inr, ℕ, zero, suc, ◌+◌, ◌-◌, ◌^◌, ◌<◌, ◌≤◌, ◌==◌, ◌&&◌, not, Bool, true, false, cond, nat_le, nat_lt, List, [], ◌∷◌, Option, Some, None, drop, get_or, length, replicate, set, slice_get, take, refl, sym, ap, ◌∙◌, subst, true≢false, add-one, arith}
 use Rattle.std.specs.List.{zip}
 use Rattle.std.proofs.lemmas.Bool.{cases_eq, cases_lt, eq-eqb, eqb-true, ne_eqb, le-leb, lt-leb, lt-ltb, ltb-true}
-use Rattle.std.proofs.lemmas.List.{get_or-replicate, get_or-set_other, get_or-set_same, length-replicate, length-set}
+use Rattle.std.proofs.lemmas.List.{at_drop_more, get_or-replicate, get_or-set_other, get_or-set_same, length-replicate, length-set}
 use Rattle.std.proofs.lemmas.Option.{none-some, same_Some}
 use Rattle.hwp_check_rules.specs.hwp_geom.declared.Cpu.{Cpu}
 use Rattle.hwp_check_rules.specs.hwp_geom.declared.FileNo.{FileNo}
@@ -22,8 +22,19 @@ use Rattle.hwp_check_rules.specs.Firsts.{soonest}
 use Rattle.hwp_check_rules.proofs.of_hwp_law.AnswersInOrder.{answers_in, in-order}
 use Rattle.hwp_check_state.specs.declared.told.Told.{Told}
 use Rattle.hwp_check_state.specs.Handles.{IsFirst, IsToldWrong}
-use Rattle.hwp_check_state.specs.Told.{capped, fault_by, is_good, number_with, raised_by, telling, telling_all, told_by, told_to, walk}
+use Rattle.hwp_check_state.specs.Told.{capped, fault_by, is_good, number_with, raised_by, seq_in, telling, telling_all, told_by, told_in, told_to, walk}
 use Rattle.hwp_check_state.proofs.FirstFound.{first-both, first-same}
+
+-- a line more
+pub walk-next : (script : Script) (report : Report) (cpu : Cpu) (list : List Command) (rows : List CpuLine) (i : ℕ) (d row : CpuLine) (numbers new : List ℕ) (found next fault : Option ℕ) (told : Option Told) (seq : ℕ) → i < length rows → row ≡ get_or rows i d → told ≡ told_in list row → seq ≡ seq_in row
+    → new ≡ raised_by numbers told → fault ≡ fault_by script report (record { cpu = cpu; seq = seq }) numbers told → next ≡ soonest found fault
+    → walk script report cpu list new next (drop (i + 1) rows) ≡ walk script report cpu list numbers found (drop i rows)
+walk-next script report cpu list rows i d row numbers new found next fault told seq within is tells numbered raises faults finds =
+    (λ j. walk script report cpu list (raises j) (finds j) (drop (i + 1) rows))
+    ∙ (λ j. walk script report cpu list (raised_by numbers (tells j)) (soonest found (faults j)) (drop (i + 1) rows))
+    ∙ (λ j. walk script report cpu list (raised_by numbers (told_in list row)) (soonest found (fault_by script report (record { cpu = cpu; seq = numbered j }) numbers (tells j))) (drop (i + 1) rows))
+    ∙ ap (λ (r : CpuLine). walk script report cpu list numbers found (r ∷ drop (i + 1) rows)) is
+    ∙ sym (at_drop_more (walk script report cpu list numbers found) rows i d within)
 
 -- what an answer told is what the law says of it
 zero-more : (b : Bool) (m : ℕ) → m ≡ cond b (m + 0) m
