@@ -1,8 +1,9 @@
 -- What a list shows whose repeated items are held once.
-use Rattle.std.proofs.Common.{◌≡◌, ℕ, zero, suc, ◌-◌, ◌<◌, List, [], ◌∷◌, ◌++◌, Option, Some, None, length, slice_get, option_and_then, refl, sym, ap, ◌∙◌, arith}
+use Rattle.std.proofs.Common.{◌≡◌, ℕ, zero, suc, ◌-◌, ◌<◌, List, [], ◌∷◌, ◌++◌, Option, Some, None, length, slice_get, option_and_then, refl, sym, ap, ◌∙◌, subst, arith}
 use Rattle.std.specs.List.{cons_option, filter_map}
-use Rattle.std.proofs.lemmas.List.Elements.{filter_map-append}
-use Rattle.std.proofs.lemmas.Option.{none-some, same_Some}
+use Rattle.std.proofs.lemmas.List.{length_push}
+use Rattle.std.proofs.lemmas.List.Elements.{All-push, filter_map-append}
+use Rattle.std.proofs.lemmas.Option.{get_or_from_slice_get, none-some, same_Some, slice_get_within}
 use Rattle.hwp_check_evidence.specs.Repeats.{AreHeld, shown}
 
 module _ {T : Type 0} where
@@ -76,3 +77,14 @@ module _ {T : Type 0} where
 
   pub last-there : (held : List T) (which : List ℕ) (item : T) → AreHeld held which → slice_get which (length which - 1) ≡ None → slice_get (shown held which) (length (shown held which) - 1) ≡ Some item → ⊥
   last-there held which item are none is = none-some item (sym (last-shown held which are ∙ ap (option_and_then (slice_get held)) none) ∙ is)
+
+  -- places keep what they show when an item more is held, and the item may have a place
+  pub held-still : (held : List T) (item : T) (which : List ℕ) → AreHeld held which → AreHeld (held ++ item ∷ []) which
+  held-still held item which are = λ k d low. omega (arith, are k d low, length_push held item)
+
+  pub held-pushed : (held : List T) (item : T) (which : List ℕ) → AreHeld held which → AreHeld (held ++ item ∷ []) (which ++ length held ∷ [])
+  held-pushed held item which are = All-push (λ (n : ℕ). n < length (held ++ item ∷ [])) which (length held) (held-still held item which are) (omega (arith, length_push held item))
+
+  pub held-again : (held : List T) (which : List ℕ) (last : ℕ) → AreHeld held which → slice_get which (length which - 1) ≡ Some last → AreHeld held (which ++ last ∷ [])
+  held-again held which last are there =
+      All-push (λ (n : ℕ). n < length held) which last are (subst (λ (n : ℕ). n < length held) (get_or_from_slice_get which (length which - 1) last 0 there) (are (length which - 1) 0 (slice_get_within which (length which - 1) last there)))
