@@ -1,6 +1,8 @@
--- Which machine check of an access a line tells that is not the first, by what a function found.
-use Rattle.std.proofs.Common.{◌≡◌, ◌↔◌, ℕ, ◌+◌, ◌-◌, ◌<◌, ◌≤◌, ◌==◌, ◌&&◌, Bool, true, false, cond, List, Option, None, is_some, get_or, refl, sym, ap, ◌∙◌, subst, arith}
+-- Which machine check of an access a line tells, by what a function found.
+use Rattle.std.proofs.Common.{◌≡◌, ◌≢◌, ◌↔◌, ℕ, ◌+◌, ◌-◌, ◌<◌, ◌≤◌, ◌==◌, ◌&&◌, Bool, true, false, cond, List, Option, None, IsTrue, is_some, get_or, length, replicate, true≢false, refl, sym, ap, ◌∙◌, subst, arith}
 use Rattle.std.specs.Int.{from_bool}
+use Rattle.std.proofs.lemmas.Bool.{cond-false, cond-true, eq-eqb, ne_eqb}
+use Rattle.std.proofs.lemmas.List.{length-append, length-replicate}
 use Rattle.hwp_banks.specs.hwp_geom.declared.Who.{Who}
 use Rattle.hwp_banks.specs.declared.Event.{Event}
 use Rattle.hwp_law.specs.hwp_script_read.declared.Script.{Script}
@@ -16,6 +18,37 @@ use Rattle.hwp_check_events.proofs.CopyLaws.{bool_few}
 two-or-one : (b : Bool) → cond b 2 1 ≡ from_bool b + 1
 two-or-one true = refl
 two-or-one false = refl
+
+one-or-two : (b : Bool) → 1 ≤ cond b 2 1
+one-or-two true = omega arith
+one-or-two false = omega arith
+
+met-size : (checks : Checks) (copied : List ℕ) → length copied ≤ checks.count → length (lines_met checks copied) ≡ checks.count
+met-size checks copied within =
+    let both : length (lines_met checks copied) ≡ length copied + length (replicate (checks.count - length copied) checks.at) = length-append copied (replicate (checks.count - length copied) checks.at) in
+    let rest : length (replicate (checks.count - length copied) checks.at) ≡ checks.count - length copied = length-replicate {A = ℕ} (checks.count - length copied) checks.at in
+    omega (arith, both, rest, within)
+
+-- whether a line is the first: where there is no machine check, and where there is one
+module _ (checks : Checks) (copied : List ℕ) (raw : Option Event) (within : length copied ≤ checks.count) where
+  pub none-first : (Own : Type 0) → checks.count ≡ 0 → IsTrue false ↔ ((0 < asked_by_access (access_by checks copied raw)) × Own)
+  none-first Own none = (
+    λ no. absurd (true≢false (sym no)),
+    λ r. absurd
+        (let less : 0 < asked_by_access (access_by checks copied raw) = r.0 in
+        let is : asked_by_access (access_by checks copied raw) ≡ 0 =
+        cond-true (length (lines_met checks copied) == 0) 0 (length (lines_met checks copied) - 1 + asked_first checks.origin raw) (eq-eqb (length (lines_met checks copied)) 0 (met-size checks copied within ∙ none)) in omega (arith, less, is)),
+  )
+
+  pub first-is : (Own : ℕ → Type 0) (at : ℕ) (Found : Type 0) → checks.count ≢ 0 → at ≡ get_or (lines_met checks copied) 0 0 → (Found ↔ Own at) → Found ↔ ((0 < asked_by_access (access_by checks copied raw)) × Own (get_or (lines_met checks copied) 0 0))
+  first-is Own at Found some at_is found = (λ f. (asked, subst Own at_is (found.0 f)), λ r. found.1 (subst Own (sym at_is) r.1))
+    where
+      asked : 0 < asked_by_access (access_by checks copied raw)
+      asked =
+          let is : asked_by_access (access_by checks copied raw) ≡ length (lines_met checks copied) - 1 + asked_first checks.origin raw =
+          cond-false (length (lines_met checks copied) == 0) 0 (length (lines_met checks copied) - 1 + asked_first checks.origin raw) (ne_eqb (length (lines_met checks copied)) 0 (λ z. some (sym (met-size checks copied within) ∙ z))) in
+          let one : 1 ≤ asked_first checks.origin raw = one-or-two (is_some (beside checks.origin raw)) in
+          omega (arith, is, one)
 
 module _ (script : Script) (report : Report) (who : Who) (how : Arrival) (checks : Checks) (copied : List ℕ) (raw : Option Event) (access : of_access checks.origin ≡ true) (lines : List EventLine) (number : ℕ) (line : EventLine) where
   abbrev acc : Access

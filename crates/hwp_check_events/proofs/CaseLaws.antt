@@ -2,14 +2,33 @@
 use Rattle.std.proofs.Common.{◌≡◌, ◌≤◌, ◌<◌, ◌+◌, ◌^◌, ℕ, List, [], Option, Some, get_or, length, slice_get, refl, sym, ap, ◌∙◌, subst, arith}
 use Rattle.std.proofs.lemmas.Option.{slice_get-get_or}
 use Rattle.hwp_law.specs.hwp_script_read.declared.Command.{Command}
+use Rattle.hwp_law.specs.hwp_page.declared.Entry.{Entry}
 use Rattle.hwp_law.specs.hwp_report_text.declared.Answer.{Answer}
+use Rattle.hwp_law.specs.hwp_report_text.declared.CpuLine.{CpuLine}
+use Rattle.hwp_law.specs.hwp_report_text.declared.Report.{Report}
 use Rattle.hwp_check_acting.specs.ActedOn.{copies_in}
 use Rattle.hwp_check_scrub.specs.hwp_check_event_line.declared.Shown.{Shown}
 use Rattle.hwp_check_events.specs.Cases.{IsCase, IsCaseAt, IsIndexed, IsOfScript, ProcessorValue, rows_in}
-use Rattle.hwp_check_events.specs.Indexed.{shown_from}
+use Rattle.hwp_check_events.specs.Copied.{AreCopied}
+use Rattle.hwp_check_events.specs.Indexed.{AreChecks, AreFirst, AreShown, shown_from}
 use Rattle.hwp_check_events.specs.Misfits.{IsFit}
 use Rattle.hwp_check_events.specs.declared.known.Known.{Known}
 use Rattle.hwp_check_events.proofs.WalkSteps.{answer-is, checks-are, checks-few, few-commands, fit-is}
+
+-- what is kept of it is right, by the lines and the histories of the report
+pub indexed-is : (p : ProcessorValue) (told : Report) (rows : List CpuLine) (count : ℕ) (pages : List (List Entry)) (lists : List (List Shown)) (answers : List (Option Answer)) (checks : List ℕ) (copied : List (List ℕ))
+    → IsOfScript p → told ≡ p.report → rows ≡ rows_in told p.cpu → count ≡ length p.commands → pages ≡ told.pages → AreShown rows count lists → AreFirst rows count answers → AreChecks p.cpu count pages checks
+    → AreCopied p.script.layout (copies_in p.copies) told p.cpu p.commands (length p.commands) copied → IsIndexed p lists answers checks copied
+indexed-is p told rows count pages lists answers checks copied of told_is rows_are count_is pages_are shown first counted own = record {
+  of_script = of;
+  lists_are = subst (λ (n : ℕ). AreShown (rows_in p.report p.cpu) n lists) count_is (subst (λ (l : List CpuLine). AreShown l count lists) here shown);
+  answers_are = subst (λ (n : ℕ). AreFirst (rows_in p.report p.cpu) n answers) count_is (subst (λ (l : List CpuLine). AreFirst l count answers) here first);
+  checks_are = subst (λ (n : ℕ). AreChecks p.cpu n p.report.pages checks) count_is (subst (λ (l : List (List Entry)). AreChecks p.cpu count l checks) (pages_are ∙ ap (λ (r : Report). r.pages) told_is) counted);
+  copied_are = subst (λ (r : Report). AreCopied p.script.layout (copies_in p.copies) r p.cpu p.commands (length p.commands) copied) told_is own;
+}
+  where
+    here : rows ≡ rows_in p.report p.cpu
+    here = rows_are ∙ ap (λ (r : Report). rows_in r p.cpu) told_is
 
 -- its number is small
 pub few-of : (p : ProcessorValue) → IsOfScript p → length p.commands ≤ 4096

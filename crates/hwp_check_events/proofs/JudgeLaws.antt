@@ -9,6 +9,7 @@ use Rattle.hwp_banks.specs.hwp_geom.declared.Frame.{Frame}
 use Rattle.hwp_banks.specs.hwp_geom.declared.Thread.{Thread}
 use Rattle.hwp_banks.specs.hwp_geom.declared.VSlot.{VSlot}
 use Rattle.hwp_banks.specs.hwp_geom.declared.Who.{Who}
+use Rattle.hwp_banks.specs.Banks.{raw_event}
 use Rattle.hwp_banks.specs.declared.Event.{Event}
 use Rattle.hwp_banks.specs.declared.Origin.{Origin}
 use Rattle.hwp_banks.specs.declared.Origin.TheVariants as origins
@@ -25,8 +26,8 @@ use Rattle.hwp_law.specs.Lines.{answer_of}
 use Rattle.hwp_check_events.specs.Accesses.{Access, IsAccessLine, IsRaisedLine, access_by, asked_by_access, access_of, lines_met}
 use Rattle.hwp_check_scrub.specs.hwp_check_event_line.Firsts.{IsScanned, shown_lines}
 use Rattle.hwp_check_events.specs.Copied.{copied_by}
-use Rattle.hwp_check_events.specs.Judged.{IsAccessJudged, IsJudged, IsScrubJudged, IsTable}
-use Rattle.hwp_check_events.specs.Misfits.{commands_before, course_of, is_scrubbed, low_of}
+use Rattle.hwp_check_events.specs.Judged.{IsAccessJudged, IsJudged, IsRaiseJudged, IsScrubJudged, IsTable}
+use Rattle.hwp_check_events.specs.Misfits.{commands_before, course_of, is_scrubbed, logged_if, low_of}
 use Rattle.hwp_check_scrub.specs.Scrubs.{Course, after_all, bound_from, lacking, lowest, reach_from}
 use Rattle.hwp_check_scrub.specs.Scrubbing.{IsRightIn, course_by, low_of as low_by}
 use Rattle.hwp_check_scrub.specs.hwp_check_event_line.declared.Faults.{Faults}
@@ -116,6 +117,27 @@ module _ (script : Script) (copies : Who → Option VSlot) (report : Report) (wh
       (subst (λ (l : List ℕ). IsAccessJudged script report who how origins.Access l raw left lines faults) same judged) in
       subst Judged (sym is) (record { scanned = j.scanned; lacks = j.lacks; left_is = j.left_is })
 
+  pub fetch-judged : (thread : Thread) (slot : VSlot) (at : ℕ) → command ≡ commands.Fetch thread slot at → IsAccessJudged script report who how origins.Fetch (access_lines report who at) raw left lines faults → Judged command
+  fetch-judged thread slot at is judged =
+      let j = subst (λ (h : Arrival). IsAccessJudged script report who h origins.Fetch (access_lines report who at) raw left lines faults) (how_is ∙ ap arrival_of is) judged in
+      subst Judged (sym is) (record { scanned = j.scanned; lacks = j.lacks; left_is = j.left_is })
+
+  user-judged : (thread : Thread) (ripv eipv : Bool) → command ≡ commands.RaiseUser thread ripv eipv → IsRaiseJudged script report who how raw left lines faults → Judged command
+  user-judged thread ripv eipv is judged =
+      let j = subst (λ (h : Arrival). IsRaiseJudged script report who h raw left lines faults) (how_is ∙ ap arrival_of is) judged in
+      subst Judged (sym is) (record { scanned = j.scanned; lacks = j.lacks; left_is = j.left_is })
+
+  kernel-judged : (ripv eipv : Bool) → command ≡ commands.RaiseKernel ripv eipv → IsRaiseJudged script report who how raw left lines faults → Judged command
+  kernel-judged ripv eipv is judged =
+      let j = subst (λ (h : Arrival). IsRaiseJudged script report who h raw left lines faults) (how_is ∙ ap arrival_of is) judged in
+      subst Judged (sym is) (record { scanned = j.scanned; lacks = j.lacks; left_is = j.left_is })
+
+  -- a raise in either mode
+  pub raised-judged : ((thread : Thread) × (ripv : Bool) × (eipv : Bool) × (command ≡ commands.RaiseUser thread ripv eipv)) ⊎ ((ripv : Bool) × (eipv : Bool) × (command ≡ commands.RaiseKernel ripv eipv))
+      → IsRaiseJudged script report who how raw left lines faults → Judged command
+  raised-judged (inl (thread, ripv, eipv, is)) judged = user-judged thread ripv eipv is judged
+  raised-judged (inr (ripv, eipv, is)) judged = kernel-judged ripv eipv is judged
+
   -- a load, or one of the kernel
   pub accessed-judged : (at : ℕ) → ((thread : Thread) × (slot : VSlot) × (command ≡ commands.Load thread slot at)) ⊎ ((thread : Thread) × (slot : VSlot) × (command ≡ commands.KLoad thread slot at))
       → IsAccessJudged script report who how origins.Access (access_lines report who at) raw left lines faults → Judged command
@@ -126,3 +148,7 @@ module _ (script : Script) (copies : Who → Option VSlot) (report : Report) (wh
   scrubbed-judged first last is judged =
       let j = subst (λ (h : Arrival). IsScrubJudged script report who h first last raw left lines faults) (how_is ∙ ap arrival_of is) judged in
       subst Judged (sym is) (record { scanned = j.scanned; lacks = j.lacks; left_is = j.left_is })
+
+  -- a raw event, which has no lines
+  pub log-judged : (status addr misc : ℕ) → command ≡ commands.Log status addr misc → IsScanned (λ (number : ℕ) (line : EventLine). ⊥) lines faults.wrong → faults.lacks ≡ false → left ≡ logged_if (answer_of report who) (raw_event status addr misc) raw → Judged command
+  log-judged status addr misc is scanned lacks left_is = subst Judged (sym is) (record { scanned = scanned; lacks = subst (λ (b : Bool). MatchBool b ⊥ (⊥ → ⊥)) (sym lacks) (λ no. no); left_is = left_is })

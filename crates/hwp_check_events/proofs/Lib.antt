@@ -10,6 +10,7 @@ pub mod Walks
 pub mod ValidLaws
 mod JudgeLaws
 pub mod IndexLaws
+mod Joined
 mod FirstAnswers
 mod CheckCounts
 mod TableLaws

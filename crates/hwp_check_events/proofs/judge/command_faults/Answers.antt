@@ -5,7 +5,7 @@ use Rattle.hwp_check_acting.specs.ActedOn.{copies_in}
 use Rattle.hwp_check_scrub.specs.hwp_check_event_line.Firsts.{shown_lines}
 use Rattle.hwp_check_events.specs.Copied.{copied_by}
 use Rattle.hwp_check_events.specs.Judged.{IsJudged}
-use Rattle.hwp_check_events.proofs.JudgeLaws.{accessed-judged, scrubbed-judged, store-judged}
+use Rattle.hwp_check_events.proofs.JudgeLaws.{accessed-judged, fetch-judged, log-judged, raised-judged, scrubbed-judged, store-judged}
 use Rattle.hwp_check_events.proofs.judge.command_faults.Goals as goal
 use Rattle.hwp_check_events.proofs.judge.command_faults.Goals.{in-Load, in-Load-2}
 
@@ -35,3 +35,21 @@ returns-in-Scrub c =
     let v = c.args.case.now in
     subst (λ (x : Command). IsJudged v.script (copies_in v.copies) v.report v.who x c.args.raw.now c.judge_scrub.new.raw (shown_lines v.lines) c.judge_scrub.result) c.command.ensures.command
     (scrubbed-judged v.script (copies_in v.copies) v.report v.who c.command.result.now c.args.raw.now c.judge_scrub.new.raw (shown_lines v.lines) c.judge_scrub.result (arrival_of v.command) (ap arrival_of (sym c.command.ensures.command)) c.in-Scrub.first c.in-Scrub.last c.in-Scrub.is c.judge_scrub.ensures)
+
+pub returns-in-Fetch : goal.returns-in-Fetch
+returns-in-Fetch c =
+    let v = c.args.case.now in
+    subst (λ (x : Command). IsJudged v.script (copies_in v.copies) v.report v.who x c.args.raw.now c.judge_access.new.raw (shown_lines v.lines) c.judge_access.result) c.command.ensures.command
+    (fetch-judged v.script (copies_in v.copies) v.report v.who c.command.result.now c.args.raw.now c.judge_access.new.raw (shown_lines v.lines) c.judge_access.result (arrival_of v.command) (ap arrival_of (sym c.command.ensures.command)) c.in-Fetch.thread c.in-Fetch.slot c.in-Fetch.line c.in-Fetch.is c.judge_access.ensures)
+
+pub returns-in-RaiseUser : goal.returns-in-RaiseUser
+returns-in-RaiseUser c =
+    let v = c.args.case.now in
+    subst (λ (x : Command). IsJudged v.script (copies_in v.copies) v.report v.who x c.args.raw.now c.judge_raise.new.raw (shown_lines v.lines) c.judge_raise.result) c.command.ensures.command
+    (raised-judged v.script (copies_in v.copies) v.report v.who c.command.result.now c.args.raw.now c.judge_raise.new.raw (shown_lines v.lines) c.judge_raise.result (arrival_of v.command) (ap arrival_of (sym c.command.ensures.command)) c.in-RaiseUser.is c.judge_raise.ensures)
+
+pub returns-in-Log : goal.returns-in-Log
+returns-in-Log c =
+    let v = c.args.case.now in
+    subst (λ (x : Command). IsJudged v.script (copies_in v.copies) v.report v.who x c.args.raw.now c.judge_log.new.raw (shown_lines v.lines) c.judge_log.result) c.command.ensures.command
+    (log-judged v.script (copies_in v.copies) v.report v.who c.command.result.now c.args.raw.now c.judge_log.new.raw (shown_lines v.lines) c.judge_log.result (arrival_of v.command) (ap arrival_of (sym c.command.ensures.command)) c.in-Log.status c.in-Log.addr c.in-Log.misc c.in-Log.is c.judge_log.ensures.scanned c.judge_log.ensures.lacks c.judge_log.ensures.left)
