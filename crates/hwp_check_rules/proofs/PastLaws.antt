@@ -1,9 +1,9 @@
 -- What is known of a thread: the policies set, the commands done, and the counts of both.
-use Rattle.std.proofs.Common.{◌≡◌, ◌⊎◌, inl, inr, ℕ, ◌+◌, ◌-◌, ◌<◌, ◌≤◌, ◌==◌, Bool, List, [], ◌∷◌, ◌++◌, Some, cond, length, drop, slice_get, slice_set, slice_index_or, refl, sym, ap, ◌∙◌, subst, arith}
+use Rattle.std.proofs.Common.{◌≡◌, ◌⊎◌, inl, inr, ℕ, ◌+◌, ◌-◌, ◌<◌, ◌≤◌, ◌==◌, Bool, false, List, [], ◌∷◌, ◌++◌, Some, cond, length, drop, slice_get, slice_set, slice_index_or, refl, sym, ap, ◌∙◌, subst, arith}
 use Rattle.std.specs.List.{filter_map, find}
 use Rattle.std.specs.Option.{option_map}
 use Rattle.std.proofs.lemmas.Bool.{cases_eq, cases_lt, eq-eqb, ne_eqb}
-use Rattle.std.proofs.lemmas.List.{drop_more, get_or-set_other, get_or-set_same, get_or_append_left, get_or_push, length-set, length_push}
+use Rattle.std.proofs.lemmas.List.{drop_all, drop_more, get_or-set_other, get_or-set_same, get_or_append_left, get_or_push, length-set, length_push}
 use Rattle.std.proofs.lemmas.Option.{get_or_from_slice_get, slice_get-get_or, slice_get_within}
 use Rattle.hwp_law.specs.hwp_geom.declared.Thread.{Thread}
 use Rattle.hwp_law.specs.hwp_script_read.declared.Script.{Script}
@@ -46,6 +46,20 @@ noted-done (lines.Answer seq answer) rest flags are = λ k d less. which k d (su
         ∙ get_or-set_same flags seq (is_done (Some answer)) d (subst (λ (n : ℕ). n < length flags) same less)
         ∙ ap is_done (sym (same-answer seq answer rest k same))
     which k d less (inr other) = get_or-set_other flags seq k (is_done (Some answer)) d other ∙ are k d less ∙ ap is_done (sym (other-answer seq answer rest k other))
+
+-- no line is noted yet
+pub none-noted : (rows : List CpuLine) (flags : List Bool) → ((k : ℕ) (d : Bool) → k < length flags → slice_index_or flags k d ≡ false) → AreDone (drop (length rows - 0) rows) flags
+none-noted rows flags none = λ k d less. none k d less ∙ sym (ap (λ (l : List CpuLine). is_done (answer_among l k)) (drop_all (length rows - 0) rows (omega arith)))
+
+-- and all are
+pub all-noted : (rows : List CpuLine) (flags : List Bool) (back : ℕ) → length rows ≤ back → AreDone (drop (length rows - back) rows) flags → AreDone rows flags
+all-noted rows flags back past are =
+    let none : length rows - back ≡ 0 = omega (arith, past) in
+    subst (λ (l : List CpuLine). AreDone l flags) (whole rows) (subst (λ (n : ℕ). AreDone (drop n rows) flags) none are)
+  where
+    whole : (xs : List CpuLine) → drop 0 xs ≡ xs
+    whole [] = refl
+    whole (x ∷ xs) = refl
 
 pub note_more : (rows : List CpuLine) (flags after : List Bool) (back : ℕ) (d : CpuLine) → back < length rows → after ≡ noted (slice_index_or rows (length rows - 1 - back) d) flags
     → AreDone (drop (length rows - back) rows) flags → (length after ≡ length flags) × AreDone (drop (length rows - (back + 1)) rows) after
