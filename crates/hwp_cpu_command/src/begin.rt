@@ -13,7 +13,7 @@ ghost use Rattle.hwp_scrub.specs.Scrubs as scrubs;
 ghost use Rattle.hwp_evict.specs.Fsyncs as fsyncs;
 ghost use Rattle.hwp_scrub.specs.declared.LocalChange.TheVariants as changes;
 ghost use Rattle.hwp_scrub.specs.Logs as logs;
-ghost use Rattle.hwp_cpu_command.specs.Begins.{Begins, BeginsCopy, BeginsFork, BeginsLine, BeginsPrctl, BeginsRaiseUser, BeginsWith, CanCopy, CanCopyFrom, CanDeny, IsDeniedAnyhow, access_in, is_rare, line_access, request_of};
+ghost use Rattle.hwp_cpu_command.specs.Begins.{Begins, BeginsAs, BeginsCopy, BeginsFork, BeginsLine, BeginsPrctl, BeginsRaiseUser, BeginsWith, CanCopy, CanCopyFrom, CanDeny, IsDeniedAnyhow, access_in, is_rare, line_access, request_of};
 ghost use Rattle.hwp_cpu_command.specs.FileHandles.{HasHandle, local_left};
 ghost use Rattle.hwp_cpu_command.specs.Jobs.{left_in};
 ghost use Rattle.hwp_cpu_command.specs.declared.job.Job.TheVariants as jobs;
@@ -78,24 +78,38 @@ impl Job {
         ensures handle { HasHandle local.old.handles self.new }
         ensures local { local.new ≡ local_left self.new local.old }
     {
+        match admit {
+            Admit::Yes => self.begin_own(alloc, layout, who, command, copies, local),
+            Admit::Bad => deny(layout, who, &command, Denial::BadFrame, self),
+            Admit::Stopped => deny(layout, who, &command, Denial::Stopped, self),
+        }
+    }
+
+    /// The same of a command that no guest denies.
+    fn begin_own(
+        &mut self,
+        alloc: Global,
+        layout: &Layout,
+        who: Who,
+        command: Command,
+        copies: Option<VSlot>,
+        local: &mut Local,
+    )
+        requires sound { IsSound layout.now }
+        requires of { IsCommandOf layout.now who.cpu.0 command }
+        requires copies { CanCopy layout.now who.cpu.0 command copies }
+        ensures begins { BeginsAs layout.now who command copies local.old.banks (collects local.old.watching) self.new }
+        ensures handle { HasHandle local.old.handles self.new }
+        ensures local { local.new ≡ local_left self.new local.old }
+    {
         let collects = collects(&local.watching);
         let banks = &mut local.banks;
-        match admit {
-            Admit::Yes => match copies {
-                Some(from) => copy(alloc, layout, who, &command, from, collects, banks, self),
-                None => match access_in(&command) {
-                    Some(at) => access(alloc, layout, who, at, collects, banks, self),
-                    None => begin_other(alloc, layout, who, &command, banks, &local.handles, self),
-                },
+        match copies {
+            Some(from) => copy(alloc, layout, who, &command, from, collects, banks, self),
+            None => match access_in(&command) {
+                Some(at) => access(alloc, layout, who, at, collects, banks, self),
+                None => begin_other(alloc, layout, who, &command, banks, &local.handles, self),
             },
-            Admit::Bad => set(
-                self,
-                Job::Denied(deny(layout, who, &command, Denial::BadFrame)),
-            ),
-            Admit::Stopped => set(
-                self,
-                Job::Denied(deny(layout, who, &command, Denial::Stopped)),
-            ),
         }
     }
 }
@@ -110,17 +124,20 @@ fn collects(watching: &Option<Watching>) -> bool
     }
 }
 
-/// An access that its guest doesn't admit, at its beginning.
-fn deny(layout: &Layout, who: Who, command: &Command, why: Denial) -> Denied
+/// An access that its guest doesn't admit, at its beginning, which leaves the banks as they are.
+fn deny(layout: &Layout, who: Who, command: &Command, why: Denial, job: &mut Job)
     requires sound { IsSound layout.now }
     requires of { IsCommandOf layout.now who.cpu.0 command.now }
     requires access { IsSome (access_of command.now) }
-    ensures { IsDeniedAnyhow layout.now who command.now why (jobs.Denied result) }
+    ensures begins { IsDeniedAnyhow layout.now who command.now why job.new }
+    ensures handle { (handles : List ℕ) → HasHandle handles job.new }
+    ensures banks { (banks : Banks) → left_in job.new banks ≡ banks }
 {
     let Some(at) = access_in(command) else {
         unreachable!();
     };
-    Denied::new(who, process_of(layout, at.thread), why)
+    let process = process_of(layout, at.thread);
+    set(job, Job::Denied(Denied::new(who, process, why)));
 }
 
 /// The process of a thread.
@@ -212,8 +229,8 @@ fn begin_other(
     }
 }
 
-/// The same of a command whose task is put in its place whole. That is slower than an arm of `begin_other` for each kind, which writes few
-/// fields there, and much shorter to prove.
+/// The same of a command that comes seldom, whose task is put in its place whole. That is much shorter to prove, and slower: the room for
+/// such a task is cleared where this function begins, so it stands apart.
 fn begin_rare(
     alloc: Global,
     layout: &Layout,
