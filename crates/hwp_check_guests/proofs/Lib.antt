@@ -1,5 +1,6 @@
 pub mod AdmissionLaws
 pub mod TellingLaws
+mod Folds
 pub mod BusyLaws
 pub mod JudgeLaws
 pub mod RuleLaws
