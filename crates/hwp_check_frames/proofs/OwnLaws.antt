@@ -2,7 +2,7 @@
 use Rattle.std.proofs.Common.{◌≡◌, ℕ, zero, suc, ◌+◌, ◌<◌, ◌≤◌, ◌==◌, ◌&&◌, Bool, true, false, cond, List, [], ◌∷◌, drop, get_or, length, option_map, slice_get, sum_by, take, unwrap_or, refl, ap, ◌∙◌, arith}
 use Rattle.std.proofs.lemmas.Bool.{eq-eqb, ne_eqb}
 use Rattle.std.proofs.lemmas.List.{drop_more}
-use Rattle.std.proofs.lemmas.List.Sums.{sum_by-cons, sum_by-take-le, sum_by_more}
+use Rattle.std.proofs.lemmas.List.Sums.{sum_by-cons, sum_by-take-le, sum_by_more, sum_by_more_le}
 use Rattle.hwp_check_rules.specs.hwp_geom.declared.Who.{Who}
 use Rattle.hwp_check_rules.specs.hwp_report_text.declared.FrameLine.{FrameLine}
 use Rattle.hwp_check_rules.specs.hwp_report_text.declared.How.TheVariants as hows
@@ -59,6 +59,13 @@ frames-most n q frames d shown list was is within here marks_are counted low =
     let most : marks_own n q list ≤ length list = owns-most n q list in
     let same : length list ≡ length (get_or frames n d).marks = ap (λ (ms : List MarkLine). length ms) are in
     omega (arith, more, most, same, counted, low)
+
+-- what was counted and a frame's marks stay below the number of lines
+pub marks-room : (frames : List FrameLine) (i : ℕ) (d x : FrameLine) (list : List MarkLine) (was : ℕ) → i < length frames → x ≡ get_or frames i d → list ≡ x.marks → was ≤ sum_by frame_height (take i frames) → was + length list + 1 ≤ sum_by frame_height frames
+marks-room frames i d x list was within is marks_are low =
+    let same : length list ≡ length (get_or frames i d).marks = ap (λ (ms : List MarkLine). length ms) (marks_are ∙ ap (λ (l : FrameLine). l.marks) is) in
+    let more : sum_by frame_height (take i frames) + frame_height (get_or frames i d) ≤ sum_by frame_height frames = sum_by_more_le frame_height frames i d within in
+    omega (arith, low, more, same)
 
 -- in its own frame
 own-flag : (w : Who) (frame : ℕ) (m : MarkLine) → own_raise frame ((w.cpu.0, w.seq), frame) m ≡ flag (is_same_command w (who_in m) && is_by_hardware m)
