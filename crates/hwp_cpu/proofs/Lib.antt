@@ -1,8 +1,6 @@
-pub mod CourseCollects
 pub mod DueLaws
 pub mod SoftMade
 pub mod CopyRests
-pub mod PartBegins
 pub mod RestLaws
 pub mod ToldSince
 pub mod CourseLaws
@@ -21,7 +19,6 @@ pub mod ProcessorKeeps
 pub mod CommandBegins
 pub mod Marks
 pub mod Collected
-pub mod CopyLeaves
 pub mod OwnLines
 pub mod LeftCommand
 pub mod OwnRests

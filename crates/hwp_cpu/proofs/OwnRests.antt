@@ -1,11 +1,7 @@
 -- The command's own task goes on, pauses behind a machine check, or has its answer.
 use Rattle.hwp_cpu_command_laws.specs.hwp_cpu_command.hwp_cpu_copy.declared.Copying.{Copying}
-use Rattle.hwp_cpu_command_laws.specs.hwp_cpu_command.hwp_cpu_copy.Copyings as copyings
-use Rattle.hwp_cpu_command_laws.specs.hwp_cpu_command.hwp_cpu_copy.Fits as copying_fits
 use Rattle.hwp_cpu_command_laws.specs.hwp_cpu_command.hwp_fault.declared.Request.{Request}
-use Rattle.hwp_cpu_command_laws.proofs.of_hwp_cpu_command.of_hwp_cpu_copy.CopyResting as copy-resting
 use Rattle.hwp_cpu_command_laws.proofs.of_hwp_cpu_command.of_hwp_cpu_copy.CopyLaws.{own-after}
-use Rattle.hwp_cpu.proofs.CopyLeaves.{copy-leaves}
 use Rattle.hwp_cpu.proofs.Collecting.{access-plain, copy-kind, copy-leaves-none, left-denied, left-plain}
 use Rattle.hwp_cpu_row.specs.hwp_page.declared.At.{At}
 use Rattle.hwp_cpu_row.specs.hwp_geom.declared.VSlot.{VSlot}
@@ -15,10 +11,9 @@ use Rattle.hwp_cpu_causes.proofs.LeftBeside.{left-paused}
 use Rattle.hwp_cpu_causes.proofs.OnTheWay.{on-the-way, runs-access}
 use Rattle.hwp_cpu_command_laws.proofs.of_hwp_cpu_command.of_hwp_cpu_access.InstructionLaws.{paused}
 use Rattle.hwp_cpu_command_laws.proofs.of_hwp_cpu_command.of_hwp_cpu_access.Resting.{rests}
-use Rattle.hwp_cpu_command_laws.proofs.of_hwp_cpu_command.JobLaws as jobbing
 use Rattle.hwp_cpu.specs.Serving.{HasCopyPaused, left_so_far, IsUnderWay, HasToldAll, IsPaused, OwnGoesOn}
 use Rattle.hwp_cpu_row.specs.declared.Local.{Local}
-use Rattle.std.proofs.Common.{Option, None, inl, inr, refl, ◌<◌, length, is_some, Some, subst, sym, true, ap, ◌≡◌, List, ◌∙◌, [], ℕ}
+use Rattle.std.proofs.Common.{Option, None, inl, inr, refl, ◌<◌, length, is_some, Some, subst, sym, true, ap, ◌≡◌, List, ◌∙◌, [], ℕ, false, map}
 use Rattle.hwp_cpu_command_laws.specs.hwp_cpu_command.hwp_cpu_access.declared.Instruction.{Instruction}
 use Rattle.hwp_cpu_command_laws.specs.hwp_cpu_command.FileHandles.{handles_after}
 use Rattle.hwp_cpu_causes.specs.Beside.{IsOwnServed, ArePriorWith, DoesSo}
@@ -39,7 +34,7 @@ use Rattle.hwp_cpu_causes.specs.hwp_law_served.Handles.{answers_by, number_at}
 use Rattle.hwp_cpu.proofs.ProcessorNotes.{no-loss, failed-end}
 use Rattle.hwp_cpu.proofs.EachKind.{on-turn}
 use Rattle.hwp_cpu_command_laws.specs.hwp_cpu_command.declared.job.Job.{Job}
-use Rattle.hwp_cpu_causes.specs.hwp_law_served.Offlinings.{left_beside, left_by, left_itself}
+use Rattle.hwp_cpu_causes.specs.hwp_law_served.Offlinings.{left_beside, left_by, left_itself, place_of}
 use Rattle.hwp_cpu_command_laws.specs.hwp_cpu_command.hwp_cpu_access.declared.instruction.Pause.{Pause}
 use Rattle.hwp_cpu_row.specs.hwp_geom.declared.Who.{Who}
 use Rattle.hwp_cpu_row.specs.hwp_core_rule.declared.Made.{Made}
@@ -52,13 +47,37 @@ use Rattle.hwp_cpu_command_laws.proofs.Beside.{IsAtPause, job-at-pause, paused-u
 use Rattle.hwp_cpu_row.specs.hwp_core_task.Hands.{hand_of, empty}
 use Rattle.hwp_cpu_command_laws.proofs.CommandDeeds.{unowed-at-end}
 use Rattle.hwp_cpu_command_laws.specs.hwp_cpu_command.Runs.{Runs}
+use Rattle.hwp_cpu_command_laws.proofs.DeniedAnswers.{unmade-denied}
+use Rattle.hwp_cpu_row.specs.hwp_core_task.Known.{HasMadeNone, is_failure}
+use Rattle.std.proofs.lemmas.Bool.{both_ways}
+use Rattle.hwp_cpu_row.specs.hwp_page.declared.What.{What}
+use Rattle.hwp_cpu_command_laws.proofs.of_hwp_cpu_command.of_hwp_cpu_copy.CopyLists.{IsApart, copy-lists}
+use Rattle.hwp_cpu_causes.specs.hwp_law.Pairings.{is_soft}
+use Rattle.hwp_cpu_command_laws.specs.hwp_cpu_command.hwp_cpu_copy.Copyings as copyings
+use Rattle.hwp_cpu_command_laws.specs.hwp_cpu_command.hwp_cpu_copy.Fits as copying_fits
+use Rattle.hwp_cpu_command_laws.proofs.of_hwp_cpu_command.of_hwp_cpu_copy.CopyResting as copy-resting
+use Rattle.hwp_cpu_command_laws.proofs.of_hwp_cpu_command.JobLaws as jobbing
 use Rattle.hwp_cpu_command_laws.specs.hwp_cpu_command.declared.job.Job.TheVariants as kinds
 use Rattle.hwp_cpu_row.specs.hwp_report_text.declared.Answer.TheVariants as answers
 use Rattle.hwp_cpu_command_laws.specs.hwp_cpu_command.Jobs as jobs
 use Rattle.hwp_cpu_command_laws.specs.hwp_cpu_command.hwp_cpu_access.Instructions as instructions
 use Rattle.hwp_cpu_command_laws.specs.hwp_cpu_command.hwp_cpu_access.Fits as instruction_fits
-use Rattle.hwp_cpu_command_laws.proofs.DeniedAnswers.{unmade-denied}
-use Rattle.hwp_cpu_row.specs.hwp_core_task.Known.{HasMadeNone}
+use Rattle.hwp_cpu_row.specs.hwp_page.declared.What.TheVariants as entries
+
+no-failure : (what : What) → is_failure what ≡ true → is_soft what ≡ false
+no-failure (entries.Fail situation required seen signals) is = refl
+no-failure _ is = absurd (both_ways false refl is)
+
+soft-apart : IsApart is_soft
+soft-apart = record {
+  skips = record { fault_in = refl; map = λ slot. refl; load = λ slot line met. refl; store = λ slot line met. refl };
+  check = λ slot line mask. refl;
+  failure = no-failure;
+  freed = λ slot. refl;
+}
+
+pub copy-leaves : (layout : Layout) (old new : View) (y : Copying) (k : Job) → Stepped layout old new (kinds.Copying y) k → left_by y.store.who new ≡ left_by y.store.who old
+copy-leaves layout old new y k made = ap (map place_of) (copy-lists is_soft soft-apart layout old new y made.step made.found made.got made.fits made.planned made.made made.follows.0 made.turn made.follows.2)
 
 -- ---- it goes on
 

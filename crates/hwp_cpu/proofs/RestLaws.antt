@@ -1,5 +1,5 @@
 -- What is so of a command's own task where it rests, behind that, and where memory runs out there.
-use Rattle.std.proofs.Common.{◌≡◌, ◌≢◌, ◌⊎◌, inl, inr, ℕ, true, List, [], Option, Some, None, is_some, length, refl, sym, ap, ◌∙◌, subst}
+use Rattle.std.proofs.Common.{◌≡◌, ◌≢◌, ◌⊎◌, inl, inr, ℕ, true, List, [], Option, Some, None, is_some, length, refl, sym, ap, ◌∙◌, subst, ◌<◌}
 use Rattle.std.proofs.lemmas.Bool.{both_ways}
 use Rattle.hwp_cpu_row.specs.hwp_geom.declared.Frame.{Frame}
 use Rattle.hwp_cpu_row.specs.hwp_geom.declared.Layout.{Layout}
@@ -11,37 +11,60 @@ use Rattle.hwp_cpu_row.specs.hwp_core_task.Hands.{empty, hand_of}
 use Rattle.hwp_cpu_row.specs.hwp_core_task.Known.{deeds}
 use Rattle.hwp_cpu_row.specs.Locals.{collects}
 use Rattle.hwp_cpu_command_laws.specs.hwp_cpu_command.declared.Job.{Job}
-use Rattle.hwp_cpu_command_laws.specs.hwp_cpu_command.declared.job.Job.TheVariants as kinds
 use Rattle.hwp_cpu_command_laws.specs.hwp_cpu_command.Done.{failed_now}
-use Rattle.hwp_cpu_command_laws.specs.hwp_cpu_command.Jobs as jobs
 use Rattle.hwp_cpu_command_laws.proofs.of_hwp_cpu_command.JobEnds.{answered-over, ends, instruction-ended, mapped, paid-at-end, raise-ended, scrub-ended}
-use Rattle.hwp_cpu_command_laws.proofs.of_hwp_cpu_command.JobLaws as jobbing
 use Rattle.hwp_cpu_command_laws.proofs.Beside.{answered-resumes, at-pause}
 use Rattle.hwp_cpu_command_laws.specs.hwp_cpu_command.hwp_cpu_access.declared.Instruction.{Instruction}
 use Rattle.hwp_cpu_command_laws.specs.hwp_cpu_command.hwp_cpu_access.declared.instruction.InstructionAt.{InstructionAt}
 use Rattle.hwp_cpu_command_laws.specs.hwp_cpu_command.hwp_cpu_access.declared.instruction.Pause.{Pause}
-use Rattle.hwp_cpu_command_laws.specs.hwp_cpu_command.hwp_cpu_access.Fits as instruction_fits
-use Rattle.hwp_cpu_command_laws.specs.hwp_cpu_command.hwp_cpu_access.Instructions as instructions
 use Rattle.hwp_cpu_command_laws.proofs.of_hwp_cpu_command.of_hwp_cpu_access.Resting.{resumes, rests as pauses-rest}
 use Rattle.hwp_cpu_command_laws.specs.hwp_cpu_command.hwp_cpu_copy.declared.Copying.{Copying}
 use Rattle.hwp_cpu_command_laws.specs.hwp_cpu_command.hwp_cpu_copy.declared.copying.CopyingAt.{CopyingAt}
-use Rattle.hwp_cpu_command_laws.specs.hwp_cpu_command.hwp_cpu_copy.declared.copying.CopyingAt.TheVariants as copying_at
-use Rattle.hwp_cpu_command_laws.specs.hwp_cpu_command.hwp_cpu_copy.Copyings as copyings
-use Rattle.hwp_cpu_command_laws.specs.hwp_cpu_command.hwp_cpu_copy.Fits as copying_fits
 use Rattle.hwp_cpu_command_laws.proofs.of_hwp_cpu_command.of_hwp_cpu_access.InstructionLaws.{paused}
-use Rattle.hwp_cpu_command_laws.proofs.of_hwp_cpu_command.of_hwp_cpu_copy.CopyEnds as copy-ends
-use Rattle.hwp_cpu_command_laws.proofs.of_hwp_cpu_command.of_hwp_cpu_copy.CopyResting as copy-resting
-use Rattle.hwp_cpu_command_laws.specs.hwp_cpu_command.hwp_scrub.Raises as raises
 use Rattle.hwp_cpu_command_laws.specs.hwp_cpu_command.hwp_scrub.declared.Scrub.{Scrub}
 use Rattle.hwp_cpu_command_laws.specs.hwp_cpu_command.hwp_scrub.declared.ScrubAnswer.{ScrubAnswer}
-use Rattle.hwp_cpu_command_laws.specs.hwp_cpu_command.hwp_scrub.declared.ScrubAnswer.TheVariants as scrub_answers
-use Rattle.hwp_cpu_command_laws.specs.hwp_cpu_command.hwp_scrub.Fits as scrub_fits
-use Rattle.hwp_cpu_command_laws.specs.hwp_cpu_command.hwp_scrub.Scrubs as scrubs
 use Rattle.hwp_cpu.specs.declared.course.Course.{Course}
 use Rattle.hwp_cpu.specs.Courses.{FitsOwn, HasPassed, RestsNow, gives_up, rests}
 use Rattle.hwp_cpu_command_laws.proofs.of_hwp_cpu_command.of_hwp_cpu_copy.CopyResting.{at-pause as copy-at-pause}
 use Rattle.hwp_cpu.proofs.CopyRests.{copy-behind}
-use Rattle.hwp_cpu.proofs.PartBegins.{on-turn}
+use Rattle.hwp_cpu_row.specs.hwp_geom.declared.Who.{Who}
+use Rattle.hwp_cpu_command_laws.specs.hwp_cpu_command.declared.job.Job.TheVariants as kinds
+use Rattle.hwp_cpu_command_laws.specs.hwp_cpu_command.Jobs as jobs
+use Rattle.hwp_cpu_command_laws.proofs.of_hwp_cpu_command.JobLaws as jobbing
+use Rattle.hwp_cpu_command_laws.specs.hwp_cpu_command.hwp_cpu_access.Fits as instruction_fits
+use Rattle.hwp_cpu_command_laws.specs.hwp_cpu_command.hwp_cpu_access.Instructions as instructions
+use Rattle.hwp_cpu_command_laws.specs.hwp_cpu_command.hwp_cpu_copy.declared.copying.CopyingAt.TheVariants as copying_at
+use Rattle.hwp_cpu_command_laws.specs.hwp_cpu_command.hwp_cpu_copy.Copyings as copyings
+use Rattle.hwp_cpu_command_laws.specs.hwp_cpu_command.hwp_cpu_copy.Fits as copying_fits
+use Rattle.hwp_cpu_command_laws.proofs.of_hwp_cpu_command.of_hwp_cpu_copy.CopyEnds as copy-ends
+use Rattle.hwp_cpu_command_laws.proofs.of_hwp_cpu_command.of_hwp_cpu_copy.CopyResting as copy-resting
+use Rattle.hwp_cpu_command_laws.specs.hwp_cpu_command.hwp_scrub.Raises as raises
+use Rattle.hwp_cpu_command_laws.specs.hwp_cpu_command.hwp_scrub.declared.ScrubAnswer.TheVariants as scrub_answers
+use Rattle.hwp_cpu_command_laws.specs.hwp_cpu_command.hwp_scrub.Fits as scrub_fits
+use Rattle.hwp_cpu_command_laws.specs.hwp_cpu_command.hwp_scrub.Scrubs as scrubs
+use Rattle.hwp_cpu_command_laws.specs.hwp_cpu_command.hwp_soft.Softs as softs
+
+-- a part that fits is that of the turn
+pub on-turn : (base : List Made) (layout : Layout) (view : View) (j : Job) → jobs.FitsFrom base layout view j → IsOnTurn view (jobs.who j)
+on-turn base layout view (kinds.Instruction i) fits = fits.on_turn
+on-turn base layout view (kinds.Copying c) fits = fits.on_turn
+on-turn base layout view (kinds.Evict e) fits = fits.on_turn
+on-turn base layout view (kinds.Fsync f) fits = fits.1.on_turn
+on-turn base layout view (kinds.Prctl p) fits = fits.1.on_turn
+on-turn base layout view (kinds.Denied p) fits = fits.1.on_turn
+on-turn base layout view (kinds.Fork p) fits = fits.1.on_turn
+on-turn base layout view (kinds.Log l) fits = fits.1.read.on_turn
+on-turn base layout view (kinds.Raise r) fits = fits.1.on_turn
+on-turn base layout view (kinds.Scrub s) fits = fits.1.on_turn
+on-turn base layout view (kinds.Spoil s) fits = fits.1.on_turn
+on-turn base layout view (kinds.Nested n) fits = fits.1.on_turn
+on-turn base layout view (kinds.Inject i) fits = fits.1.on_turn
+on-turn base layout view (kinds.Soft s) fits = fits.on_turn
+on-turn base layout view (kinds.Unpoison u) fits = fits.1.on_turn
+
+-- a soft offline begins with whatever entries the command has made
+pub soft-begins : (layout : Layout) (view : View) (who : Who) (frame : Frame) → IsOnTurn view who → frame.0 < layout.frames → hand_of view ≡ empty → jobs.FitsFrom (deeds who view) layout view (kinds.Soft (softs.begin who frame))
+soft-begins layout view who frame on within hand = record { on_turn = on; frame = within; at = (hand, refl) }
 
 -- ---- where it rests
 
