@@ -8,11 +8,21 @@ use hwp_core_task::{
 
 /// Locks a page and, where the page is in a frame, takes a reference to that frame and locks it too; and takes the page's
 /// body in hand, from the frame or from the page's shelf (this project's rule).
-#[derive(Drop)]
 pub struct Hold {
     who: Who,
     page: Page,
     at: HoldAt,
+}
+
+// Written out, so that it is proved here once: a crate that lets one go cites it.
+impl Drop for Hold {
+    fn drop(self) {
+        let Hold {
+            who: _,
+            page: _,
+            at: _,
+        } = self;
+    }
 }
 
 #[derive(Drop)]
@@ -59,7 +69,12 @@ impl Hold {
         requires over { is_some (answer self) ≡ true }
         ensures { IsBody self result }
     {
-        match self.at {
+        let Hold {
+            who: _,
+            page: _,
+            at,
+        } = self;
+        match at {
             HoldAt::Held { body, .. } => body,
             HoldAt::LockPage
             | HoldAt::LoadCache { .. }

@@ -15,10 +15,16 @@ use std::marker::Model;
 use std::sync::Arc;
 
 /// A page's state and history together: the state is always the replay of the history from the page's opening.
-#[derive(Drop)]
 pub struct Body {
     /// In a box, so that a body moves as a pointer.
     replay: Box<Replay, Global>,
+}
+
+// Written out, so that it is proved here once: a crate that lets one go cites it.
+impl Drop for Body {
+    fn drop(self) {
+        let Body { replay: _ } = self;
+    }
 }
 
 impl Model for Body {
@@ -115,7 +121,8 @@ impl Body {
     pub fn into_entries(self) -> List<Entry>
         ensures { result ≡ self.log }
     {
-        Box::into_inner(self.replay).into_entries()
+        let Body { replay } = self;
+        Box::into_inner(replay).into_entries()
     }
 
     /// The entry of this number. It is `None` exactly where the history ends before it.
