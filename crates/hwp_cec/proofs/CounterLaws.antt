@@ -1,16 +1,18 @@
 -- The counters stand for one event more after a note and after a round, and what is so of them at any time stays so.
-use Rattle.std.proofs.Common.{◌≡◌, ◌≢◌, ℕ, zero, suc, ◌+◌, ◌-◌, ◌<◌, ◌≤◌, ◌==◌, Bool, true, false, List, [], ◌∷◌, ◌++◌, length, get_or, set, take, drop, replicate, map, sum, count_by, if◌then◌else◌, refl, sym, ap, subst, ◌∙◌, inl, inr, eq-eqb, arith}
+use Rattle.std.proofs.Common.{◌≡◌, ◌≢◌, ℕ, zero, suc, ◌+◌, ◌*◌, ◌-◌, ◌<◌, ◌≤◌, ◌==◌, Bool, true, false, List, [], ◌∷◌, ◌++◌, length, get_or, set, take, drop, replicate, map, sum, count_by, if◌then◌else◌, refl, sym, ap, subst, ◌∙◌, inl, inr, eq-eqb, arith}
 use Rattle.std.proofs.lemmas.Bool.{cases_eq, ne_eqb}
 use Rattle.std.proofs.lemmas.Bool.Decides.{nat_tests}
 use Rattle.std.proofs.lemmas.List.{get_or-replicate, get_or-set_same, get_or-set_other, get_or-take, length-set, length-map, length-replicate, length-take-le, get_or-append_right, get_or-drop, drop_more, drop_all, take_more, take_all, set_at, append-nil, append_assoc, map-append, replicate-append-replicate, with_items_is}
 use Rattle.std.specs.Vec.{with_items}
 use Rattle.std.specs.Prelude.{Vec}
-use Rattle.std.proofs.lemmas.List.Elements.{All-get_or, All-map, All-weaker}
+use Rattle.std.proofs.lemmas.List.Elements.{All-get_or, All-map, All-replicate, All-weaker}
 use Rattle.std.proofs.lemmas.List.Sums.{sum_by-cons, sum_by-take-le}
+use Rattle.std.proofs.lemmas.List.Folds.{sum_by-replicate}
 use Rattle.hwp_geom.specs.declared.Frame.{Frame}
+use Rattle.hwp_cec.specs.Limits.{threshold_limit, window_limit}
 use Rattle.hwp_cec.specs.Ages.{CecEvent, Note, Round, young, aged, ages_after, live}
 use Rattle.hwp_cec.specs.Counting.{counted}
-use Rattle.hwp_cec.specs.Counters.{Counters, row_of, counter, StandsFor, noted_row, noted_in, next_row, rounded, answer, IsRow, IsCounted}
+use Rattle.hwp_cec.specs.Counters.{Counters, row_of, counter, StandsFor, begun, noted_row, noted_in, next_row, rounded, answer, IsRow, IsCounted}
 use Rattle.hwp_cec.proofs.Counts.{one, count-push, count-map, count-same, count-none}
 use Rattle.hwp_cec.proofs.AgeLaws.{ages-append, sum-young}
 use Rattle.hwp_cec.proofs.CountingLaws.{counted-live}
@@ -188,3 +190,41 @@ rounded-whole threshold window i rings made v view are past same =
     let long : length rings.items ≡ length v.counts = ap (λ (u : Counters). length u.counts) view in
     ap (with_rows threshold window) (with_items_is rings made same ∙ rounded-all i made v.counts are (omega (arith, past, long)))
     ∙ ap (λ (u : Counters). record u { counts = map next_row v.counts }) view
+
+-- counters without a note
+
+abbrev pub row : ℕ → List ℕ
+row w = replicate w 0
+
+pub begun-counted : (t w n : ℕ) → 1 ≤ t → t ≤ threshold_limit → 1 ≤ w → w ≤ window_limit → IsCounted (begun t w n)
+begun-counted t w n some low some_rounds within =
+    let row : List ℕ = replicate w 0 in
+    let none : sum row ≡ w * 0 = sum_by-replicate (λ x. x) w 0 in
+    record {
+      low = low;
+      some_rounds = some_rounds;
+      rounds_within = within;
+      rows = All-replicate (IsRow t w) n row (record { whole = length-replicate w 0; below = omega arith });
+    }
+
+pub begun-stands : (t w n : ℕ) → StandsFor [] (begun t w n)
+begun-stands t w n =
+    let row : List ℕ = replicate w 0 in
+    record {
+      each = λ f k f_in in_window. ap (λ (r : List ℕ). get_or r k 0) (get_or-replicate n f row [] (omega (arith, f_in, length-replicate n row))) ∙ get_or-replicate w k 0 0 in_window;
+    }
+
+-- one row more has been made
+pub begun-push : (w i : ℕ) (rows new : List (List ℕ)) (y : List ℕ) → rows ≡ replicate i (replicate w 0) → y ≡ replicate w 0 → new ≡ rows ++ y ∷ []
+    → new ≡ replicate (i + 1) (replicate w 0)
+begun-push w i rows new y are is next =
+    let row : List ℕ = replicate w 0 in
+    next ∙ ap (λ (l : List (List ℕ)). l ++ y ∷ []) are ∙ ap (λ (r : List ℕ). replicate i row ++ r ∷ []) is ∙ replicate-append-replicate i 1 row
+
+-- all rows have been made anew
+pub begun-whole : {Z : Type 0} (t w i n : ℕ) (rings : Vec (List ℕ) Z) (made xs : List (List ℕ)) → made ≡ replicate i (replicate w 0) ++ drop i xs → length xs ≤ n → i ≡ n
+    → length made ≡ rings.len → with_rows t w (with_items rings made).items ≡ begun t w n
+begun-whole t w i n rings made xs are past end same =
+    let row : List ℕ = replicate w 0 in
+    ap (with_rows t w)
+    (with_items_is rings made same ∙ are ∙ ap (λ (l : List (List ℕ)). replicate i row ++ l) (drop_all i xs (omega arith)) ∙ append-nil (replicate i row) ∙ ap (λ (k : ℕ). replicate k row) end)
