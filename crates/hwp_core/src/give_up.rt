@@ -116,10 +116,14 @@ impl Task for GiveUp {
                 turn
             }
             GiveUpAt::GiveUp => {
+                drop(body);
                 self.set(GiveUpAt::Over);
                 Turn::NoMemory
             }
-            GiveUpAt::Over => Turn::Moved,
+            GiveUpAt::Over => {
+                drop(body);
+                Turn::Moved
+            }
         }
     }
 }

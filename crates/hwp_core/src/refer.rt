@@ -75,7 +75,8 @@ impl Task for Refer {
         None
     }
 
-    fn settle(&mut self, _layout: &Layout, found: u64, _body: Option<Body>) -> Turn {
+    fn settle(&mut self, _layout: &Layout, found: u64, body: Option<Body>) -> Turn {
+        drop(body);
         match self.at {
             ReferAt::Load => {
                 self.at = ReferAt::Get { seen: found };

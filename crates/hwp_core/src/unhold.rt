@@ -127,6 +127,7 @@ impl Task for Unhold {
     fn settle(&mut self, layout: &Layout, found: u64, body: Option<Body>) -> Turn {
         match &mut self.at {
             UnholdAt::UnlockFrame { frame, count, .. } => {
+                drop(body);
                 let release = Release::new(self.who, *frame, *count);
                 self.set(UnholdAt::Release { release });
                 Turn::Moved
@@ -139,10 +140,14 @@ impl Task for Unhold {
                 turn
             }
             UnholdAt::UnlockPage { .. } => {
+                drop(body);
                 self.set(UnholdAt::Over);
                 Turn::Moved
             }
-            UnholdAt::Over => Turn::Moved,
+            UnholdAt::Over => {
+                drop(body);
+                Turn::Moved
+            }
         }
     }
 }

@@ -82,6 +82,7 @@ impl Task for Unlock {
     fn settle(&mut self, layout: &Layout, found: u64, body: Option<Body>) -> Turn {
         match &mut self.at {
             UnlockAt::UnlockFrame { frame, .. } => {
+                drop(body);
                 let release = Release::new(self.who, *frame, 1);
                 self.set(UnlockAt::Release { release });
                 Turn::Moved
@@ -93,7 +94,10 @@ impl Task for Unlock {
                 }
                 turn
             }
-            UnlockAt::Over => Turn::Moved,
+            UnlockAt::Over => {
+                drop(body);
+                Turn::Moved
+            }
         }
     }
 }
