@@ -1,19 +1,19 @@
 -- Each entry of a legal history was allowed in the state of its page at the entry's place.
 use Rattle.std.proofs.Common.{◌≡◌, ℕ, zero, suc, ◌<◌, List, [], ◌∷◌, Some, length, take, slice_get, subst, arith}
 use Rattle.std.proofs.lemmas.Option.{none-some, same_Some, slice_get_within}
-use Rattle.hwp_law_records.specs.hwp_geom.declared.Layout.{Layout}
-use Rattle.hwp_law_records.specs.hwp_geom.declared.Page.{Page}
-use Rattle.hwp_law_records.specs.hwp_page.declared.At.{At}
-use Rattle.hwp_law_records.specs.hwp_page.declared.Entry.{Entry}
-use Rattle.hwp_law_records.specs.hwp_page.declared.PageState.{PageState}
-use Rattle.hwp_law_records.specs.hwp_page.declared.What.{What}
-use Rattle.hwp_law_records.specs.hwp_page.History.{Leads, state_after}
-use Rattle.hwp_law_records.specs.hwp_page.Step.{Allowed, after}
-use Rattle.hwp_law_records.specs.hwp_report_text.declared.Report.{Report}
-use Rattle.hwp_law_records.specs.hwp_law.Places.{entry_at}
-use Rattle.hwp_law_records.specs.hwp_law.PageHistory.{IsHistory}
-use Rattle.hwp_law_records.specs.hwp_law.States.{HadState}
-use Rattle.hwp_law_records.proofs.of_hwp_law_run.Reported.{stands-in}
+use Rattle.hwp_law_served.specs.hwp_geom.declared.Layout.{Layout}
+use Rattle.hwp_law_served.specs.hwp_geom.declared.Page.{Page}
+use Rattle.hwp_law_served.specs.hwp_page.declared.At.{At}
+use Rattle.hwp_law_served.specs.hwp_page.declared.Entry.{Entry}
+use Rattle.hwp_law_served.specs.hwp_page.declared.PageState.{PageState}
+use Rattle.hwp_law_served.specs.hwp_page.declared.What.{What}
+use Rattle.hwp_law_served.specs.hwp_page.History.{Leads, state_after}
+use Rattle.hwp_law_served.specs.hwp_page.Step.{Allowed, after}
+use Rattle.hwp_law_served.specs.hwp_report_text.declared.Report.{Report}
+use Rattle.hwp_law_served.specs.hwp_law.Places.{entry_at}
+use Rattle.hwp_law_served.specs.hwp_law.PageHistory.{IsHistory}
+use Rattle.hwp_law_served.specs.hwp_law.States.{HadState}
+use Rattle.hwp_law_served.proofs.of_hwp_law_run.Reported.{stands-in}
 
 -- an entry is allowed after those before it
 allowed-after : (layout : Layout) (page : Page) (s t : PageState) (list : List Entry) (i : ℕ) (e : Entry) → Leads layout page s list t → slice_get list i ≡ Some e → Allowed layout page (state_after s (take i list)) e.what

@@ -4,56 +4,56 @@ use Rattle.std.specs.List.{cons_option, filter_map, list_any, sum_by}
 use Rattle.std.specs.Int.{from_bool}
 use Rattle.std.proofs.lemmas.Bool.{eqb-true, ltb-true}
 use Rattle.std.proofs.lemmas.Option.{get_or_from_slice_get, none-some, same_Some}
-use Rattle.hwp_law_records.specs.hwp_geom.declared.VSlot.{VSlot}
-use Rattle.hwp_law_records.specs.hwp_geom.declared.Cpu.{Cpu}
-use Rattle.hwp_law_records.specs.hwp_geom.declared.Frame.{Frame}
-use Rattle.hwp_law_records.specs.hwp_geom.declared.Who.{Who}
-use Rattle.hwp_law_records.specs.hwp_core_rule.declared.Mark.{Mark}
-use Rattle.hwp_law_records.specs.hwp_core_rule.declared.SharedWord.TheVariants as places
-use Rattle.hwp_law_records.specs.hwp_core_rule.declared.State.{State}
-use Rattle.hwp_law_records.specs.hwp_core_rule.declared.View.{View}
-use Rattle.hwp_law_records.specs.hwp_core_rule.Lists.{EachMember, sum_all}
-use Rattle.hwp_law_records.specs.hwp_core_rule.Words.{sum_below, words_of}
-use Rattle.hwp_law_records.specs.hwp_core_rule.parts.Counter.{is_poisoning}
-use Rattle.hwp_law_records.specs.hwp_core_rule.parts.Exhaustion.{is_marked, usable}
-use Rattle.hwp_law_records.proofs.of_hwp_core_rule.CountsBelow.{some-term}
-use Rattle.hwp_law_records.proofs.of_hwp_core_rule.Lists.{at_map, each-map, map-was}
-use Rattle.hwp_law_records.specs.hwp_core_task.Boards.{view_of}
-use Rattle.hwp_law_records.specs.hwp_core_task.Known.{Saw}
-use Rattle.hwp_law_records.specs.hwp_script_read.declared.Command.{Command}
-use Rattle.hwp_law_records.specs.hwp_script_read.declared.Command.TheVariants as commands
-use Rattle.hwp_law_records.specs.hwp_script_read.declared.Script.{Script}
-use Rattle.hwp_law_records.specs.hwp_banks.Addresses.{frame_at}
-use Rattle.hwp_law_records.specs.hwp_report_text.declared.EventLine.{EventLine}
-use Rattle.hwp_law_records.specs.hwp_report_text.declared.OfflineResult.{OfflineResult}
-use Rattle.hwp_law_records.specs.hwp_report_text.declared.OfflineResult.TheVariants as results
-use Rattle.hwp_law_records.specs.hwp_report_text.declared.Report.{Report}
-use Rattle.hwp_law_records.specs.hwp_law.Answers.{is_ample, named_frames, usable_from}
-use Rattle.hwp_law_records.proofs.of_hwp_law_run.Homes.{there-is}
-use Rattle.hwp_law_records.proofs.of_hwp_core_rule.MoreEntries.{each-append}
-use Rattle.hwp_law_records.specs.hwp_claim_frame.Done.{Marking, marking_of, poisoning}
-use Rattle.hwp_law_records.specs.hwp_law_commands.Commands.{command_at, has_watch}
-use Rattle.hwp_law_records.specs.hwp_law_commands.Watched.{due}
-use Rattle.hwp_law_records.specs.hwp_claim.declared.Found.{Found}
-use Rattle.hwp_law_records.specs.hwp_cpu_row.declared.FrameChange.{FrameChange}
-use Rattle.hwp_law_records.specs.hwp_cpu_row.declared.FrameChange.TheVariants as owns
-use Rattle.hwp_law_records.specs.hwp_cpu_row.declared.Offlining.{Offlining}
-use Rattle.hwp_law_records.specs.hwp_cpu_row.declared.Row.{Row}
-use Rattle.hwp_law_records.specs.hwp_cpu_row.Acts.{Act, acts, event_at, told_notes}
-use Rattle.hwp_law_records.specs.hwp_cpu_check.declared.EventOutcome.{EventOutcome}
-use Rattle.hwp_law_records.specs.hwp_cpu_check.Told.{frame_of}
-use Rattle.hwp_law_records.specs.hwp_law_served.Accounts.{IsOwn, act_marking, is_same, marking_by, markings, markings_in, own_marking}
-use Rattle.hwp_law_records.specs.hwp_law_served.Offlinings.{IsOfflineServed, watched_at}
-use Rattle.hwp_law_records.specs.hwp_law_served.Served.{IsOffliningServed}
-use Rattle.hwp_law_records.proofs.of_hwp_law_served.Acts.{IsOneOf, act-of}
-use Rattle.hwp_law_records.proofs.of_hwp_law_served.RunEnds.{IsEnd, IsOf, command-of, filter-has, list-of, own-view, rows-of, served-of}
+use Rattle.hwp_law_served.specs.hwp_geom.declared.VSlot.{VSlot}
+use Rattle.hwp_law_served.specs.hwp_geom.declared.Cpu.{Cpu}
+use Rattle.hwp_law_served.specs.hwp_geom.declared.Frame.{Frame}
+use Rattle.hwp_law_served.specs.hwp_geom.declared.Who.{Who}
+use Rattle.hwp_law_served.specs.hwp_core_rule.declared.Mark.{Mark}
+use Rattle.hwp_law_served.specs.hwp_core_rule.declared.SharedWord.TheVariants as places
+use Rattle.hwp_law_served.specs.hwp_core_rule.declared.State.{State}
+use Rattle.hwp_law_served.specs.hwp_core_rule.declared.View.{View}
+use Rattle.hwp_law_served.specs.hwp_core_rule.Lists.{EachMember, sum_all}
+use Rattle.hwp_law_served.specs.hwp_core_rule.Words.{sum_below, words_of}
+use Rattle.hwp_law_served.specs.hwp_core_rule.parts.Counter.{is_poisoning}
+use Rattle.hwp_law_served.specs.hwp_core_rule.parts.Exhaustion.{is_marked, usable}
+use Rattle.hwp_law_served.proofs.of_hwp_core_rule.CountsBelow.{some-term}
+use Rattle.hwp_law_served.proofs.of_hwp_core_rule.Lists.{at_map, each-map, map-was}
+use Rattle.hwp_law_served.specs.hwp_core_task.Boards.{view_of}
+use Rattle.hwp_law_served.specs.hwp_core_task.Known.{Saw}
+use Rattle.hwp_law_served.specs.hwp_script_read.declared.Command.{Command}
+use Rattle.hwp_law_served.specs.hwp_script_read.declared.Command.TheVariants as commands
+use Rattle.hwp_law_served.specs.hwp_script_read.declared.Script.{Script}
+use Rattle.hwp_law_served.specs.hwp_banks.Addresses.{frame_at}
+use Rattle.hwp_law_served.specs.hwp_report_text.declared.EventLine.{EventLine}
+use Rattle.hwp_law_served.specs.hwp_report_text.declared.OfflineResult.{OfflineResult}
+use Rattle.hwp_law_served.specs.hwp_report_text.declared.OfflineResult.TheVariants as results
+use Rattle.hwp_law_served.specs.hwp_report_text.declared.Report.{Report}
+use Rattle.hwp_law_served.specs.hwp_law.Answers.{is_ample, named_frames, usable_from}
+use Rattle.hwp_law_served.proofs.of_hwp_law_run.Homes.{there-is}
+use Rattle.hwp_law_served.proofs.of_hwp_core_rule.MoreEntries.{each-append}
+use Rattle.hwp_law_served.specs.hwp_claim_frame.Done.{Marking, marking_of, poisoning}
+use Rattle.hwp_law_served.specs.hwp_law_commands.Commands.{command_at, has_watch}
+use Rattle.hwp_law_served.specs.hwp_law_commands.Watched.{due}
+use Rattle.hwp_law_served.specs.hwp_claim.declared.Found.{Found}
+use Rattle.hwp_law_served.specs.hwp_cpu_row.declared.FrameChange.{FrameChange}
+use Rattle.hwp_law_served.specs.hwp_cpu_row.declared.FrameChange.TheVariants as owns
+use Rattle.hwp_law_served.specs.hwp_cpu_row.declared.Offlining.{Offlining}
+use Rattle.hwp_law_served.specs.hwp_cpu_row.declared.Row.{Row}
+use Rattle.hwp_law_served.specs.hwp_cpu_row.Acts.{Act, acts, event_at, told_notes}
+use Rattle.hwp_law_served.specs.hwp_cpu_check.declared.EventOutcome.{EventOutcome}
+use Rattle.hwp_law_served.specs.hwp_cpu_check.Told.{frame_of}
+use Rattle.hwp_law_served.specs.Accounts.{IsOwn, act_marking, is_same, marking_by, markings, markings_in, own_marking}
+use Rattle.hwp_law_served.specs.Offlinings.{IsOfflineServed, watched_at}
+use Rattle.hwp_law_served.specs.Served.{IsOffliningServed}
+use Rattle.hwp_law_served.proofs.Acts.{IsOneOf, act-of}
+use Rattle.hwp_law_served.proofs.RunEnds.{IsEnd, IsOf, command-of, filter-has, list-of, own-view, rows-of, served-of}
 use Rattle.hwp_law_holds.proofs.lines.NamedEvents.{AreSuch, IsNamed, due-such, events-named, named-at, notes-such, or-true}
-use Rattle.hwp_law_records.proofs.of_hwp_law_served.lines.Offlines.{can-offline}
-use Rattle.hwp_law_records.proofs.of_hwp_law_served.Picked.{picked-is}
-use Rattle.hwp_law_records.proofs.of_hwp_law_served.deeds.Made.{command-is}
-use Rattle.hwp_law_records.proofs.marks.RowNotes.{each-cons}
-use Rattle.hwp_law_records.proofs.of_hwp_law_served.marks.MarkPlaces.{IsMarkOf, below-count, first-poisons, has-place, mark_count, mark_place, word-of-mark}
-use Rattle.hwp_law_records.proofs.of_hwp_law_served.marks.Marked.{same-self}
+use Rattle.hwp_law_served.proofs.lines.Offlines.{can-offline}
+use Rattle.hwp_law_served.proofs.Picked.{picked-is}
+use Rattle.hwp_law_served.proofs.deeds.Made.{command-is}
+use Rattle.hwp_law_holds.proofs.marks.RowNotes.{each-cons}
+use Rattle.hwp_law_served.proofs.marks.MarkPlaces.{IsMarkOf, below-count, first-poisons, has-place, mark_count, mark_place, word-of-mark}
+use Rattle.hwp_law_served.proofs.marks.Marked.{same-self}
 
 -- ---- sums
 

@@ -1,73 +1,73 @@
 -- Each command has its answer, in order, and the report shows its cause.
 use Rattle.std.proofs.Common.{◌≡◌, ◌≢◌, ◌⊎◌, inl, inr, ℕ, ◌<◌, Bool, true, false, bit_and, List, Option, Some, length, slice_get, option_map, unwrap_or, refl, sym, ap, ◌∙◌, subst}
 use Rattle.std.proofs.lemmas.Option.{get_or_from_slice_get, none-some, same_Some, slice_get_within}
-use Rattle.hwp_law_records.specs.hwp_geom.declared.VSlot.{VSlot}
-use Rattle.hwp_law_records.specs.hwp_geom.declared.Cpu.{Cpu}
-use Rattle.hwp_law_records.specs.hwp_geom.declared.Frame.{Frame}
-use Rattle.hwp_law_records.specs.hwp_geom.declared.Mask.{Mask}
-use Rattle.hwp_law_records.specs.hwp_geom.declared.Page.{Page}
-use Rattle.hwp_law_records.specs.hwp_geom.declared.Thread.{Thread}
-use Rattle.hwp_law_records.specs.hwp_geom.declared.Who.{Who}
-use Rattle.hwp_law_records.specs.hwp_geom.Layout.{is_locked}
-use Rattle.hwp_law_records.specs.hwp_kill.Prctl.{reply}
-use Rattle.hwp_law_records.specs.hwp_page.declared.At.{At}
-use Rattle.hwp_law_records.specs.hwp_page.declared.Entry.{Entry}
-use Rattle.hwp_law_records.specs.hwp_page.declared.Outcome.{Outcome}
-use Rattle.hwp_law_records.specs.hwp_page.declared.PageState.{PageState}
-use Rattle.hwp_law_records.specs.hwp_page.declared.What.{What}
-use Rattle.hwp_law_records.specs.hwp_page.declared.Met.TheVariants.{Sigbus}
-use Rattle.hwp_law_records.specs.hwp_page.declared.What.TheVariants as entries
-use Rattle.hwp_law_records.specs.hwp_core_rule.declared.Made.{Made}
-use Rattle.hwp_law_records.specs.hwp_core_rule.declared.SharedWord.TheVariants as places
-use Rattle.hwp_law_records.specs.hwp_core_rule.declared.State.{State}
-use Rattle.hwp_law_records.specs.hwp_core_rule.declared.View.{View}
-use Rattle.hwp_law_records.specs.hwp_core_task.Boards.{view_of}
-use Rattle.hwp_law_records.specs.hwp_core_task.Known.{HasMade, Saw, SawBadOf}
-use Rattle.hwp_law_records.proofs.of_hwp_core_task.SightKeeps.{bad-lines-stay}
-use Rattle.hwp_law_records.specs.hwp_soft_move.Seizes.{IsUsers}
-use Rattle.hwp_law_records.specs.hwp_script_read.declared.PrctlArgs.{PrctlArgs}
-use Rattle.hwp_law_records.specs.hwp_script_read.declared.Command.{Command}
-use Rattle.hwp_law_records.specs.hwp_script_read.declared.Command.TheVariants as commands
-use Rattle.hwp_law_records.specs.hwp_script_read.declared.Script.{Script}
-use Rattle.hwp_law_records.specs.hwp_report_text.declared.Answer.{Answer}
-use Rattle.hwp_law_records.specs.hwp_report_text.declared.Answer.TheVariants as answers
-use Rattle.hwp_law_records.specs.hwp_report_text.declared.FrameLine.{FrameLine}
-use Rattle.hwp_law_records.specs.hwp_report_text.declared.MarkLine.{MarkLine}
-use Rattle.hwp_law_records.specs.hwp_report_text.declared.OfflineResult.{OfflineResult}
-use Rattle.hwp_law_records.specs.hwp_report_text.declared.OfflineResult.TheVariants as results
-use Rattle.hwp_law_records.specs.hwp_report_text.declared.Report.{Report}
-use Rattle.hwp_law_records.specs.hwp_law_commands.Outcomes.{reply_answer}
-use Rattle.hwp_law_records.specs.hwp_law.Answers.{StandsAt}
-use Rattle.hwp_law_records.specs.hwp_law.Causes.{AreBadLines, ComesTo, HadBadLines, HasMark, IsCaused as IsLawCaused, IsFailureAnswer, IsOfflineAnswer, IsOutAnswer, IsSigbus, IsUnpoisonAnswer, SendsSigbus, TakesBack}
-use Rattle.hwp_law_records.specs.hwp_law_commands.Commands.{command_at, current_thread}
-use Rattle.hwp_law_records.specs.hwp_law.Lines.{bad_lines_of, events_of}
-use Rattle.hwp_law_records.specs.hwp_law.Offlined.{IsOffline}
-use Rattle.hwp_law_records.specs.hwp_law.Places.{entry_at}
-use Rattle.hwp_law_records.specs.hwp_law_commands.Settings.{arguments, last_policy, settings}
-use Rattle.hwp_law_records.specs.hwp_law.Policies.{answered_before, policy_before}
-use Rattle.hwp_law_records.specs.hwp_law.Records.{how_in}
-use Rattle.hwp_law_records.specs.hwp_law.States.{HadState}
-use Rattle.hwp_law_records.proofs.of_hwp_law_run.Homes.{there-is}
-use Rattle.hwp_law_records.proofs.of_hwp_law_run.Reported.{listed-entry}
-use Rattle.hwp_law_records.specs.hwp_cpu_row.declared.FrameChange.{FrameChange}
-use Rattle.hwp_law_records.specs.hwp_cpu_row.declared.FrameChange.TheVariants as owns
-use Rattle.hwp_law_records.specs.hwp_cpu_check.declared.EventOutcome.{EventOutcome}
-use Rattle.hwp_law_records.specs.hwp_cpu_check.Told.{first_signal}
-use Rattle.hwp_law_records.specs.hwp_law_served.Causes.{HasCome, IsAnswerCaused, IsInjectCaused, IsOfflineCaused, IsSoftCaused, IsUnpoisonCaused, SawBadLines}
-use Rattle.hwp_law_records.specs.hwp_law_served.Offlinings.{IsOfflineServed, left_at}
-use Rattle.hwp_law_records.specs.hwp_law_served.Rows.{offlined}
-use Rattle.hwp_law_records.proofs.of_hwp_law_served.HadStates.{had}
-use Rattle.hwp_law_records.proofs.of_hwp_law_served.OfflineCames.{came-of}
+use Rattle.hwp_law_served.specs.hwp_geom.declared.VSlot.{VSlot}
+use Rattle.hwp_law_served.specs.hwp_geom.declared.Cpu.{Cpu}
+use Rattle.hwp_law_served.specs.hwp_geom.declared.Frame.{Frame}
+use Rattle.hwp_law_served.specs.hwp_geom.declared.Mask.{Mask}
+use Rattle.hwp_law_served.specs.hwp_geom.declared.Page.{Page}
+use Rattle.hwp_law_served.specs.hwp_geom.declared.Thread.{Thread}
+use Rattle.hwp_law_served.specs.hwp_geom.declared.Who.{Who}
+use Rattle.hwp_law_served.specs.hwp_geom.Layout.{is_locked}
+use Rattle.hwp_law_served.specs.hwp_kill.Prctl.{reply}
+use Rattle.hwp_law_served.specs.hwp_page.declared.At.{At}
+use Rattle.hwp_law_served.specs.hwp_page.declared.Entry.{Entry}
+use Rattle.hwp_law_served.specs.hwp_page.declared.Outcome.{Outcome}
+use Rattle.hwp_law_served.specs.hwp_page.declared.PageState.{PageState}
+use Rattle.hwp_law_served.specs.hwp_page.declared.What.{What}
+use Rattle.hwp_law_served.specs.hwp_page.declared.Met.TheVariants.{Sigbus}
+use Rattle.hwp_law_served.specs.hwp_page.declared.What.TheVariants as entries
+use Rattle.hwp_law_served.specs.hwp_core_rule.declared.Made.{Made}
+use Rattle.hwp_law_served.specs.hwp_core_rule.declared.SharedWord.TheVariants as places
+use Rattle.hwp_law_served.specs.hwp_core_rule.declared.State.{State}
+use Rattle.hwp_law_served.specs.hwp_core_rule.declared.View.{View}
+use Rattle.hwp_law_served.specs.hwp_core_task.Boards.{view_of}
+use Rattle.hwp_law_served.specs.hwp_core_task.Known.{HasMade, Saw, SawBadOf}
+use Rattle.hwp_law_served.proofs.of_hwp_core_task.SightKeeps.{bad-lines-stay}
+use Rattle.hwp_law_served.specs.hwp_soft_move.Seizes.{IsUsers}
+use Rattle.hwp_law_served.specs.hwp_script_read.declared.PrctlArgs.{PrctlArgs}
+use Rattle.hwp_law_served.specs.hwp_script_read.declared.Command.{Command}
+use Rattle.hwp_law_served.specs.hwp_script_read.declared.Command.TheVariants as commands
+use Rattle.hwp_law_served.specs.hwp_script_read.declared.Script.{Script}
+use Rattle.hwp_law_served.specs.hwp_report_text.declared.Answer.{Answer}
+use Rattle.hwp_law_served.specs.hwp_report_text.declared.Answer.TheVariants as answers
+use Rattle.hwp_law_served.specs.hwp_report_text.declared.FrameLine.{FrameLine}
+use Rattle.hwp_law_served.specs.hwp_report_text.declared.MarkLine.{MarkLine}
+use Rattle.hwp_law_served.specs.hwp_report_text.declared.OfflineResult.{OfflineResult}
+use Rattle.hwp_law_served.specs.hwp_report_text.declared.OfflineResult.TheVariants as results
+use Rattle.hwp_law_served.specs.hwp_report_text.declared.Report.{Report}
+use Rattle.hwp_law_served.specs.hwp_law_commands.Outcomes.{reply_answer}
+use Rattle.hwp_law_served.specs.hwp_law.Answers.{StandsAt}
+use Rattle.hwp_law_served.specs.hwp_law.Causes.{AreBadLines, ComesTo, HadBadLines, HasMark, IsCaused as IsLawCaused, IsFailureAnswer, IsOfflineAnswer, IsOutAnswer, IsSigbus, IsUnpoisonAnswer, SendsSigbus, TakesBack}
+use Rattle.hwp_law_served.specs.hwp_law_commands.Commands.{command_at, current_thread}
+use Rattle.hwp_law_served.specs.hwp_law.Lines.{bad_lines_of, events_of}
+use Rattle.hwp_law_served.specs.hwp_law.Offlined.{IsOffline}
+use Rattle.hwp_law_served.specs.hwp_law.Places.{entry_at}
+use Rattle.hwp_law_served.specs.hwp_law_commands.Settings.{arguments, last_policy, settings}
+use Rattle.hwp_law_served.specs.hwp_law.Policies.{answered_before, policy_before}
+use Rattle.hwp_law_served.specs.hwp_law.Records.{how_in}
+use Rattle.hwp_law_served.specs.hwp_law.States.{HadState}
+use Rattle.hwp_law_served.proofs.of_hwp_law_run.Homes.{there-is}
+use Rattle.hwp_law_served.proofs.of_hwp_law_run.Reported.{listed-entry}
+use Rattle.hwp_law_served.specs.hwp_cpu_row.declared.FrameChange.{FrameChange}
+use Rattle.hwp_law_served.specs.hwp_cpu_row.declared.FrameChange.TheVariants as owns
+use Rattle.hwp_law_served.specs.hwp_cpu_check.declared.EventOutcome.{EventOutcome}
+use Rattle.hwp_law_served.specs.hwp_cpu_check.Told.{first_signal}
+use Rattle.hwp_law_served.specs.Causes.{HasCome, IsAnswerCaused, IsInjectCaused, IsOfflineCaused, IsSoftCaused, IsUnpoisonCaused, SawBadLines}
+use Rattle.hwp_law_served.specs.Offlinings.{IsOfflineServed, left_at}
+use Rattle.hwp_law_served.specs.Rows.{offlined}
+use Rattle.hwp_law_served.proofs.HadStates.{had}
+use Rattle.hwp_law_served.proofs.OfflineCames.{came-of}
 use Rattle.hwp_law_holds.proofs.AllowedThere.{had-so}
 use Rattle.hwp_law_holds.proofs.Ample.{not-ample}
-use Rattle.hwp_law_records.proofs.of_hwp_law_run.of_hwp_law.PageLocks.{had-unlocked}
-use Rattle.hwp_law_records.proofs.of_hwp_law_served.RunEnds.{IsEnd}
-use Rattle.hwp_law_sights.proofs.endings.Gone.{is-gone}
-use Rattle.hwp_law_records.proofs.of_hwp_law_served.deeds.Made.{some-so}
-use Rattle.hwp_law_records.proofs.marks.RecordPlaces.{was-hardware-seen, was-poisoned}
-use Rattle.hwp_law_records.proofs.of_hwp_law_served.Seen.{HasSignalled, MadeWhat, made-what}
+use Rattle.hwp_law_served.proofs.of_hwp_law_run.of_hwp_law.PageLocks.{had-unlocked}
+use Rattle.hwp_law_served.proofs.RunEnds.{IsEnd}
+use Rattle.hwp_law_holds.proofs.endings.Gone.{is-gone}
+use Rattle.hwp_law_served.proofs.deeds.Made.{some-so}
+use Rattle.hwp_law_holds.proofs.marks.RecordPlaces.{was-hardware-seen, was-poisoned}
+use Rattle.hwp_law_served.proofs.Seen.{HasSignalled, MadeWhat, made-what}
 use Rattle.hwp_law_holds.proofs.Signalled.{signalled-sends}
-use Rattle.hwp_law_records.proofs.of_hwp_law_served.Stops.{stop-by, stop-there}
+use Rattle.hwp_law_served.proofs.Stops.{stop-by, stop-there}
 
 module _ (script : Script) (copies : Who → Option VSlot) (seat : Cpu → ℕ) (last : State) (report : Report) (end : IsEnd script copies seat last report) (cpu : Cpu) (inside : cpu.0 < script.layout.cpus) where
   abbrev view : View

@@ -3,40 +3,40 @@
 use Rattle.std.proofs.Common.{◌≡◌, ℕ, zero, suc, ◌+◌, ◌<◌, List, [], ◌∷◌, ◌++◌, Option, None, Some, length, map, slice_get, option_and_then, append_assoc, sym, ap, ◌∙◌, subst, arith, refl}
 use Rattle.std.specs.List.{list_any}
 use Rattle.std.proofs.lemmas.Option.{same_Some}
-use Rattle.hwp_law_records.specs.hwp_geom.declared.VSlot.{VSlot}
-use Rattle.hwp_law_records.specs.hwp_geom.declared.Cpu.{Cpu}
-use Rattle.hwp_law_records.specs.hwp_geom.declared.Who.{Who}
-use Rattle.hwp_law_records.specs.hwp_core_rule.declared.State.{State}
-use Rattle.hwp_law_records.specs.hwp_core_task.Boards.{Played, view_of}
-use Rattle.hwp_law_records.specs.hwp_script_read.declared.Command.{Command}
-use Rattle.hwp_law_records.specs.hwp_script_read.declared.Script.{Script}
-use Rattle.hwp_law_records.specs.hwp_report_text.declared.Answer.{Answer}
-use Rattle.hwp_law_records.specs.hwp_report_text.declared.Answer.TheVariants as answers
-use Rattle.hwp_law_records.specs.hwp_report_text.declared.CpuLine.{CpuLine}
-use Rattle.hwp_law_records.specs.hwp_report_text.declared.CpuLine.TheVariants as lines
-use Rattle.hwp_law_records.specs.hwp_report_text.declared.GuestLine.{GuestLine}
-use Rattle.hwp_law_records.specs.hwp_report_text.declared.Report.{Report}
-use Rattle.hwp_law_records.specs.hwp_report_text.declared.Stop.{Stop}
-use Rattle.hwp_law_records.specs.hwp_law.Causes.{AreCaused, IsHeeded, IsPastEvents, IsCaused as IsLawCaused}
-use Rattle.hwp_law_records.specs.hwp_law_commands.Notes.{ends_machine}
-use Rattle.hwp_law_records.specs.hwp_law_commands.Commands.{command_at, current_thread}
-use Rattle.hwp_law_records.specs.hwp_law.Halts.{CanStop as CanStopFor, IsStopOf, StopAgrees}
-use Rattle.hwp_law_records.specs.hwp_law.Stops.{StaysStopped}
-use Rattle.hwp_law_records.specs.hwp_cpu_row.declared.Offlining.{Offlining}
-use Rattle.hwp_law_records.specs.hwp_cpu_row.declared.Row.{Row}
-use Rattle.hwp_law_records.specs.hwp_cpu_check.declared.EventOutcome.{EventOutcome}
-use Rattle.hwp_law_records.specs.hwp_law_served.Rows.{end_lines, event_line, lines_from, offlined_line}
-use Rattle.hwp_law_records.specs.hwp_law_served.Runs.{IsCauseOf, IsRunOf, row_at}
-use Rattle.hwp_law_records.specs.hwp_law_served.Served.{CanStop}
-use Rattle.hwp_law_records.specs.hwp_law_served.Served as served
+use Rattle.hwp_law_served.specs.hwp_geom.declared.VSlot.{VSlot}
+use Rattle.hwp_law_served.specs.hwp_geom.declared.Cpu.{Cpu}
+use Rattle.hwp_law_served.specs.hwp_geom.declared.Who.{Who}
+use Rattle.hwp_law_served.specs.hwp_core_rule.declared.State.{State}
+use Rattle.hwp_law_served.specs.hwp_core_task.Boards.{Played, view_of}
+use Rattle.hwp_law_served.specs.hwp_script_read.declared.Command.{Command}
+use Rattle.hwp_law_served.specs.hwp_script_read.declared.Script.{Script}
+use Rattle.hwp_law_served.specs.hwp_report_text.declared.Answer.{Answer}
+use Rattle.hwp_law_served.specs.hwp_report_text.declared.Answer.TheVariants as answers
+use Rattle.hwp_law_served.specs.hwp_report_text.declared.CpuLine.{CpuLine}
+use Rattle.hwp_law_served.specs.hwp_report_text.declared.CpuLine.TheVariants as lines
+use Rattle.hwp_law_served.specs.hwp_report_text.declared.GuestLine.{GuestLine}
+use Rattle.hwp_law_served.specs.hwp_report_text.declared.Report.{Report}
+use Rattle.hwp_law_served.specs.hwp_report_text.declared.Stop.{Stop}
+use Rattle.hwp_law_served.specs.hwp_law.Causes.{AreCaused, IsHeeded, IsPastEvents, IsCaused as IsLawCaused}
+use Rattle.hwp_law_served.specs.hwp_law_commands.Notes.{ends_machine}
+use Rattle.hwp_law_served.specs.hwp_law_commands.Commands.{command_at, current_thread}
+use Rattle.hwp_law_served.specs.hwp_law.Halts.{CanStop as CanStopFor, IsStopOf, StopAgrees}
+use Rattle.hwp_law_served.specs.hwp_law.Stops.{StaysStopped}
+use Rattle.hwp_law_served.specs.hwp_cpu_row.declared.Offlining.{Offlining}
+use Rattle.hwp_law_served.specs.hwp_cpu_row.declared.Row.{Row}
+use Rattle.hwp_law_served.specs.hwp_cpu_check.declared.EventOutcome.{EventOutcome}
+use Rattle.hwp_law_served.specs.Rows.{end_lines, event_line, lines_from, offlined_line}
+use Rattle.hwp_law_served.specs.Runs.{IsCauseOf, IsRunOf, row_at}
+use Rattle.hwp_law_served.specs.Served.{CanStop}
+use Rattle.hwp_law_served.specs.Served as served
 use Rattle.hwp_law_holds.proofs.copied.CopyCaused.{is-caused}
-use Rattle.hwp_law_records.proofs.of_hwp_law_served.RunEnds.{IsEnd, IsOf, command-of, rows-of-lines}
-use Rattle.hwp_law_records.proofs.of_hwp_law_served.LastBoard.{ended, ended-rows}
-use Rattle.hwp_law_records.proofs.of_hwp_law_served.deeds.Made.{command-is, some-so}
-use Rattle.hwp_law_records.proofs.of_hwp_law_served.RowLines.{answer-told, answers-rise, events-told, row-of-line}
-use Rattle.hwp_law_records.proofs.of_hwp_law_served.copied.CopyTells.{told-so}
+use Rattle.hwp_law_served.proofs.RunEnds.{IsEnd, IsOf, command-of, rows-of-lines}
+use Rattle.hwp_law_served.proofs.LastBoard.{ended, ended-rows}
+use Rattle.hwp_law_served.proofs.deeds.Made.{command-is, some-so}
+use Rattle.hwp_law_served.proofs.RowLines.{answer-told, answers-rise, events-told, row-of-line}
+use Rattle.hwp_law_served.proofs.copied.CopyTells.{told-so}
 use Rattle.hwp_law_holds.proofs.StopCauses.{can-stop, ends-by}
-use Rattle.hwp_law_records.proofs.of_hwp_law_served.Stops.{StopBy, stopper}
+use Rattle.hwp_law_served.proofs.Stops.{StopBy, stopper}
 
 -- after a first `stopped` among the rows of a processor, its lines have no other answer
 stays-lines : (rows : List Row) → served.StaysStopped rows → StaysStopped (lines_from 0 rows)

@@ -9,46 +9,46 @@ use Rattle.std.specs.Cmp.{unsigned_tied}
 use Rattle.std.specs.Ordering.{eq_by_cmp, nat_cmp}
 use Rattle.std.proofs.lemmas.Bool.{eq-eqb, or_left, or_right}
 use Rattle.std.proofs.lemmas.Option.{none-some, same_Some}
-use Rattle.hwp_law_records.specs.hwp_geom.Layout.{is_guest, is_slot, is_twin, twin_of}
-use Rattle.hwp_law_records.specs.hwp_geom.declared.Cpu.{Cpu}
-use Rattle.hwp_law_records.specs.hwp_geom.declared.Layout.{Layout}
-use Rattle.hwp_law_records.specs.hwp_geom.declared.Mode.{Mode}
-use Rattle.hwp_law_records.specs.hwp_geom.declared.Mode.TheVariants.{User, Kernel}
-use Rattle.hwp_law_records.specs.hwp_geom.declared.Page.{Page}
-use Rattle.hwp_law_records.specs.hwp_geom.declared.Proc.{Proc}
-use Rattle.hwp_law_records.specs.hwp_geom.declared.Thread.{Thread}
-use Rattle.hwp_law_records.specs.hwp_geom.declared.VSlot.{VSlot}
-use Rattle.hwp_law_records.specs.hwp_geom.declared.Who.{Who}
-use Rattle.hwp_law_records.specs.hwp_page.declared.At.{At}
-use Rattle.hwp_law_records.specs.hwp_page.declared.Entry.{Entry}
-use Rattle.hwp_law_records.specs.hwp_page.declared.What.{What}
-use Rattle.hwp_law_records.specs.hwp_page.declared.What.TheVariants as entries
-use Rattle.hwp_law_records.specs.hwp_script_read.Forks.{names_twin}
-use Rattle.hwp_law_records.specs.hwp_script_read.Valid.{IsValid}
-use Rattle.hwp_law_records.specs.hwp_script_read.declared.Command.{Command}
-use Rattle.hwp_law_records.specs.hwp_script_read.declared.Command.TheVariants as commands
-use Rattle.hwp_law_records.specs.hwp_script_read.declared.Script.{Script}
-use Rattle.hwp_law_records.specs.hwp_report_text.declared.Answer.{Answer}
-use Rattle.hwp_law_records.specs.hwp_report_text.declared.Answer.TheVariants as answers
-use Rattle.hwp_law_records.specs.hwp_report_text.declared.CpuLine.{CpuLine}
-use Rattle.hwp_law_records.specs.hwp_report_text.declared.Report.{Report}
-use Rattle.hwp_law_records.specs.hwp_law_commands.Commands.{Access, access, access_of, arrival_of, command_at, has_watch, process_of_thread}
-use Rattle.hwp_law_records.specs.hwp_law_commands.Cows.{acting, copied_from, cow_of, through, twin_or, written_through}
-use Rattle.hwp_law_records.specs.hwp_law_commands.declared.GuestAccess.{GuestAccess}
-use Rattle.hwp_law_records.specs.hwp_law_commands.Guests.{denial, denied, guest_access, guest_after, guest_taken, guest_of, kind_of, new_guest}
-use Rattle.hwp_law_records.specs.hwp_law_commands.hwp_guest.GuestState.{GuestState, admitted, after}
-use Rattle.hwp_law_records.specs.hwp_law_commands.hwp_guest.declared.Admit.TheVariants as admissions
-use Rattle.hwp_law_records.specs.hwp_law.Acting.{acting_script, copied_at}
-use Rattle.hwp_law_records.specs.hwp_law.Copies.{FitsCopy, MakesCopy, slot_in}
-use Rattle.hwp_law_records.specs.hwp_law.Entries.{CanStandIn, IsAccessAt, Makes}
-use Rattle.hwp_law_records.specs.hwp_law.History.{FitsLoad, FitsStore}
-use Rattle.hwp_law_records.specs.hwp_law.Guests.{IsDenied}
-use Rattle.hwp_law_records.specs.hwp_law.Law.{IsLawful}
-use Rattle.hwp_law_records.specs.hwp_law.Lines.{answer_among, answer_of, answered, answers_from}
-use Rattle.hwp_law_records.specs.hwp_law.Policies.{answered_before, answered_on}
-use Rattle.hwp_law_records.proofs.of_hwp_law_run.of_hwp_law.ActedLaws.{command-acted}
-use Rattle.hwp_law_records.proofs.of_hwp_law_run.of_hwp_law.of_hwp_law_commands.GuestLaws.{bad-more}
-use Rattle.hwp_law_private.proofs.Forked.{valid-command}
+use Rattle.hwp_law_served.specs.hwp_geom.Layout.{is_guest, is_slot, is_twin, twin_of}
+use Rattle.hwp_law_served.specs.hwp_geom.declared.Cpu.{Cpu}
+use Rattle.hwp_law_served.specs.hwp_geom.declared.Layout.{Layout}
+use Rattle.hwp_law_served.specs.hwp_geom.declared.Mode.{Mode}
+use Rattle.hwp_law_served.specs.hwp_geom.declared.Mode.TheVariants.{User, Kernel}
+use Rattle.hwp_law_served.specs.hwp_geom.declared.Page.{Page}
+use Rattle.hwp_law_served.specs.hwp_geom.declared.Proc.{Proc}
+use Rattle.hwp_law_served.specs.hwp_geom.declared.Thread.{Thread}
+use Rattle.hwp_law_served.specs.hwp_geom.declared.VSlot.{VSlot}
+use Rattle.hwp_law_served.specs.hwp_geom.declared.Who.{Who}
+use Rattle.hwp_law_served.specs.hwp_page.declared.At.{At}
+use Rattle.hwp_law_served.specs.hwp_page.declared.Entry.{Entry}
+use Rattle.hwp_law_served.specs.hwp_page.declared.What.{What}
+use Rattle.hwp_law_served.specs.hwp_page.declared.What.TheVariants as entries
+use Rattle.hwp_law_served.specs.hwp_script_read.Forks.{names_twin}
+use Rattle.hwp_law_served.specs.hwp_script_read.Valid.{IsValid}
+use Rattle.hwp_law_served.specs.hwp_script_read.declared.Command.{Command}
+use Rattle.hwp_law_served.specs.hwp_script_read.declared.Command.TheVariants as commands
+use Rattle.hwp_law_served.specs.hwp_script_read.declared.Script.{Script}
+use Rattle.hwp_law_served.specs.hwp_report_text.declared.Answer.{Answer}
+use Rattle.hwp_law_served.specs.hwp_report_text.declared.Answer.TheVariants as answers
+use Rattle.hwp_law_served.specs.hwp_report_text.declared.CpuLine.{CpuLine}
+use Rattle.hwp_law_served.specs.hwp_report_text.declared.Report.{Report}
+use Rattle.hwp_law_served.specs.hwp_law_commands.Commands.{Access, access, access_of, arrival_of, command_at, has_watch, process_of_thread}
+use Rattle.hwp_law_served.specs.hwp_law_commands.Cows.{acting, copied_from, cow_of, through, twin_or, written_through}
+use Rattle.hwp_law_served.specs.hwp_law_commands.declared.GuestAccess.{GuestAccess}
+use Rattle.hwp_law_served.specs.hwp_law_commands.Guests.{denial, denied, guest_access, guest_after, guest_taken, guest_of, kind_of, new_guest}
+use Rattle.hwp_law_served.specs.hwp_law_commands.hwp_guest.GuestState.{GuestState, admitted, after}
+use Rattle.hwp_law_served.specs.hwp_law_commands.hwp_guest.declared.Admit.TheVariants as admissions
+use Rattle.hwp_law_served.specs.hwp_law.Acting.{acting_script, copied_at}
+use Rattle.hwp_law_served.specs.hwp_law.Copies.{FitsCopy, MakesCopy, slot_in}
+use Rattle.hwp_law_served.specs.hwp_law.Entries.{CanStandIn, IsAccessAt, Makes}
+use Rattle.hwp_law_served.specs.hwp_law.History.{FitsLoad, FitsStore}
+use Rattle.hwp_law_served.specs.hwp_law.Guests.{IsDenied}
+use Rattle.hwp_law_served.specs.hwp_law.Law.{IsLawful}
+use Rattle.hwp_law_served.specs.hwp_law.Lines.{answer_among, answer_of, answered, answers_from}
+use Rattle.hwp_law_served.specs.hwp_law.Policies.{answered_before, answered_on}
+use Rattle.hwp_law_served.proofs.of_hwp_law_run.of_hwp_law.ActedLaws.{command-acted}
+use Rattle.hwp_law_served.proofs.of_hwp_law_run.of_hwp_law.of_hwp_law_commands.GuestLaws.{bad-more}
+use Rattle.hwp_law_holds.proofs.forks.Forked.{valid-command}
 use Rattle.hwp_law_holds.specs.GuestFrames.{AreBadFramesLeft, IsBehindCheck}
 use Rattle.hwp_law_holds.proofs.Guests.{then-there}
 

@@ -4,61 +4,61 @@ use Rattle.std.proofs.Common.{◌≡◌, ◌≢◌, ◌⊎◌, inl, inr, ℕ, ze
 use Rattle.std.specs.List.{list_any}
 use Rattle.std.proofs.lemmas.Bool.{or_parts}
 use Rattle.std.proofs.lemmas.Option.{none-some, same_Some}
-use Rattle.hwp_law_records.specs.hwp_geom.Layout.{is_guest}
-use Rattle.hwp_law_records.specs.hwp_geom.declared.Cpu.{Cpu}
-use Rattle.hwp_law_records.specs.hwp_geom.declared.Layout.{Layout}
-use Rattle.hwp_law_records.specs.hwp_geom.declared.Page.{Page}
-use Rattle.hwp_law_records.specs.hwp_geom.declared.Proc.{Proc}
-use Rattle.hwp_law_records.specs.hwp_geom.declared.Thread.{Thread}
-use Rattle.hwp_law_records.specs.hwp_geom.declared.ThreadDecl.{ThreadDecl}
-use Rattle.hwp_law_records.specs.hwp_geom.declared.Who.{Who}
-use Rattle.hwp_law_records.specs.hwp_kill.declared.Signal.{Signal}
-use Rattle.hwp_law_records.specs.hwp_page.Endings.{ends, is_ended_by, is_ending}
-use Rattle.hwp_law_records.specs.hwp_page.declared.At.{At}
-use Rattle.hwp_law_records.specs.hwp_page.declared.Entry.{Entry}
-use Rattle.hwp_law_records.specs.hwp_page.declared.Met.TheVariants.{Sigbus}
-use Rattle.hwp_law_records.specs.hwp_page.declared.What.{What}
-use Rattle.hwp_law_records.specs.hwp_page.declared.What.TheVariants as entries
-use Rattle.hwp_law_records.specs.hwp_core_rule.declared.Made.{Made}
-use Rattle.hwp_law_records.specs.hwp_core_rule.declared.State.{State}
-use Rattle.hwp_law_records.specs.hwp_core_rule.declared.View.{View}
-use Rattle.hwp_law_records.specs.hwp_core_rule.Lists.{EachMember}
-use Rattle.hwp_law_records.specs.hwp_core_task.Boards.{Played, view_of}
-use Rattle.hwp_law_records.specs.hwp_core_task.Known.{HasMadeNone}
-use Rattle.hwp_law_records.specs.hwp_script_read.Guests.{is_apart, bars_guest}
-use Rattle.hwp_law_records.specs.hwp_script_read.Valid.{AreGuestsFit, IsValid}
-use Rattle.hwp_law_records.specs.hwp_script_read.declared.Command.{Command}
-use Rattle.hwp_law_records.specs.hwp_script_read.declared.Command.TheVariants as commands
-use Rattle.hwp_law_records.specs.hwp_script_read.declared.Script.{Script}
-use Rattle.hwp_law_records.specs.hwp_report_text.declared.Answer.{Answer}
-use Rattle.hwp_law_records.specs.hwp_report_text.declared.Answer.TheVariants as answers
-use Rattle.hwp_law_records.specs.hwp_report_text.declared.Report.{Report}
-use Rattle.hwp_law_records.specs.hwp_law_commands.hwp_guest.GuestState.{admitted}
-use Rattle.hwp_law_records.specs.hwp_law_commands.Commands.{Access, access_of, arrival_of, command_at, process_at, process_of_thread, thread_of}
-use Rattle.hwp_law_records.specs.hwp_law_commands.Cows.{acting}
-use Rattle.hwp_law_records.specs.hwp_law_commands.declared.GuestAccess.{GuestAccess}
-use Rattle.hwp_law_records.specs.hwp_law_commands.Guests.{denial, denied, guest_access, guest_lines, guest_of, kind_of}
-use Rattle.hwp_law_records.specs.hwp_law.Acting.{acting_script, copied_at}
-use Rattle.hwp_law_records.specs.hwp_law.Causes.{IsCaused}
-use Rattle.hwp_law_records.specs.hwp_law.Endings.{IsGone}
-use Rattle.hwp_law_records.specs.hwp_law.Guests.{AreGuestsKept, IsDenied}
-use Rattle.hwp_law_records.specs.hwp_law.Lines.{answer_of, guests_told}
-use Rattle.hwp_law_records.specs.hwp_law.Places.{entry_at}
-use Rattle.hwp_law_records.specs.hwp_law.Policies.{answered_before}
-use Rattle.hwp_law_records.specs.hwp_cpu_row.declared.Row.{Row}
-use Rattle.hwp_law_records.specs.hwp_cpu_row.Acts.{event_at}
-use Rattle.hwp_law_records.specs.hwp_law_served.Guests.{IsDeniedRow, IsGuestRow, SaysGone}
-use Rattle.hwp_law_records.specs.hwp_law_served.Handles.{answers_by}
-use Rattle.hwp_law_records.specs.hwp_law_served.Runs.{HaveServed, IsRunOf}
-use Rattle.hwp_law_records.proofs.of_hwp_law_run.Reported.{entry-listed}
-use Rattle.hwp_law_records.proofs.of_hwp_law_run.of_hwp_law.ActedLaws.{command-acted}
-use Rattle.hwp_law_records.proofs.of_hwp_law_run.of_hwp_law.of_hwp_law_commands.CowLaws.{acting-thread}
-use Rattle.hwp_law_records.proofs.of_hwp_law_served.LastBoard.{ended, ended-rows}
-use Rattle.hwp_law_records.proofs.of_hwp_law_served.RowLines.{answer-told, events-told, guest-told}
-use Rattle.hwp_law_records.proofs.of_hwp_law_served.RunEnds.{IsEnd, IsOf, of-deeds, own-view}
-use Rattle.hwp_law_records.proofs.of_hwp_law_served.copied.KeptWords.{of-command}
-use Rattle.hwp_law_records.proofs.of_hwp_law_served.copied.RunActed.{answered-are}
-use Rattle.hwp_law_records.proofs.of_hwp_law_served.deeds.Made.{command-is}
+use Rattle.hwp_law_served.specs.hwp_geom.Layout.{is_guest}
+use Rattle.hwp_law_served.specs.hwp_geom.declared.Cpu.{Cpu}
+use Rattle.hwp_law_served.specs.hwp_geom.declared.Layout.{Layout}
+use Rattle.hwp_law_served.specs.hwp_geom.declared.Page.{Page}
+use Rattle.hwp_law_served.specs.hwp_geom.declared.Proc.{Proc}
+use Rattle.hwp_law_served.specs.hwp_geom.declared.Thread.{Thread}
+use Rattle.hwp_law_served.specs.hwp_geom.declared.ThreadDecl.{ThreadDecl}
+use Rattle.hwp_law_served.specs.hwp_geom.declared.Who.{Who}
+use Rattle.hwp_law_served.specs.hwp_kill.declared.Signal.{Signal}
+use Rattle.hwp_law_served.specs.hwp_page.Endings.{ends, is_ended_by, is_ending}
+use Rattle.hwp_law_served.specs.hwp_page.declared.At.{At}
+use Rattle.hwp_law_served.specs.hwp_page.declared.Entry.{Entry}
+use Rattle.hwp_law_served.specs.hwp_page.declared.Met.TheVariants.{Sigbus}
+use Rattle.hwp_law_served.specs.hwp_page.declared.What.{What}
+use Rattle.hwp_law_served.specs.hwp_page.declared.What.TheVariants as entries
+use Rattle.hwp_law_served.specs.hwp_core_rule.declared.Made.{Made}
+use Rattle.hwp_law_served.specs.hwp_core_rule.declared.State.{State}
+use Rattle.hwp_law_served.specs.hwp_core_rule.declared.View.{View}
+use Rattle.hwp_law_served.specs.hwp_core_rule.Lists.{EachMember}
+use Rattle.hwp_law_served.specs.hwp_core_task.Boards.{Played, view_of}
+use Rattle.hwp_law_served.specs.hwp_core_task.Known.{HasMadeNone}
+use Rattle.hwp_law_served.specs.hwp_script_read.Guests.{is_apart, bars_guest}
+use Rattle.hwp_law_served.specs.hwp_script_read.Valid.{AreGuestsFit, IsValid}
+use Rattle.hwp_law_served.specs.hwp_script_read.declared.Command.{Command}
+use Rattle.hwp_law_served.specs.hwp_script_read.declared.Command.TheVariants as commands
+use Rattle.hwp_law_served.specs.hwp_script_read.declared.Script.{Script}
+use Rattle.hwp_law_served.specs.hwp_report_text.declared.Answer.{Answer}
+use Rattle.hwp_law_served.specs.hwp_report_text.declared.Answer.TheVariants as answers
+use Rattle.hwp_law_served.specs.hwp_report_text.declared.Report.{Report}
+use Rattle.hwp_law_served.specs.hwp_law_commands.hwp_guest.GuestState.{admitted}
+use Rattle.hwp_law_served.specs.hwp_law_commands.Commands.{Access, access_of, arrival_of, command_at, process_at, process_of_thread, thread_of}
+use Rattle.hwp_law_served.specs.hwp_law_commands.Cows.{acting}
+use Rattle.hwp_law_served.specs.hwp_law_commands.declared.GuestAccess.{GuestAccess}
+use Rattle.hwp_law_served.specs.hwp_law_commands.Guests.{denial, denied, guest_access, guest_lines, guest_of, kind_of}
+use Rattle.hwp_law_served.specs.hwp_law.Acting.{acting_script, copied_at}
+use Rattle.hwp_law_served.specs.hwp_law.Causes.{IsCaused}
+use Rattle.hwp_law_served.specs.hwp_law.Endings.{IsGone}
+use Rattle.hwp_law_served.specs.hwp_law.Guests.{AreGuestsKept, IsDenied}
+use Rattle.hwp_law_served.specs.hwp_law.Lines.{answer_of, guests_told}
+use Rattle.hwp_law_served.specs.hwp_law.Places.{entry_at}
+use Rattle.hwp_law_served.specs.hwp_law.Policies.{answered_before}
+use Rattle.hwp_law_served.specs.hwp_cpu_row.declared.Row.{Row}
+use Rattle.hwp_law_served.specs.hwp_cpu_row.Acts.{event_at}
+use Rattle.hwp_law_served.specs.Guests.{IsDeniedRow, IsGuestRow, SaysGone}
+use Rattle.hwp_law_served.specs.Handles.{answers_by}
+use Rattle.hwp_law_served.specs.Runs.{HaveServed, IsRunOf}
+use Rattle.hwp_law_served.proofs.of_hwp_law_run.Reported.{entry-listed}
+use Rattle.hwp_law_served.proofs.of_hwp_law_run.of_hwp_law.ActedLaws.{command-acted}
+use Rattle.hwp_law_served.proofs.of_hwp_law_run.of_hwp_law.of_hwp_law_commands.CowLaws.{acting-thread}
+use Rattle.hwp_law_served.proofs.LastBoard.{ended, ended-rows}
+use Rattle.hwp_law_served.proofs.RowLines.{answer-told, events-told, guest-told}
+use Rattle.hwp_law_served.proofs.RunEnds.{IsEnd, IsOf, of-deeds, own-view}
+use Rattle.hwp_law_served.proofs.copied.KeptWords.{of-command}
+use Rattle.hwp_law_served.proofs.copied.RunActed.{answered-are}
+use Rattle.hwp_law_served.proofs.deeds.Made.{command-is}
 use Rattle.hwp_law_holds.proofs.copied.CopyCaused.{is-caused}
 
 pub then-there : {X Y : Type 0} (f : X → Option Y) (o : Option X) (y : Y) → option_and_then f o ≡ Some y → (x : X) × (o ≡ Some x) × (f x ≡ Some y)

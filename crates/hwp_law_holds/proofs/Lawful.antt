@@ -1,31 +1,31 @@
 -- The report of a run keeps the whole law.
 use Rattle.std.proofs.Common.{ℕ, List, Option}
-use Rattle.hwp_law_records.specs.hwp_geom.declared.Cpu.{Cpu}
-use Rattle.hwp_law_records.specs.hwp_geom.declared.Who.{Who}
-use Rattle.hwp_law_records.specs.hwp_geom.declared.VSlot.{VSlot}
-use Rattle.hwp_law_records.specs.hwp_core_rule.declared.State.{State}
-use Rattle.hwp_law_records.specs.hwp_core_task.Boards.{Played}
-use Rattle.hwp_law_records.specs.hwp_script_read.declared.Script.{Script}
-use Rattle.hwp_law_records.specs.hwp_report_text.declared.Report.{Report}
-use Rattle.hwp_law_records.specs.hwp_law.Law.{AnswersFit, HasShape, HistoriesFit, IsLawful}
-use Rattle.hwp_law_records.proofs.of_hwp_law_run.Reported.{histories-lead, histories-ordered}
-use Rattle.hwp_law_records.specs.hwp_law_served.Runs.{HaveServed, IsRunOf}
+use Rattle.hwp_law_served.specs.hwp_geom.declared.Cpu.{Cpu}
+use Rattle.hwp_law_served.specs.hwp_geom.declared.Who.{Who}
+use Rattle.hwp_law_served.specs.hwp_geom.declared.VSlot.{VSlot}
+use Rattle.hwp_law_served.specs.hwp_core_rule.declared.State.{State}
+use Rattle.hwp_law_served.specs.hwp_core_task.Boards.{Played}
+use Rattle.hwp_law_served.specs.hwp_script_read.declared.Script.{Script}
+use Rattle.hwp_law_served.specs.hwp_report_text.declared.Report.{Report}
+use Rattle.hwp_law_served.specs.hwp_law.Law.{AnswersFit, HasShape, HistoriesFit, IsLawful}
+use Rattle.hwp_law_served.proofs.of_hwp_law_run.Reported.{histories-lead, histories-ordered}
+use Rattle.hwp_law_served.specs.Runs.{HaveServed, IsRunOf}
 use Rattle.hwp_law_holds.proofs.Caused.{all-caused, stop-agrees}
 use Rattle.hwp_law_holds.proofs.Guests.{guests-kept}
 use Rattle.hwp_law_holds.proofs.OfflinedLines.{are-offlined}
-use Rattle.hwp_law_records.proofs.of_hwp_law_served.RunEnds.{IsEnd}
-use Rattle.hwp_law_sights.proofs.endings.Endings.{endings-stay}
-use Rattle.hwp_law_records.proofs.lines.Framed.{frames-lawful}
-use Rattle.hwp_law_records.proofs.of_hwp_law_served.LastBoard.{ended}
-use Rattle.hwp_law_sights.proofs.losses.LossesAgree.{losses-lawful}
-use Rattle.hwp_law_records.proofs.of_hwp_law_served.deeds.Made.{entries-made-by, entries-named}
-use Rattle.hwp_law_records.proofs.lines.Events.{events-are}
-use Rattle.hwp_law_sights.proofs.policies.Policies.{are-seen, never-falls}
-use Rattle.hwp_law_records.proofs.of_hwp_law_served.Windows.{states-in-windows}
-use Rattle.hwp_law_records.specs.hwp_script_read.Valid.{IsValid}
-use Rattle.hwp_law_records.specs.hwp_law.Acting.{acting_script, copied_at}
-use Rattle.hwp_law_private.proofs.Private.{private-holds}
-use Rattle.hwp_law_records.proofs.of_hwp_law_served.copied.CopyLast.{last-stores}
+use Rattle.hwp_law_served.proofs.RunEnds.{IsEnd}
+use Rattle.hwp_law_holds.proofs.endings.Endings.{endings-stay}
+use Rattle.hwp_law_holds.proofs.lines.Framed.{frames-lawful}
+use Rattle.hwp_law_served.proofs.LastBoard.{ended}
+use Rattle.hwp_law_holds.proofs.losses.LossesAgree.{losses-lawful}
+use Rattle.hwp_law_served.proofs.deeds.Made.{entries-made-by, entries-named}
+use Rattle.hwp_law_holds.proofs.lines.Events.{events-are}
+use Rattle.hwp_law_holds.proofs.policies.Policies.{are-seen, never-falls}
+use Rattle.hwp_law_served.proofs.Windows.{states-in-windows}
+use Rattle.hwp_law_served.specs.hwp_script_read.Valid.{IsValid}
+use Rattle.hwp_law_served.specs.hwp_law.Acting.{acting_script, copied_at}
+use Rattle.hwp_law_holds.proofs.forks.Private.{private-holds}
+use Rattle.hwp_law_served.proofs.copied.CopyLast.{last-stores}
 use Rattle.hwp_law_holds.proofs.copied.CopyWords.{copies-keep-words}
 use Rattle.hwp_law_holds.proofs.copied.LossesActed.{losses-acted}
 

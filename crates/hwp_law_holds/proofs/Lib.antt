@@ -1,3 +1,13 @@
+pub mod marks
+pub mod deeds
+pub mod lines
+pub mod copied
+pub mod Shown
+pub mod AnswerSights
+pub mod policies
+pub mod losses
+pub mod endings
+pub mod forks
 pub mod Signalled
 pub mod Ample
 pub mod Answered
@@ -7,12 +17,8 @@ pub mod OfflinedLines
 mod Guests
 pub mod GuestFrames
 pub mod Lawful
-pub mod copied
 pub mod Settled
 pub mod Retired
 pub mod AllowedThere
 pub mod Signals
-pub mod lines
 pub mod loads
-pub use Rattle.hwp_law_records.proofs as of_hwp_law_records
-pub use Rattle.hwp_law_sights.proofs as of_hwp_law_sights

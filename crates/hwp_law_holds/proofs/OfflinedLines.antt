@@ -1,32 +1,32 @@
 -- The lines of a command tell the frames that it took out of use, and the report shows the cause of what they say.
 use Rattle.std.proofs.Common.{◌≡◌, ℕ, suc, List, [], ◌∷◌, Option, Some, All, map, option_and_then, slice_get, refl, sym, ap, ◌∙◌, subst}
 use Rattle.std.proofs.lemmas.List.Elements.{All-cons, All-nil}
-use Rattle.hwp_law_records.specs.hwp_geom.declared.VSlot.{VSlot}
-use Rattle.hwp_law_records.specs.hwp_geom.declared.Cpu.{Cpu}
-use Rattle.hwp_law_records.specs.hwp_geom.declared.Who.{Who}
-use Rattle.hwp_law_records.specs.hwp_core_rule.declared.State.{State}
-use Rattle.hwp_law_records.specs.hwp_core_rule.Lists.{EachMember}
-use Rattle.hwp_law_records.proofs.of_hwp_core_rule.Lists.{each-map}
-use Rattle.hwp_law_records.specs.hwp_core_task.Boards.{view_of}
-use Rattle.hwp_law_records.specs.hwp_script_read.declared.Command.{Command}
-use Rattle.hwp_law_records.specs.hwp_script_read.declared.Script.{Script}
-use Rattle.hwp_law_records.specs.hwp_report_text.declared.MarkLine.{MarkLine}
-use Rattle.hwp_law_records.specs.hwp_report_text.declared.OfflinedLine.{OfflinedLine}
-use Rattle.hwp_law_records.specs.hwp_report_text.declared.Report.{Report}
-use Rattle.hwp_law_records.specs.hwp_law_commands.Commands.{command_at}
-use Rattle.hwp_law_records.specs.hwp_law.Offlined.{AreOfflined, IsOffline}
-use Rattle.hwp_law_records.specs.hwp_law.Records.{how_in}
-use Rattle.hwp_law_records.specs.hwp_cpu_row.declared.FrameChange.TheVariants as owns
-use Rattle.hwp_law_records.specs.hwp_cpu_row.declared.Offlining.{Offlining}
-use Rattle.hwp_law_records.specs.hwp_cpu_row.declared.Row.{Row}
-use Rattle.hwp_law_records.specs.hwp_law_served.Rows.{offlined, offlined_at}
-use Rattle.hwp_law_records.specs.hwp_law_served.Runs.{row_at}
-use Rattle.hwp_law_records.proofs.of_hwp_law_served.RunEnds.{IsEnd, IsOf, command-of}
-use Rattle.hwp_law_records.proofs.of_hwp_law_served.RowLines.{offlined-told}
-use Rattle.hwp_law_records.proofs.of_hwp_law_served.deeds.Beside.{left-made}
-use Rattle.hwp_law_records.proofs.of_hwp_law_served.lines.Offlines.{frames-due}
-use Rattle.hwp_law_records.proofs.lines.Records.{beside-mark}
-use Rattle.hwp_law_sights.proofs.AnswerSights.{has-command}
+use Rattle.hwp_law_served.specs.hwp_geom.declared.VSlot.{VSlot}
+use Rattle.hwp_law_served.specs.hwp_geom.declared.Cpu.{Cpu}
+use Rattle.hwp_law_served.specs.hwp_geom.declared.Who.{Who}
+use Rattle.hwp_law_served.specs.hwp_core_rule.declared.State.{State}
+use Rattle.hwp_law_served.specs.hwp_core_rule.Lists.{EachMember}
+use Rattle.hwp_law_served.proofs.of_hwp_core_rule.Lists.{each-map}
+use Rattle.hwp_law_served.specs.hwp_core_task.Boards.{view_of}
+use Rattle.hwp_law_served.specs.hwp_script_read.declared.Command.{Command}
+use Rattle.hwp_law_served.specs.hwp_script_read.declared.Script.{Script}
+use Rattle.hwp_law_served.specs.hwp_report_text.declared.MarkLine.{MarkLine}
+use Rattle.hwp_law_served.specs.hwp_report_text.declared.OfflinedLine.{OfflinedLine}
+use Rattle.hwp_law_served.specs.hwp_report_text.declared.Report.{Report}
+use Rattle.hwp_law_served.specs.hwp_law_commands.Commands.{command_at}
+use Rattle.hwp_law_served.specs.hwp_law.Offlined.{AreOfflined, IsOffline}
+use Rattle.hwp_law_served.specs.hwp_law.Records.{how_in}
+use Rattle.hwp_law_served.specs.hwp_cpu_row.declared.FrameChange.TheVariants as owns
+use Rattle.hwp_law_served.specs.hwp_cpu_row.declared.Offlining.{Offlining}
+use Rattle.hwp_law_served.specs.hwp_cpu_row.declared.Row.{Row}
+use Rattle.hwp_law_served.specs.Rows.{offlined, offlined_at}
+use Rattle.hwp_law_served.specs.Runs.{row_at}
+use Rattle.hwp_law_served.proofs.RunEnds.{IsEnd, IsOf, command-of}
+use Rattle.hwp_law_served.proofs.RowLines.{offlined-told}
+use Rattle.hwp_law_served.proofs.deeds.Beside.{left-made}
+use Rattle.hwp_law_served.proofs.lines.Offlines.{frames-due}
+use Rattle.hwp_law_holds.proofs.lines.Records.{beside-mark}
+use Rattle.hwp_law_holds.proofs.AnswerSights.{has-command}
 use Rattle.hwp_law_holds.proofs.Answered.{came, made-stands}
 
 -- what holds of each member holds of all

@@ -2,34 +2,34 @@
 use Rattle.std.proofs.Common.{◌≡◌, ◌≢◌, ◌⊎◌, ℕ, zero, suc, ◌+◌, ◌<◌, ◌≤◌, List, [], ◌∷◌, ◌++◌, Option, Some, None, length, map, drop, slice_get, refl, sym, ap, ◌∙◌, subst, inl, inr, arith}
 use Rattle.std.proofs.lemmas.List.{length-take}
 use Rattle.std.proofs.lemmas.Option.{same_Some, slice_get_within}
-use Rattle.hwp_law_records.specs.hwp_geom.declared.Cpu.{Cpu}
-use Rattle.hwp_law_records.specs.hwp_geom.declared.Frame.{Frame}
-use Rattle.hwp_law_records.specs.hwp_geom.declared.Layout.{Layout}
-use Rattle.hwp_law_records.specs.hwp_geom.declared.Page.{Page}
-use Rattle.hwp_law_records.specs.hwp_geom.declared.TransDecl.{TransDecl}
-use Rattle.hwp_law_records.specs.hwp_geom.declared.VSlot.{VSlot}
-use Rattle.hwp_law_records.specs.hwp_geom.Limits.{frame_limit}
-use Rattle.hwp_law_records.specs.hwp_words.declared.Pte.TheVariants as ptes
-use Rattle.hwp_law_records.specs.hwp_words.Frames.{handled_of, lock_of, owner_of}
-use Rattle.hwp_law_records.specs.hwp_words.Translations.{pte_word}
-use Rattle.hwp_law_records.specs.hwp_core_rule.declared.Log.{Log}
-use Rattle.hwp_law_records.specs.hwp_core_rule.declared.State.{State}
-use Rattle.hwp_law_records.specs.hwp_core_rule.declared.View.{View}
-use Rattle.hwp_law_records.specs.hwp_core_rule.Opening.{opening}
-use Rattle.hwp_law_records.specs.hwp_core_rule.Rule.{Holds}
-use Rattle.hwp_law_records.specs.hwp_core_rule.Words.{Words, free_bit, trans_from, words_of}
-use Rattle.hwp_law_records.specs.hwp_core_rule.parts.Bodies.{IsAtHome, content_name}
-use Rattle.hwp_law_records.specs.hwp_core_rule.parts.Handled.{IsOutOfUse}
-use Rattle.hwp_law_records.specs.hwp_core_rule.parts.Owners.{NamesOwn}
-use Rattle.hwp_law_records.specs.hwp_core_rule.parts.Places.{in_hand}
-use Rattle.hwp_law_records.specs.hwp_core_task.Boards.{Played}
-use Rattle.hwp_law_records.specs.hwp_core_task.Turns.{Member}
-use Rattle.hwp_law_records.specs.hwp_script_read.declared.Script.{Script}
-use Rattle.hwp_law_records.specs.hwp_report_text.declared.Report.{Report}
-use Rattle.hwp_law_records.specs.hwp_law_run.Run.{CoreRun}
-use Rattle.hwp_law_records.specs.hwp_law_run.Turns.{Leads}
-use Rattle.hwp_law_records.proofs.of_hwp_law_run.Homes.{there-is}
-use Rattle.hwp_law_records.proofs.of_hwp_law_run.TurnLeads.{leads-hold}
+use Rattle.hwp_law_served.specs.hwp_geom.declared.Cpu.{Cpu}
+use Rattle.hwp_law_served.specs.hwp_geom.declared.Frame.{Frame}
+use Rattle.hwp_law_served.specs.hwp_geom.declared.Layout.{Layout}
+use Rattle.hwp_law_served.specs.hwp_geom.declared.Page.{Page}
+use Rattle.hwp_law_served.specs.hwp_geom.declared.TransDecl.{TransDecl}
+use Rattle.hwp_law_served.specs.hwp_geom.declared.VSlot.{VSlot}
+use Rattle.hwp_law_served.specs.hwp_geom.Limits.{frame_limit}
+use Rattle.hwp_law_served.specs.hwp_words.declared.Pte.TheVariants as ptes
+use Rattle.hwp_law_served.specs.hwp_words.Frames.{handled_of, lock_of, owner_of}
+use Rattle.hwp_law_served.specs.hwp_words.Translations.{pte_word}
+use Rattle.hwp_law_served.specs.hwp_core_rule.declared.Log.{Log}
+use Rattle.hwp_law_served.specs.hwp_core_rule.declared.State.{State}
+use Rattle.hwp_law_served.specs.hwp_core_rule.declared.View.{View}
+use Rattle.hwp_law_served.specs.hwp_core_rule.Opening.{opening}
+use Rattle.hwp_law_served.specs.hwp_core_rule.Rule.{Holds}
+use Rattle.hwp_law_served.specs.hwp_core_rule.Words.{Words, free_bit, trans_from, words_of}
+use Rattle.hwp_law_served.specs.hwp_core_rule.parts.Bodies.{IsAtHome, content_name}
+use Rattle.hwp_law_served.specs.hwp_core_rule.parts.Handled.{IsOutOfUse}
+use Rattle.hwp_law_served.specs.hwp_core_rule.parts.Owners.{NamesOwn}
+use Rattle.hwp_law_served.specs.hwp_core_rule.parts.Places.{in_hand}
+use Rattle.hwp_law_served.specs.hwp_core_task.Boards.{Played}
+use Rattle.hwp_law_served.specs.hwp_core_task.Turns.{Member}
+use Rattle.hwp_law_served.specs.hwp_script_read.declared.Script.{Script}
+use Rattle.hwp_law_served.specs.hwp_report_text.declared.Report.{Report}
+use Rattle.hwp_law_served.specs.hwp_law_run.Run.{CoreRun}
+use Rattle.hwp_law_served.specs.hwp_law_run.Turns.{Leads}
+use Rattle.hwp_law_served.proofs.of_hwp_law_run.Homes.{there-is}
+use Rattle.hwp_law_served.proofs.of_hwp_law_run.TurnLeads.{leads-hold}
 use Rattle.hwp_law_holds.specs.Retired.{AreHandledRetired, IsBoardOf, IsRetired}
 
 -- a slot of no page's name is empty

@@ -1,13 +1,13 @@
 -- Where all tasks are over no failure is open: each is the claim of a task that isn't over.
 use Rattle.std.proofs.Common.{ℕ}
-use Rattle.hwp_law_records.specs.hwp_geom.declared.Frame.{Frame}
-use Rattle.hwp_law_records.specs.hwp_core_task.Boards.{view_of}
-use Rattle.hwp_law_records.specs.hwp_core_task.Classes.{TellsClass}
-use Rattle.hwp_law_records.specs.hwp_core_task.Ranks.{Pending}
-use Rattle.hwp_law_records.specs.hwp_core_task.Turns.{Member}
-use Rattle.hwp_law_records.specs.hwp_plain_order.Order.{AreOver, Running, seat_of}
-use Rattle.hwp_law_records.specs.hwp_plain_order.Rank.{words_in}
-use Rattle.hwp_law_records.specs.hwp_plain_order.Ready.{IsCrew}
+use Rattle.hwp_law_served.specs.hwp_geom.declared.Frame.{Frame}
+use Rattle.hwp_law_served.specs.hwp_core_task.Boards.{view_of}
+use Rattle.hwp_law_served.specs.hwp_core_task.Classes.{TellsClass}
+use Rattle.hwp_law_served.specs.hwp_core_task.Ranks.{Pending}
+use Rattle.hwp_law_served.specs.hwp_core_task.Turns.{Member}
+use Rattle.hwp_law_served.specs.hwp_plain_order.Order.{AreOver, Running, seat_of}
+use Rattle.hwp_law_served.specs.hwp_plain_order.Rank.{words_in}
+use Rattle.hwp_law_served.specs.hwp_plain_order.Ready.{IsCrew}
 
 pub settled-when-over : {S : Type 0} (m : Member S) (a : Running S) → TellsClass m → IsCrew m a → AreOver m a.tasks → (frame : Frame) (cycle : ℕ) → Pending (words_in a) frame cycle → ⊥
 settled-when-over m a tells crew over frame cycle pending =

@@ -5,42 +5,42 @@ use Rattle.std.specs.FinSet as set
 use Rattle.std.specs.Ordering.{nat_cmp}
 use Rattle.std.proofs.lemmas.List.Folds.{Any-from_list_any}
 use Rattle.std.proofs.lemmas.Option.{none-some}
-use Rattle.hwp_law_records.specs.hwp_geom.declared.VSlot.{VSlot}
-use Rattle.hwp_law_records.specs.hwp_geom.declared.Cpu.{Cpu}
-use Rattle.hwp_law_records.specs.hwp_geom.declared.Layout.{Layout}
-use Rattle.hwp_law_records.specs.hwp_geom.declared.Page.{Page}
-use Rattle.hwp_law_records.specs.hwp_geom.declared.Thread.{Thread}
-use Rattle.hwp_law_records.specs.hwp_geom.declared.Who.{Who}
-use Rattle.hwp_law_records.specs.hwp_kill.declared.Code.{Code}
-use Rattle.hwp_law_records.specs.hwp_kill.declared.Code.TheVariants as codes
-use Rattle.hwp_law_records.specs.hwp_kill.declared.Seen.{Seen}
-use Rattle.hwp_law_records.specs.hwp_kill.declared.Signal.{Signal}
-use Rattle.hwp_law_records.specs.hwp_kill.Kill.{AreDue, Killed, Reaches}
-use Rattle.hwp_law_records.specs.hwp_page.declared.At.{At}
-use Rattle.hwp_law_records.specs.hwp_page.declared.Entry.{Entry}
-use Rattle.hwp_law_records.specs.hwp_page.declared.PageState.{PageState}
-use Rattle.hwp_law_records.specs.hwp_page.declared.What.{What}
-use Rattle.hwp_law_records.specs.hwp_page.declared.What.TheVariants as entries
-use Rattle.hwp_law_records.specs.hwp_page.Situations.{always_signals, is_signalling}
-use Rattle.hwp_law_records.specs.hwp_page.Step.{IsFailure}
-use Rattle.hwp_law_records.specs.hwp_core_rule.declared.State.{State}
-use Rattle.hwp_law_records.specs.hwp_core_task.Boards.{view_of}
-use Rattle.hwp_law_records.specs.hwp_claim_act.declared.Failed.{Failed}
-use Rattle.hwp_law_records.specs.hwp_claim_act.Abandons.{is_now, signals_now}
-use Rattle.hwp_law_records.specs.hwp_severity.declared.Severity.{Severity}
-use Rattle.hwp_law_records.specs.hwp_severity.declared.Severity.TheVariants as severities
-use Rattle.hwp_law_records.specs.hwp_script_read.declared.Command.{Command}
-use Rattle.hwp_law_records.specs.hwp_script_read.declared.Script.{Script}
-use Rattle.hwp_law_records.specs.hwp_report_text.declared.Report.{Report}
-use Rattle.hwp_law_records.specs.hwp_law.Causes.{IsSigbus, SendsSigbus}
-use Rattle.hwp_law_records.specs.hwp_law_commands.Commands.{current_thread}
-use Rattle.hwp_law_records.specs.hwp_law.Places.{entry_at}
-use Rattle.hwp_law_records.proofs.of_hwp_law_run.Reported.{histories-lead, listed-entry}
-use Rattle.hwp_law_records.specs.hwp_cpu_check.Told.{required_by}
+use Rattle.hwp_law_served.specs.hwp_geom.declared.VSlot.{VSlot}
+use Rattle.hwp_law_served.specs.hwp_geom.declared.Cpu.{Cpu}
+use Rattle.hwp_law_served.specs.hwp_geom.declared.Layout.{Layout}
+use Rattle.hwp_law_served.specs.hwp_geom.declared.Page.{Page}
+use Rattle.hwp_law_served.specs.hwp_geom.declared.Thread.{Thread}
+use Rattle.hwp_law_served.specs.hwp_geom.declared.Who.{Who}
+use Rattle.hwp_law_served.specs.hwp_kill.declared.Code.{Code}
+use Rattle.hwp_law_served.specs.hwp_kill.declared.Code.TheVariants as codes
+use Rattle.hwp_law_served.specs.hwp_kill.declared.Seen.{Seen}
+use Rattle.hwp_law_served.specs.hwp_kill.declared.Signal.{Signal}
+use Rattle.hwp_law_served.specs.hwp_kill.Kill.{AreDue, Killed, Reaches}
+use Rattle.hwp_law_served.specs.hwp_page.declared.At.{At}
+use Rattle.hwp_law_served.specs.hwp_page.declared.Entry.{Entry}
+use Rattle.hwp_law_served.specs.hwp_page.declared.PageState.{PageState}
+use Rattle.hwp_law_served.specs.hwp_page.declared.What.{What}
+use Rattle.hwp_law_served.specs.hwp_page.declared.What.TheVariants as entries
+use Rattle.hwp_law_served.specs.hwp_page.Situations.{always_signals, is_signalling}
+use Rattle.hwp_law_served.specs.hwp_page.Step.{IsFailure}
+use Rattle.hwp_law_served.specs.hwp_core_rule.declared.State.{State}
+use Rattle.hwp_law_served.specs.hwp_core_task.Boards.{view_of}
+use Rattle.hwp_law_served.specs.hwp_claim_act.declared.Failed.{Failed}
+use Rattle.hwp_law_served.specs.hwp_claim_act.Abandons.{is_now, signals_now}
+use Rattle.hwp_law_served.specs.hwp_severity.declared.Severity.{Severity}
+use Rattle.hwp_law_served.specs.hwp_severity.declared.Severity.TheVariants as severities
+use Rattle.hwp_law_served.specs.hwp_script_read.declared.Command.{Command}
+use Rattle.hwp_law_served.specs.hwp_script_read.declared.Script.{Script}
+use Rattle.hwp_law_served.specs.hwp_report_text.declared.Report.{Report}
+use Rattle.hwp_law_served.specs.hwp_law.Causes.{IsSigbus, SendsSigbus}
+use Rattle.hwp_law_served.specs.hwp_law_commands.Commands.{current_thread}
+use Rattle.hwp_law_served.specs.hwp_law.Places.{entry_at}
+use Rattle.hwp_law_served.proofs.of_hwp_law_run.Reported.{histories-lead, listed-entry}
+use Rattle.hwp_law_served.specs.hwp_cpu_check.Told.{required_by}
 use Rattle.hwp_law_holds.proofs.AllowedThere.{allowed-there, had-so}
-use Rattle.hwp_law_records.proofs.of_hwp_law_served.deeds.Made.{some-so}
-use Rattle.hwp_law_records.proofs.of_hwp_law_served.RunEnds.{IsEnd}
-use Rattle.hwp_law_records.proofs.of_hwp_law_served.Seen.{HasSignalled, failure-entry, signalling}
+use Rattle.hwp_law_served.proofs.deeds.Made.{some-so}
+use Rattle.hwp_law_served.proofs.RunEnds.{IsEnd}
+use Rattle.hwp_law_served.proofs.Seen.{HasSignalled, failure-entry, signalling}
 
 -- the thread that has to handle its page's failure now
 pub record HasNow (required : Option Thread) (signals : List Signal) : Type 0 where

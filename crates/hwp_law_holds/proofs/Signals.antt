@@ -1,30 +1,30 @@
 -- A report that keeps the law tells failures, losses and poisoned frames as the model has them.
 use Rattle.std.proofs.Common.{◌≡◌, ◌≤◌, true, List, [], Option, None, Some, length, option_map, take, unwrap_or, refl, sym, ap, ◌∙◌, subst}
 use Rattle.std.specs.Prelude.{Contains}
-use Rattle.hwp_law_records.specs.hwp_geom.declared.Cpu.{Cpu}
-use Rattle.hwp_law_records.specs.hwp_geom.declared.Thread.{Thread}
-use Rattle.hwp_law_records.specs.hwp_kill.declared.Policy.{Policy}
-use Rattle.hwp_law_records.specs.hwp_kill.declared.Seen.{Seen}
-use Rattle.hwp_law_records.specs.hwp_kill.declared.Signal.{Signal}
-use Rattle.hwp_law_records.specs.hwp_kill.Kill.{Killed}
-use Rattle.hwp_law_records.specs.hwp_page.declared.At.{At}
-use Rattle.hwp_law_records.specs.hwp_page.declared.Entry.{Entry}
-use Rattle.hwp_law_records.specs.hwp_page.declared.PageState.{PageState}
-use Rattle.hwp_law_records.specs.hwp_page.declared.Situation.{Situation}
-use Rattle.hwp_law_records.specs.hwp_page.declared.What.TheVariants.{Fail}
-use Rattle.hwp_law_records.specs.hwp_page.Actions.{situation_of}
-use Rattle.hwp_law_records.specs.hwp_page.Situations.{always_signals, is_signalling}
-use Rattle.hwp_law_records.specs.hwp_page.Step.{IsFailure, IsSeenList}
-use Rattle.hwp_law_records.specs.hwp_script_read.declared.Script.{Script}
-use Rattle.hwp_law_records.specs.hwp_report_text.declared.Report.{Report}
-use Rattle.hwp_law_records.specs.hwp_law.Law.{IsLawful}
-use Rattle.hwp_law_records.specs.hwp_law.Places.{entry_at}
-use Rattle.hwp_law_records.specs.hwp_law_commands.Settings.{last_policy, settings}
-use Rattle.hwp_law_records.specs.hwp_law.Acting.{acting_script}
-use Rattle.hwp_law_records.specs.hwp_law.Policies.{answered_on}
-use Rattle.hwp_law_records.specs.hwp_law.SeenPolicies.{IsPolicySeen, answered_around, cpu_of_thread, seen_in}
-use Rattle.hwp_law_records.proofs.of_hwp_law_run.of_hwp_law.ActedLaws.{settings-acted}
-use Rattle.hwp_law_records.specs.hwp_law.States.{HadState}
+use Rattle.hwp_law_served.specs.hwp_geom.declared.Cpu.{Cpu}
+use Rattle.hwp_law_served.specs.hwp_geom.declared.Thread.{Thread}
+use Rattle.hwp_law_served.specs.hwp_kill.declared.Policy.{Policy}
+use Rattle.hwp_law_served.specs.hwp_kill.declared.Seen.{Seen}
+use Rattle.hwp_law_served.specs.hwp_kill.declared.Signal.{Signal}
+use Rattle.hwp_law_served.specs.hwp_kill.Kill.{Killed}
+use Rattle.hwp_law_served.specs.hwp_page.declared.At.{At}
+use Rattle.hwp_law_served.specs.hwp_page.declared.Entry.{Entry}
+use Rattle.hwp_law_served.specs.hwp_page.declared.PageState.{PageState}
+use Rattle.hwp_law_served.specs.hwp_page.declared.Situation.{Situation}
+use Rattle.hwp_law_served.specs.hwp_page.declared.What.TheVariants.{Fail}
+use Rattle.hwp_law_served.specs.hwp_page.Actions.{situation_of}
+use Rattle.hwp_law_served.specs.hwp_page.Situations.{always_signals, is_signalling}
+use Rattle.hwp_law_served.specs.hwp_page.Step.{IsFailure, IsSeenList}
+use Rattle.hwp_law_served.specs.hwp_script_read.declared.Script.{Script}
+use Rattle.hwp_law_served.specs.hwp_report_text.declared.Report.{Report}
+use Rattle.hwp_law_served.specs.hwp_law.Law.{IsLawful}
+use Rattle.hwp_law_served.specs.hwp_law.Places.{entry_at}
+use Rattle.hwp_law_served.specs.hwp_law_commands.Settings.{last_policy, settings}
+use Rattle.hwp_law_served.specs.hwp_law.Acting.{acting_script}
+use Rattle.hwp_law_served.specs.hwp_law.Policies.{answered_on}
+use Rattle.hwp_law_served.specs.hwp_law.SeenPolicies.{IsPolicySeen, answered_around, cpu_of_thread, seen_in}
+use Rattle.hwp_law_served.proofs.of_hwp_law_run.of_hwp_law.ActedLaws.{settings-acted}
+use Rattle.hwp_law_served.specs.hwp_law.States.{HadState}
 use Rattle.hwp_law_holds.specs.Signals.{AreFailuresAsModel, IsFailureAsModel}
 use Rattle.hwp_law_holds.proofs.AllowedThere.{allowed-there, had-so}
 

@@ -4,41 +4,41 @@ use Rattle.std.specs.List.{list_any}
 use Rattle.std.specs.Option.{option_or}
 use Rattle.std.proofs.lemmas.Bool.{and_from, eq-eqb}
 use Rattle.std.proofs.lemmas.Option.{none-some, same_Some}
-use Rattle.hwp_law_records.specs.hwp_geom.declared.Frame.{Frame}
-use Rattle.hwp_law_records.specs.hwp_geom.declared.Layout.{Layout}
-use Rattle.hwp_law_records.specs.hwp_geom.declared.Thread.{Thread}
-use Rattle.hwp_law_records.specs.hwp_geom.declared.Who.{Who}
-use Rattle.hwp_law_records.specs.hwp_banks.Addresses.{frame_at}
-use Rattle.hwp_law_records.specs.hwp_page.declared.Outcome.{Outcome}
-use Rattle.hwp_law_records.specs.hwp_page.declared.Outcome.TheVariants as outcomes
-use Rattle.hwp_law_records.specs.hwp_page.Situations.{outcome_of}
-use Rattle.hwp_law_records.specs.hwp_core_rule.declared.View.{View}
-use Rattle.hwp_law_records.specs.hwp_core_rule.Lists.{EachMember}
-use Rattle.hwp_law_records.proofs.of_hwp_core_rule.Lists.{at_map}
-use Rattle.hwp_law_records.specs.hwp_severity.declared.Severity.{Severity}
-use Rattle.hwp_law_records.specs.hwp_severity.declared.Severity.TheVariants as severities
-use Rattle.hwp_law_records.specs.hwp_script_read.declared.Command.{Command}
-use Rattle.hwp_law_records.specs.hwp_script_read.declared.Command.TheVariants as commands
-use Rattle.hwp_law_records.specs.hwp_script_read.declared.Script.{Script}
-use Rattle.hwp_law_records.specs.hwp_report_text.declared.Acted.{Acted}
-use Rattle.hwp_law_records.specs.hwp_report_text.declared.Acted.TheVariants as acts
-use Rattle.hwp_law_records.specs.hwp_report_text.declared.EventLine.{EventLine}
-use Rattle.hwp_law_records.specs.hwp_report_text.declared.Report.{Report}
-use Rattle.hwp_law_records.specs.hwp_report_text.declared.StopCause.{StopCause}
-use Rattle.hwp_law_records.specs.hwp_law_commands.Notes.{ends_machine}
-use Rattle.hwp_law_records.specs.hwp_report_text.Acts.{is_panic, is_stopping}
-use Rattle.hwp_law_records.specs.hwp_law_commands.Commands.{arrival_of}
-use Rattle.hwp_law_records.specs.hwp_law.Halts.{CanStop as CanStopFor, Panics, is_panic_of}
-use Rattle.hwp_law_records.specs.hwp_law.Lines.{events_of}
-use Rattle.hwp_law_records.specs.hwp_law_commands.Outcomes.{outcome_act}
-use Rattle.hwp_law_records.specs.hwp_claim.declared.Found.{Found}
-use Rattle.hwp_law_records.specs.hwp_cpu_check.declared.EventOutcome.{EventOutcome}
-use Rattle.hwp_law_records.specs.hwp_cpu_check.Fits.{IsDone, IsFailed}
-use Rattle.hwp_law_records.specs.hwp_cpu_check.Told.{at_once, frame_of, halts, required_by, severity_at_once}
-use Rattle.hwp_law_records.specs.hwp_law_served.hwp_cpu_row.Acts.{event_at}
-use Rattle.hwp_law_records.specs.hwp_law_served.Runs.{IsCauseOf, panic_cause, severity_cause, told_cause}
-use Rattle.hwp_law_records.specs.hwp_law_served.Served.{CanStop}
-use Rattle.hwp_law_records.proofs.of_hwp_law_served.RowTold.{IsToldRight}
+use Rattle.hwp_law_served.specs.hwp_geom.declared.Frame.{Frame}
+use Rattle.hwp_law_served.specs.hwp_geom.declared.Layout.{Layout}
+use Rattle.hwp_law_served.specs.hwp_geom.declared.Thread.{Thread}
+use Rattle.hwp_law_served.specs.hwp_geom.declared.Who.{Who}
+use Rattle.hwp_law_served.specs.hwp_banks.Addresses.{frame_at}
+use Rattle.hwp_law_served.specs.hwp_page.declared.Outcome.{Outcome}
+use Rattle.hwp_law_served.specs.hwp_page.declared.Outcome.TheVariants as outcomes
+use Rattle.hwp_law_served.specs.hwp_page.Situations.{outcome_of}
+use Rattle.hwp_law_served.specs.hwp_core_rule.declared.View.{View}
+use Rattle.hwp_law_served.specs.hwp_core_rule.Lists.{EachMember}
+use Rattle.hwp_law_served.proofs.of_hwp_core_rule.Lists.{at_map}
+use Rattle.hwp_law_served.specs.hwp_severity.declared.Severity.{Severity}
+use Rattle.hwp_law_served.specs.hwp_severity.declared.Severity.TheVariants as severities
+use Rattle.hwp_law_served.specs.hwp_script_read.declared.Command.{Command}
+use Rattle.hwp_law_served.specs.hwp_script_read.declared.Command.TheVariants as commands
+use Rattle.hwp_law_served.specs.hwp_script_read.declared.Script.{Script}
+use Rattle.hwp_law_served.specs.hwp_report_text.declared.Acted.{Acted}
+use Rattle.hwp_law_served.specs.hwp_report_text.declared.Acted.TheVariants as acts
+use Rattle.hwp_law_served.specs.hwp_report_text.declared.EventLine.{EventLine}
+use Rattle.hwp_law_served.specs.hwp_report_text.declared.Report.{Report}
+use Rattle.hwp_law_served.specs.hwp_report_text.declared.StopCause.{StopCause}
+use Rattle.hwp_law_served.specs.hwp_law_commands.Notes.{ends_machine}
+use Rattle.hwp_law_served.specs.hwp_report_text.Acts.{is_panic, is_stopping}
+use Rattle.hwp_law_served.specs.hwp_law_commands.Commands.{arrival_of}
+use Rattle.hwp_law_served.specs.hwp_law.Halts.{CanStop as CanStopFor, Panics, is_panic_of}
+use Rattle.hwp_law_served.specs.hwp_law.Lines.{events_of}
+use Rattle.hwp_law_served.specs.hwp_law_commands.Outcomes.{outcome_act}
+use Rattle.hwp_law_served.specs.hwp_claim.declared.Found.{Found}
+use Rattle.hwp_law_served.specs.hwp_cpu_check.declared.EventOutcome.{EventOutcome}
+use Rattle.hwp_law_served.specs.hwp_cpu_check.Fits.{IsDone, IsFailed}
+use Rattle.hwp_law_served.specs.hwp_cpu_check.Told.{at_once, frame_of, halts, required_by, severity_at_once}
+use Rattle.hwp_law_served.specs.hwp_cpu_row.Acts.{event_at}
+use Rattle.hwp_law_served.specs.Runs.{IsCauseOf, panic_cause, severity_cause, told_cause}
+use Rattle.hwp_law_served.specs.Served.{CanStop}
+use Rattle.hwp_law_served.proofs.RowTold.{IsToldRight}
 
 -- ---- lists
 

@@ -1,1 +1,15 @@
+pub mod Checks
+pub mod Scrubbed
+pub mod RowEvents
+pub mod Events
+pub mod SpoiledLines
+pub mod RecordLines
+pub mod LineOrder
+pub mod Records
+pub mod SoftLines
+pub mod FrameLines
+pub mod Recorded
+pub mod Framed
+pub mod ScrubLines
+pub mod ScrubShown
 pub mod NamedEvents

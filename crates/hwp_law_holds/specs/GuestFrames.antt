@@ -1,20 +1,20 @@
 -- What accesses of a guest make behind a machine check of the guest.
 use Rattle.std.specs.Prelude.{◌≡◌, ◌≢◌, Some}
-use Rattle.hwp_law_records.specs.hwp_geom.declared.Mode.TheVariants.{Kernel}
-use Rattle.hwp_law_records.specs.hwp_geom.declared.Who.{Who}
-use Rattle.hwp_law_records.specs.hwp_page.declared.At.{At}
-use Rattle.hwp_law_records.specs.hwp_page.declared.Entry.{Entry}
-use Rattle.hwp_law_records.specs.hwp_page.Orders.{IsEarlier}
-use Rattle.hwp_law_records.specs.hwp_script_read.declared.Command.{Command}
-use Rattle.hwp_law_records.specs.hwp_script_read.declared.Script.{Script}
-use Rattle.hwp_law_records.specs.hwp_report_text.declared.Answer.TheVariants.{Sigbus}
-use Rattle.hwp_law_records.specs.hwp_report_text.declared.Report.{Report}
-use Rattle.hwp_law_records.specs.hwp_law_commands.Commands.{command_at}
-use Rattle.hwp_law_records.specs.hwp_law_commands.declared.GuestAccess.{GuestAccess}
-use Rattle.hwp_law_records.specs.hwp_law_commands.Guests.{guest_access}
-use Rattle.hwp_law_records.specs.hwp_law.Copies.{slot_in}
-use Rattle.hwp_law_records.specs.hwp_law.Lines.{answer_of}
-use Rattle.hwp_law_records.specs.hwp_law.Places.{entry_at}
+use Rattle.hwp_law_served.specs.hwp_geom.declared.Mode.TheVariants.{Kernel}
+use Rattle.hwp_law_served.specs.hwp_geom.declared.Who.{Who}
+use Rattle.hwp_law_served.specs.hwp_page.declared.At.{At}
+use Rattle.hwp_law_served.specs.hwp_page.declared.Entry.{Entry}
+use Rattle.hwp_law_served.specs.hwp_page.Orders.{IsEarlier}
+use Rattle.hwp_law_served.specs.hwp_script_read.declared.Command.{Command}
+use Rattle.hwp_law_served.specs.hwp_script_read.declared.Script.{Script}
+use Rattle.hwp_law_served.specs.hwp_report_text.declared.Answer.TheVariants.{Sigbus}
+use Rattle.hwp_law_served.specs.hwp_report_text.declared.Report.{Report}
+use Rattle.hwp_law_served.specs.hwp_law_commands.Commands.{command_at}
+use Rattle.hwp_law_served.specs.hwp_law_commands.declared.GuestAccess.{GuestAccess}
+use Rattle.hwp_law_served.specs.hwp_law_commands.Guests.{guest_access}
+use Rattle.hwp_law_served.specs.hwp_law.Copies.{slot_in}
+use Rattle.hwp_law_served.specs.hwp_law.Lines.{answer_of}
+use Rattle.hwp_law_served.specs.hwp_law.Places.{entry_at}
 
 -- the command is this access of a guest
 pub record IsGuestsAccess (script : Script) (who : Who) (a : GuestAccess) : Type 0 where

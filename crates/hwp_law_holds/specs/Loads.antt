@@ -1,29 +1,29 @@
 -- What a load of a report got, and what its command was shown before.
 use Rattle.std.specs.Prelude.{◌≡◌, ℕ, List, Some, IsBitSet, IsTrue, slice_index}
 use Rattle.std.specs.FinSet as set
-use Rattle.hwp_law_records.specs.hwp_geom.declared.Frame.{Frame}
-use Rattle.hwp_law_records.specs.hwp_geom.declared.Layout.{Layout}
-use Rattle.hwp_law_records.specs.hwp_geom.declared.Mask.{Mask}
-use Rattle.hwp_law_records.specs.hwp_geom.declared.Page.{Page}
-use Rattle.hwp_law_records.specs.hwp_geom.declared.VSlot.{VSlot}
-use Rattle.hwp_law_records.specs.hwp_geom.declared.Who.{Who}
-use Rattle.hwp_law_records.specs.hwp_page.declared.At.{At}
-use Rattle.hwp_law_records.specs.hwp_page.declared.Entry.{Entry}
-use Rattle.hwp_law_records.specs.hwp_page.declared.Met.TheVariants.{Word}
-use Rattle.hwp_law_records.specs.hwp_page.declared.PageState.{PageState}
-use Rattle.hwp_law_records.specs.hwp_page.declared.What.TheVariants.{Load}
-use Rattle.hwp_law_records.specs.hwp_core_rule.declared.FrameLock.{FrameLock}
-use Rattle.hwp_law_records.specs.hwp_core_rule.declared.InHand.{InHand}
-use Rattle.hwp_law_records.specs.hwp_core_rule.declared.SharedWord.TheVariants as places
-use Rattle.hwp_law_records.specs.hwp_core_rule.declared.Rec.{Rec}
-use Rattle.hwp_law_records.specs.hwp_core_rule.declared.View.{View}
-use Rattle.hwp_law_records.specs.hwp_core_rule.Lists.{SomeMember}
-use Rattle.hwp_law_records.specs.hwp_core_rule.Steps.{place_of}
-use Rattle.hwp_law_records.specs.hwp_core_task.Boards.{Played}
-use Rattle.hwp_law_records.specs.hwp_report_text.declared.Report.{Report}
-use Rattle.hwp_law_records.specs.hwp_law.Places.{entry_at}
-use Rattle.hwp_law_records.specs.hwp_law.States.{HadState}
-use Rattle.hwp_law_records.specs.hwp_law_run.Turns.{TurnBy}
+use Rattle.hwp_law_served.specs.hwp_geom.declared.Frame.{Frame}
+use Rattle.hwp_law_served.specs.hwp_geom.declared.Layout.{Layout}
+use Rattle.hwp_law_served.specs.hwp_geom.declared.Mask.{Mask}
+use Rattle.hwp_law_served.specs.hwp_geom.declared.Page.{Page}
+use Rattle.hwp_law_served.specs.hwp_geom.declared.VSlot.{VSlot}
+use Rattle.hwp_law_served.specs.hwp_geom.declared.Who.{Who}
+use Rattle.hwp_law_served.specs.hwp_page.declared.At.{At}
+use Rattle.hwp_law_served.specs.hwp_page.declared.Entry.{Entry}
+use Rattle.hwp_law_served.specs.hwp_page.declared.Met.TheVariants.{Word}
+use Rattle.hwp_law_served.specs.hwp_page.declared.PageState.{PageState}
+use Rattle.hwp_law_served.specs.hwp_page.declared.What.TheVariants.{Load}
+use Rattle.hwp_law_served.specs.hwp_core_rule.declared.FrameLock.{FrameLock}
+use Rattle.hwp_law_served.specs.hwp_core_rule.declared.InHand.{InHand}
+use Rattle.hwp_law_served.specs.hwp_core_rule.declared.SharedWord.TheVariants as places
+use Rattle.hwp_law_served.specs.hwp_core_rule.declared.Rec.{Rec}
+use Rattle.hwp_law_served.specs.hwp_core_rule.declared.View.{View}
+use Rattle.hwp_law_served.specs.hwp_core_rule.Lists.{SomeMember}
+use Rattle.hwp_law_served.specs.hwp_core_rule.Steps.{place_of}
+use Rattle.hwp_law_served.specs.hwp_core_task.Boards.{Played}
+use Rattle.hwp_law_served.specs.hwp_report_text.declared.Report.{Report}
+use Rattle.hwp_law_served.specs.hwp_law.Places.{entry_at}
+use Rattle.hwp_law_served.specs.hwp_law.States.{HadState}
+use Rattle.hwp_law_served.specs.hwp_law_run.Turns.{TurnBy}
 
 -- the seat has the frame's lock, and in hand the body of the page, which it took from the frame
 pub record HasPageIn (page : Page) (frame : Frame) (view : View) : Type 0 where

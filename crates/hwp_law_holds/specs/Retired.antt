@@ -1,18 +1,18 @@
 -- Handled frames: out of use, on every board of a run.
 use Rattle.std.specs.Prelude.{◌≡◌, ◌≢◌, ℕ, ◌+◌, List, ◌++◌, Some, None, map, slice_get}
-use Rattle.hwp_law_records.specs.hwp_geom.declared.Frame.{Frame}
-use Rattle.hwp_law_records.specs.hwp_geom.declared.Layout.{Layout}
-use Rattle.hwp_law_records.specs.hwp_geom.declared.Page.{Page}
-use Rattle.hwp_law_records.specs.hwp_geom.declared.VSlot.{VSlot}
-use Rattle.hwp_law_records.specs.hwp_words.Frames.{handled_of, lock_of, owner_of, poison_of}
-use Rattle.hwp_law_records.specs.hwp_core_rule.declared.State.{State}
-use Rattle.hwp_law_records.specs.hwp_core_rule.declared.View.{View}
-use Rattle.hwp_law_records.specs.hwp_core_rule.Lists.{Homes}
-use Rattle.hwp_law_records.specs.hwp_core_rule.Opening.{opening}
-use Rattle.hwp_law_records.specs.hwp_core_rule.Words.{Words, free_bit, words_of}
-use Rattle.hwp_law_records.specs.hwp_core_rule.parts.Places.{in_hand}
-use Rattle.hwp_law_records.specs.hwp_core_task.Boards.{Played}
-use Rattle.hwp_law_records.specs.hwp_law_run.Turns.{Leads}
+use Rattle.hwp_law_served.specs.hwp_geom.declared.Frame.{Frame}
+use Rattle.hwp_law_served.specs.hwp_geom.declared.Layout.{Layout}
+use Rattle.hwp_law_served.specs.hwp_geom.declared.Page.{Page}
+use Rattle.hwp_law_served.specs.hwp_geom.declared.VSlot.{VSlot}
+use Rattle.hwp_law_served.specs.hwp_words.Frames.{handled_of, lock_of, owner_of, poison_of}
+use Rattle.hwp_law_served.specs.hwp_core_rule.declared.State.{State}
+use Rattle.hwp_law_served.specs.hwp_core_rule.declared.View.{View}
+use Rattle.hwp_law_served.specs.hwp_core_rule.Lists.{Homes}
+use Rattle.hwp_law_served.specs.hwp_core_rule.Opening.{opening}
+use Rattle.hwp_law_served.specs.hwp_core_rule.Words.{Words, free_bit, words_of}
+use Rattle.hwp_law_served.specs.hwp_core_rule.parts.Places.{in_hand}
+use Rattle.hwp_law_served.specs.hwp_core_task.Boards.{Played}
+use Rattle.hwp_law_served.specs.hwp_law_run.Turns.{Leads}
 
 -- The frame is out of use: it is poisoned, its free bit is 0, it is in nobody's hand, no page owns it, and no translation word
 -- and no cache word names it, which each would do by the frame's number plus 1. While it isn't locked, its slot has no page's

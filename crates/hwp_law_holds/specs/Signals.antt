@@ -1,25 +1,25 @@
 -- What the report of a run says of failures, as its reader wants it.
 use Rattle.std.specs.Prelude.{◌≡◌, true, List, Option, Some, count_by, Contains}
-use Rattle.hwp_law_records.specs.hwp_geom.declared.Thread.{Thread}
-use Rattle.hwp_law_records.specs.hwp_kill.declared.Seen.{Seen}
-use Rattle.hwp_law_records.specs.hwp_kill.declared.Signal.{Signal}
-use Rattle.hwp_law_records.specs.hwp_kill.Kill.{Killed}
-use Rattle.hwp_law_records.specs.hwp_page.declared.At.{At}
-use Rattle.hwp_law_records.specs.hwp_page.declared.Entry.{Entry}
-use Rattle.hwp_law_records.specs.hwp_page.declared.PageState.{PageState}
-use Rattle.hwp_law_records.specs.hwp_page.declared.Situation.{Situation}
-use Rattle.hwp_law_records.specs.hwp_page.declared.What.TheVariants.{Fail}
-use Rattle.hwp_law_records.specs.hwp_page.Actions.{situation_of}
-use Rattle.hwp_law_records.specs.hwp_page.Situations.{always_signals, is_signalling}
-use Rattle.hwp_law_records.specs.hwp_page.Step.{IsSeenList}
-use Rattle.hwp_law_records.specs.hwp_script_read.declared.Script.{Script}
-use Rattle.hwp_law_records.specs.hwp_report_text.declared.FrameLine.{FrameLine}
-use Rattle.hwp_law_records.specs.hwp_report_text.declared.Report.{Report}
-use Rattle.hwp_law_records.specs.hwp_law.Losses.{LossesAgree}
-use Rattle.hwp_law_records.specs.hwp_law.Places.{entry_at}
-use Rattle.hwp_law_records.specs.hwp_law.Records.{ends_poisoned}
-use Rattle.hwp_law_records.specs.hwp_law.SeenPolicies.{IsPolicySeen}
-use Rattle.hwp_law_records.specs.hwp_law.States.{HadState}
+use Rattle.hwp_law_served.specs.hwp_geom.declared.Thread.{Thread}
+use Rattle.hwp_law_served.specs.hwp_kill.declared.Seen.{Seen}
+use Rattle.hwp_law_served.specs.hwp_kill.declared.Signal.{Signal}
+use Rattle.hwp_law_served.specs.hwp_kill.Kill.{Killed}
+use Rattle.hwp_law_served.specs.hwp_page.declared.At.{At}
+use Rattle.hwp_law_served.specs.hwp_page.declared.Entry.{Entry}
+use Rattle.hwp_law_served.specs.hwp_page.declared.PageState.{PageState}
+use Rattle.hwp_law_served.specs.hwp_page.declared.Situation.{Situation}
+use Rattle.hwp_law_served.specs.hwp_page.declared.What.TheVariants.{Fail}
+use Rattle.hwp_law_served.specs.hwp_page.Actions.{situation_of}
+use Rattle.hwp_law_served.specs.hwp_page.Situations.{always_signals, is_signalling}
+use Rattle.hwp_law_served.specs.hwp_page.Step.{IsSeenList}
+use Rattle.hwp_law_served.specs.hwp_script_read.declared.Script.{Script}
+use Rattle.hwp_law_served.specs.hwp_report_text.declared.FrameLine.{FrameLine}
+use Rattle.hwp_law_served.specs.hwp_report_text.declared.Report.{Report}
+use Rattle.hwp_law_served.specs.hwp_law.Losses.{LossesAgree}
+use Rattle.hwp_law_served.specs.hwp_law.Places.{entry_at}
+use Rattle.hwp_law_served.specs.hwp_law.Records.{ends_poisoned}
+use Rattle.hwp_law_served.specs.hwp_law.SeenPolicies.{IsPolicySeen}
+use Rattle.hwp_law_served.specs.hwp_law.States.{HadState}
 
 -- A failure found the page in a frame, in the situation of the state that the page had at the entry's place. It read the policies
 -- of the threads that the kill table asks about, and sent the signals that the table gives for them; or none of either, where

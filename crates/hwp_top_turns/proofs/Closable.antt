@@ -41,7 +41,7 @@ use Rattle.hwp_top_report.proofs.of_hwp_law_served.lines.FrameRecords.{AreNoted}
 use Rattle.hwp_top_report.proofs.of_hwp_law_served.copied.Acted.{acted}
 use Rattle.hwp_top_report.proofs.of_hwp_law_served.copied.CopyTells.{told-so}
 use Rattle.hwp_top_report.proofs.of_hwp_law_served.copied.RunActed.{copies_by, served-alone}
-use Rattle.hwp_law_holds.proofs.of_hwp_law_records.marks.RowNotes.{notes-at, notes-fit}
+use Rattle.hwp_law_holds.proofs.marks.RowNotes.{notes-at, notes-fit}
 use Rattle.hwp_top_report.specs.Closing.{IsEnded, IsHalter, IsNamed, IsTellable, lines_of_all}
 use Rattle.hwp_top_report.proofs.Noted.{are-marks}
 

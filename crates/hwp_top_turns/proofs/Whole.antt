@@ -23,7 +23,7 @@ use Rattle.hwp_top_report.proofs.of_hwp_law_served.LastBoard.{stops-first, were-
 use Rattle.hwp_top_report.proofs.of_hwp_law_served.copied.RunActed.{acting-long, run-served, run-stops}
 use Rattle.hwp_law_holds.proofs.Lawful.{law-holds}
 use Rattle.hwp_law_holds.proofs.copied.Apart.{run-apart}
-use Rattle.hwp_law_holds.proofs.of_hwp_law_sights.AnswerSights.{report-shown, scrubs-shown}
+use Rattle.hwp_law_holds.proofs.AnswerSights.{report-shown, scrubs-shown}
 use Rattle.hwp_table_words.specs.Ends.{EndValue}
 use Rattle.hwp_top_report.specs.Closing.{IsClosing}
 use Rattle.hwp_top_turns.specs.Runs.{HasClosed, HasEnded, HasEndedAt, IsCoreRun, IsFinished, IsPlayed, IsReportOf, IsTablePlayed, IsTableRun, own_seat}

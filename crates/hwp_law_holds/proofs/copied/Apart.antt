@@ -2,28 +2,28 @@
 use Rattle.std.proofs.Common.{◌≡◌, ◌≢◌, ◌&&◌, ℕ, ◌+◌, Bool, true, false, not, List, [], ◌∷◌, Option, None, Some, fold, option_and_then, option_map, slice_get, unwrap_or, if◌then◌else◌, refl, sym, ap, ◌∙◌, subst, true≢false}
 use Rattle.std.specs.Prelude.{IsSomeAnd}
 use Rattle.std.proofs.lemmas.Option.{none-some, same_Some}
-use Rattle.hwp_law_records.specs.hwp_geom.declared.Layout.{Layout}
-use Rattle.hwp_law_records.specs.hwp_geom.declared.Page.{Page}
-use Rattle.hwp_law_records.specs.hwp_geom.declared.Thread.{Thread}
-use Rattle.hwp_law_records.specs.hwp_geom.declared.TransDecl.{TransDecl}
-use Rattle.hwp_law_records.specs.hwp_geom.declared.VSlot.{VSlot}
-use Rattle.hwp_law_records.specs.hwp_geom.declared.Who.{Who}
-use Rattle.hwp_law_records.specs.hwp_page.Step.{IsOf}
-use Rattle.hwp_law_records.specs.hwp_report_text.declared.Answer.{Answer}
-use Rattle.hwp_law_records.specs.hwp_report_text.declared.Answer.TheVariants as answers
-use Rattle.hwp_law_records.specs.hwp_report_text.declared.Report.{Report}
-use Rattle.hwp_law_records.specs.hwp_script_read.Valid.{IsAnon, IsTwinFit, IsValid}
-use Rattle.hwp_law_records.specs.hwp_script_read.declared.Command.{Command}
-use Rattle.hwp_law_records.specs.hwp_script_read.declared.Command.TheVariants as commands
-use Rattle.hwp_law_records.specs.hwp_script_read.declared.Script.{Script}
-use Rattle.hwp_law_records.specs.hwp_law_commands.Commands.{command_at}
-use Rattle.hwp_law_records.specs.hwp_law_commands.Cows.{Cow, acting, copied_from, cow_after, cow_of, own_page, twin_or}
-use Rattle.hwp_law_records.specs.hwp_law.Acting.{acting_script, copied_at}
-use Rattle.hwp_law_records.specs.hwp_law.Policies.{answered_before}
-use Rattle.hwp_law_records.specs.hwp_law.Private.{freeze_from}
-use Rattle.hwp_law_records.proofs.of_hwp_law_run.of_hwp_law.ActedLaws.{command-acted}
-use Rattle.hwp_law_records.specs.hwp_law_served.Runs.{AreApart}
-use Rattle.hwp_law_private.proofs.Forked.{IsForked, forked}
+use Rattle.hwp_law_served.specs.hwp_geom.declared.Layout.{Layout}
+use Rattle.hwp_law_served.specs.hwp_geom.declared.Page.{Page}
+use Rattle.hwp_law_served.specs.hwp_geom.declared.Thread.{Thread}
+use Rattle.hwp_law_served.specs.hwp_geom.declared.TransDecl.{TransDecl}
+use Rattle.hwp_law_served.specs.hwp_geom.declared.VSlot.{VSlot}
+use Rattle.hwp_law_served.specs.hwp_geom.declared.Who.{Who}
+use Rattle.hwp_law_served.specs.hwp_page.Step.{IsOf}
+use Rattle.hwp_law_served.specs.hwp_report_text.declared.Answer.{Answer}
+use Rattle.hwp_law_served.specs.hwp_report_text.declared.Answer.TheVariants as answers
+use Rattle.hwp_law_served.specs.hwp_report_text.declared.Report.{Report}
+use Rattle.hwp_law_served.specs.hwp_script_read.Valid.{IsAnon, IsTwinFit, IsValid}
+use Rattle.hwp_law_served.specs.hwp_script_read.declared.Command.{Command}
+use Rattle.hwp_law_served.specs.hwp_script_read.declared.Command.TheVariants as commands
+use Rattle.hwp_law_served.specs.hwp_script_read.declared.Script.{Script}
+use Rattle.hwp_law_served.specs.hwp_law_commands.Commands.{command_at}
+use Rattle.hwp_law_served.specs.hwp_law_commands.Cows.{Cow, acting, copied_from, cow_after, cow_of, own_page, twin_or}
+use Rattle.hwp_law_served.specs.hwp_law.Acting.{acting_script, copied_at}
+use Rattle.hwp_law_served.specs.hwp_law.Policies.{answered_before}
+use Rattle.hwp_law_served.specs.hwp_law.Private.{freeze_from}
+use Rattle.hwp_law_served.proofs.of_hwp_law_run.of_hwp_law.ActedLaws.{command-acted}
+use Rattle.hwp_law_served.specs.Runs.{AreApart}
+use Rattle.hwp_law_holds.proofs.forks.Forked.{IsForked, forked}
 
 -- ---- what is frozen was frozen by a fork
 

@@ -1,58 +1,58 @@
 -- The report shows the cause of the answer of each command, also of a store that copied a page first.
 use Rattle.std.proofs.Common.{◌≡◌, inl, inr, ℕ, ◌<◌, List, [], ◌∷◌, ◌++◌, Option, None, Some, length, slice_get, option_and_then, take, append_assoc, refl, sym, ap, ◌∙◌}
 use Rattle.std.proofs.lemmas.List.{length-map}
-use Rattle.hwp_law_records.specs.hwp_geom.declared.Cpu.{Cpu}
-use Rattle.hwp_law_records.specs.hwp_geom.declared.Page.{Page}
-use Rattle.hwp_law_records.specs.hwp_geom.declared.Thread.{Thread}
-use Rattle.hwp_law_records.specs.hwp_geom.declared.VSlot.{VSlot}
-use Rattle.hwp_law_records.specs.hwp_geom.declared.Who.{Who}
-use Rattle.hwp_law_records.specs.hwp_banks.Banks.{Banks}
-use Rattle.hwp_law_records.specs.hwp_page.declared.At.{At}
-use Rattle.hwp_law_records.specs.hwp_page.declared.Met.TheVariants.{Sigbus}
-use Rattle.hwp_law_records.specs.hwp_page.declared.What.{What}
-use Rattle.hwp_law_records.specs.hwp_page.declared.What.TheVariants as entries
-use Rattle.hwp_law_records.specs.hwp_core_rule.declared.Made.{Made}
-use Rattle.hwp_law_records.specs.hwp_core_rule.declared.State.{State}
-use Rattle.hwp_law_records.specs.hwp_core_rule.declared.View.{View}
-use Rattle.hwp_law_records.proofs.of_hwp_core_rule.Lists.{at_last, at_longer}
-use Rattle.hwp_law_records.specs.hwp_core_task.Boards.{view_of}
-use Rattle.hwp_law_records.specs.hwp_core_task.Known.{IsAt, deeds}
-use Rattle.hwp_law_records.specs.hwp_script_read.declared.Command.{Command}
-use Rattle.hwp_law_records.specs.hwp_script_read.declared.Command.TheVariants as commands
-use Rattle.hwp_law_records.specs.hwp_script_read.declared.Script.{Script}
-use Rattle.hwp_law_records.specs.hwp_report_text.declared.Answer.{Answer}
-use Rattle.hwp_law_records.specs.hwp_report_text.declared.Answer.TheVariants as answers
-use Rattle.hwp_law_records.specs.hwp_report_text.declared.EventLine.{EventLine}
-use Rattle.hwp_law_records.specs.hwp_report_text.declared.MarkLine.{MarkLine}
-use Rattle.hwp_law_records.specs.hwp_report_text.declared.Report.{Report}
-use Rattle.hwp_law_records.specs.hwp_law.Causes.{ComesTo, IsCaused as IsLawCaused, IsSigbus, TakesBack}
-use Rattle.hwp_law_records.specs.hwp_law_commands.Commands.{command_at}
-use Rattle.hwp_law_records.specs.hwp_law.Policies.{answered_before}
-use Rattle.hwp_law_records.specs.hwp_law.Records.{how_in}
-use Rattle.hwp_law_records.specs.hwp_cpu_row.declared.FrameChange.{FrameChange}
-use Rattle.hwp_law_records.specs.hwp_cpu_row.declared.FrameChange.TheVariants as owns
-use Rattle.hwp_law_records.specs.hwp_cpu_row.declared.Row.{Row}
-use Rattle.hwp_law_records.specs.hwp_cpu_check.declared.EventOutcome.{EventOutcome}
-use Rattle.hwp_law_records.specs.hwp_fault.declared.Request.{Request}
-use Rattle.hwp_law_records.specs.hwp_fault.Touches.{refusal_by}
-use Rattle.hwp_law_records.specs.hwp_cpu_copy.Runs.{made_by}
-use Rattle.hwp_law_records.specs.hwp_law_served.Causes.{IsCausedWith}
-use Rattle.hwp_law_records.specs.hwp_law_served.Copied.{IsCopyCaused, IsCopyEnded, store_by, sub_next}
-use Rattle.hwp_law_records.specs.hwp_law_served.Rows.{offlined}
-use Rattle.hwp_law_records.specs.hwp_law_served.hwp_cpu_row.Acts.{event_at}
-use Rattle.hwp_law_records.specs.hwp_law_served.Runs.{row_at}
+use Rattle.hwp_law_served.specs.hwp_geom.declared.Cpu.{Cpu}
+use Rattle.hwp_law_served.specs.hwp_geom.declared.Page.{Page}
+use Rattle.hwp_law_served.specs.hwp_geom.declared.Thread.{Thread}
+use Rattle.hwp_law_served.specs.hwp_geom.declared.VSlot.{VSlot}
+use Rattle.hwp_law_served.specs.hwp_geom.declared.Who.{Who}
+use Rattle.hwp_law_served.specs.hwp_banks.Banks.{Banks}
+use Rattle.hwp_law_served.specs.hwp_page.declared.At.{At}
+use Rattle.hwp_law_served.specs.hwp_page.declared.Met.TheVariants.{Sigbus}
+use Rattle.hwp_law_served.specs.hwp_page.declared.What.{What}
+use Rattle.hwp_law_served.specs.hwp_page.declared.What.TheVariants as entries
+use Rattle.hwp_law_served.specs.hwp_core_rule.declared.Made.{Made}
+use Rattle.hwp_law_served.specs.hwp_core_rule.declared.State.{State}
+use Rattle.hwp_law_served.specs.hwp_core_rule.declared.View.{View}
+use Rattle.hwp_law_served.proofs.of_hwp_core_rule.Lists.{at_last, at_longer}
+use Rattle.hwp_law_served.specs.hwp_core_task.Boards.{view_of}
+use Rattle.hwp_law_served.specs.hwp_core_task.Known.{IsAt, deeds}
+use Rattle.hwp_law_served.specs.hwp_script_read.declared.Command.{Command}
+use Rattle.hwp_law_served.specs.hwp_script_read.declared.Command.TheVariants as commands
+use Rattle.hwp_law_served.specs.hwp_script_read.declared.Script.{Script}
+use Rattle.hwp_law_served.specs.hwp_report_text.declared.Answer.{Answer}
+use Rattle.hwp_law_served.specs.hwp_report_text.declared.Answer.TheVariants as answers
+use Rattle.hwp_law_served.specs.hwp_report_text.declared.EventLine.{EventLine}
+use Rattle.hwp_law_served.specs.hwp_report_text.declared.MarkLine.{MarkLine}
+use Rattle.hwp_law_served.specs.hwp_report_text.declared.Report.{Report}
+use Rattle.hwp_law_served.specs.hwp_law.Causes.{ComesTo, IsCaused as IsLawCaused, IsSigbus, TakesBack}
+use Rattle.hwp_law_served.specs.hwp_law_commands.Commands.{command_at}
+use Rattle.hwp_law_served.specs.hwp_law.Policies.{answered_before}
+use Rattle.hwp_law_served.specs.hwp_law.Records.{how_in}
+use Rattle.hwp_law_served.specs.hwp_cpu_row.declared.FrameChange.{FrameChange}
+use Rattle.hwp_law_served.specs.hwp_cpu_row.declared.FrameChange.TheVariants as owns
+use Rattle.hwp_law_served.specs.hwp_cpu_row.declared.Row.{Row}
+use Rattle.hwp_law_served.specs.hwp_cpu_check.declared.EventOutcome.{EventOutcome}
+use Rattle.hwp_law_served.specs.hwp_fault.declared.Request.{Request}
+use Rattle.hwp_law_served.specs.hwp_fault.Touches.{refusal_by}
+use Rattle.hwp_law_served.specs.hwp_cpu_copy.Runs.{made_by}
+use Rattle.hwp_law_served.specs.Causes.{IsCausedWith}
+use Rattle.hwp_law_served.specs.Copied.{IsCopyCaused, IsCopyEnded, store_by, sub_next}
+use Rattle.hwp_law_served.specs.Rows.{offlined}
+use Rattle.hwp_law_served.specs.hwp_cpu_row.Acts.{event_at}
+use Rattle.hwp_law_served.specs.Runs.{row_at}
 use Rattle.hwp_law_holds.proofs.Ample.{not-ample}
 use Rattle.hwp_law_holds.proofs.Answered.{HasFacts, by-failure, law-caused, made-stands, sigbus}
-use Rattle.hwp_law_records.proofs.of_hwp_law_served.RunEnds.{IsEnd, IsOf}
-use Rattle.hwp_law_sights.proofs.copied.CopyGoing.{copy-gone}
-use Rattle.hwp_law_sights.proofs.endings.Gone.{is-gone}
-use Rattle.hwp_law_records.proofs.of_hwp_law_served.copied.RunFacts.{IsOwnAccess, next-own}
-use Rattle.hwp_law_records.proofs.of_hwp_law_served.copied.StoredLast.{stored-last}
-use Rattle.hwp_law_records.proofs.of_hwp_law_served.deeds.Made.{command-is}
-use Rattle.hwp_law_records.proofs.lines.Records.{own-mark}
-use Rattle.hwp_law_records.proofs.of_hwp_law_served.RowLines.{answered-so, events-told}
-use Rattle.hwp_law_records.proofs.of_hwp_law_served.Seen.{MadeWhat, has-signalled, listed-as-own}
-use Rattle.hwp_law_records.proofs.of_hwp_law_served.Stops.{stop-by}
+use Rattle.hwp_law_served.proofs.RunEnds.{IsEnd, IsOf}
+use Rattle.hwp_law_holds.proofs.copied.CopyGoing.{copy-gone}
+use Rattle.hwp_law_holds.proofs.endings.Gone.{is-gone}
+use Rattle.hwp_law_served.proofs.copied.RunFacts.{IsOwnAccess, next-own}
+use Rattle.hwp_law_served.proofs.copied.StoredLast.{stored-last}
+use Rattle.hwp_law_served.proofs.deeds.Made.{command-is}
+use Rattle.hwp_law_holds.proofs.lines.Records.{own-mark}
+use Rattle.hwp_law_served.proofs.RowLines.{answered-so, events-told}
+use Rattle.hwp_law_served.proofs.Seen.{MadeWhat, has-signalled, listed-as-own}
+use Rattle.hwp_law_served.proofs.Stops.{stop-by}
 
 -- an entry within a command's, with what it is
 made-within : (view : View) (who : Who) (front : List Made) (m : Made) (behind : List Made) (at : At) (what : What) → deeds who view ≡ front ++ m ∷ behind → m.page ≡ at.page → m.place ≡ at.entry → m.entry.what ≡ what → MadeWhat view who at what

@@ -1,19 +1,19 @@
 -- Each store that copied a page and was answered `stored` kept the words of the page.
 use Rattle.std.proofs.Common.{◌≡◌, ℕ, Bool, List, Option, None, Some, if◌then◌else◌, refl, ap, ◌∙◌}
 use Rattle.std.proofs.lemmas.Bool.{eq-eqb}
-use Rattle.hwp_law_records.specs.hwp_geom.declared.Cpu.{Cpu}
-use Rattle.hwp_law_records.specs.hwp_geom.declared.VSlot.{VSlot}
-use Rattle.hwp_law_records.specs.hwp_geom.declared.Who.{Who}
-use Rattle.hwp_law_records.specs.hwp_page.declared.What.{What}
-use Rattle.hwp_law_records.specs.hwp_core_rule.declared.State.{State}
-use Rattle.hwp_law_records.specs.hwp_core_rule.Lists.{SomeMember}
-use Rattle.hwp_law_records.specs.hwp_script_read.declared.Script.{Script}
-use Rattle.hwp_law_records.specs.hwp_report_text.declared.Report.{Report}
-use Rattle.hwp_law_records.specs.hwp_law.Copies.{own_in}
-use Rattle.hwp_law_records.proofs.of_hwp_law_served.RunEnds.{IsEnd}
-use Rattle.hwp_law_records.proofs.of_hwp_law_served.marks.Marked.{any-of}
-use Rattle.hwp_law_records.proofs.of_hwp_law_served.copied.KeptWords.{HasLoaded, kept-words}
-use Rattle.hwp_law_private.specs.CopiedWords.{CopiesKeepWords, word_loaded}
+use Rattle.hwp_law_served.specs.hwp_geom.declared.Cpu.{Cpu}
+use Rattle.hwp_law_served.specs.hwp_geom.declared.VSlot.{VSlot}
+use Rattle.hwp_law_served.specs.hwp_geom.declared.Who.{Who}
+use Rattle.hwp_law_served.specs.hwp_page.declared.What.{What}
+use Rattle.hwp_law_served.specs.hwp_core_rule.declared.State.{State}
+use Rattle.hwp_law_served.specs.hwp_core_rule.Lists.{SomeMember}
+use Rattle.hwp_law_served.specs.hwp_script_read.declared.Script.{Script}
+use Rattle.hwp_law_served.specs.hwp_report_text.declared.Report.{Report}
+use Rattle.hwp_law_served.specs.hwp_law.Copies.{own_in}
+use Rattle.hwp_law_served.proofs.RunEnds.{IsEnd}
+use Rattle.hwp_law_served.proofs.marks.Marked.{any-of}
+use Rattle.hwp_law_served.proofs.copied.KeptWords.{HasLoaded, kept-words}
+use Rattle.hwp_law_holds.specs.CopiedWords.{CopiesKeepWords, word_loaded}
 
 loads-it : (from : VSlot) (line word : ℕ) (what : What) → HasLoaded from line word what → word_loaded line what ≡ Some word
 loads-it from line word what is = ap (word_loaded line) is.what_is ∙ ap (λ (b : Bool). if b then Some word else None) (eq-eqb line line refl)

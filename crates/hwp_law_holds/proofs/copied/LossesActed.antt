@@ -2,16 +2,16 @@
 -- its processors acted on.
 use Rattle.std.proofs.Common.{◌≡◌, ℕ, ◌+◌, ◌≤◌, List, [], Option, Some, option_map, slice_get, take, unwrap_or, ap, ◌∙◌, subst}
 use Rattle.std.specs.List.{zip}
-use Rattle.hwp_law_records.specs.hwp_script_read.declared.Command.{Command}
-use Rattle.hwp_law_records.specs.hwp_script_read.declared.Script.{Script}
-use Rattle.hwp_law_records.specs.hwp_report_text.declared.Answer.{Answer}
-use Rattle.hwp_law_records.specs.hwp_report_text.declared.CpuLine.{CpuLine}
-use Rattle.hwp_law_records.specs.hwp_report_text.declared.Report.{Report}
-use Rattle.hwp_law_records.specs.hwp_law.Acting.{acting_from, acting_script}
-use Rattle.hwp_law_records.specs.hwp_law.Lines.{answered, answers_to}
-use Rattle.hwp_law_records.specs.hwp_law.Losses.{LossesAgree, is_lost, is_lost_before, losses_such, numbers_after}
-use Rattle.hwp_law_records.proofs.of_hwp_law_run.of_hwp_law.ActedLaws.{answered-acted, list-at}
-use Rattle.hwp_law_records.proofs.of_hwp_law_served.copied.NumbersActed.{numbers-acted, pair-acted}
+use Rattle.hwp_law_served.specs.hwp_script_read.declared.Command.{Command}
+use Rattle.hwp_law_served.specs.hwp_script_read.declared.Script.{Script}
+use Rattle.hwp_law_served.specs.hwp_report_text.declared.Answer.{Answer}
+use Rattle.hwp_law_served.specs.hwp_report_text.declared.CpuLine.{CpuLine}
+use Rattle.hwp_law_served.specs.hwp_report_text.declared.Report.{Report}
+use Rattle.hwp_law_served.specs.hwp_law.Acting.{acting_from, acting_script}
+use Rattle.hwp_law_served.specs.hwp_law.Lines.{answered, answers_to}
+use Rattle.hwp_law_served.specs.hwp_law.Losses.{LossesAgree, is_lost, is_lost_before, losses_such, numbers_after}
+use Rattle.hwp_law_served.proofs.of_hwp_law_run.of_hwp_law.ActedLaws.{answered-acted, list-at}
+use Rattle.hwp_law_served.proofs.copied.NumbersActed.{numbers-acted, pair-acted}
 
 -- ---- the report's
 

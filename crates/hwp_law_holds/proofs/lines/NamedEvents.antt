@@ -1,85 +1,81 @@
 -- Each event that a bank holds, and each failure that a command tells, is of a frame that the script names: a raw event's, or one that
 -- has a bad line. In a script with a `watch` so is each event that a command tells, also of a weak line, and so each frame that is noted.
-use Rattle.std.proofs.Common.{◌≡◌, ◌⊎◌, inl, inr, ℕ, zero, suc, ◌+◌, ◌*◌, ◌<◌, ◌==◌, nat_lt, ◌&&◌, ◌||◌, Bool, true, false, cond, if◌then◌else◌, List, [], ◌∷◌, ◌++◌, Option, None, Some, is_some, length, slice_get, slice_index_or, refl, sym, ap, ◌∙◌, subst, arith}
+use Rattle.std.proofs.Common.{◌≡◌, ◌⊎◌, inl, inr, ℕ, zero, suc, ◌+◌, ◌*◌, ◌<◌, ◌==◌, nat_lt, ◌&&◌, ◌||◌, Bool, true, false, cond, if◌then◌else◌, List, [], ◌∷◌, ◌++◌, Option, None, Some, is_some, length, slice_get, slice_index_or, refl, sym, ap, ◌∙◌, subst, arith, ◌/◌, replicate}
 use Rattle.std.specs.Int.{bit_at}
 use Rattle.std.specs.List.{cons_option, filter_map, flat_map, list_any}
 use Rattle.std.proofs.lemmas.Bool.{eq-eqb}
 use Rattle.std.proofs.lemmas.List.Folds.{list_any-append}
-use Rattle.std.proofs.lemmas.Option.{none-some, same_Some}
-use Rattle.hwp_law_records.specs.hwp_geom.declared.Cpu.{Cpu}
-use Rattle.hwp_law_records.specs.hwp_geom.declared.Damage.{Damage}
-use Rattle.hwp_law_records.specs.hwp_geom.declared.Damage.TheVariants as damages
-use Rattle.hwp_law_records.specs.hwp_geom.declared.Frame.{Frame}
-use Rattle.hwp_law_records.specs.hwp_geom.declared.Who.{Who}
-use Rattle.hwp_law_records.specs.hwp_core_rule.declared.SharedWord.TheVariants as places
-use Rattle.hwp_law_records.specs.hwp_core_rule.declared.State.{State}
-use Rattle.hwp_law_records.specs.hwp_core_rule.declared.View.{View}
-use Rattle.hwp_law_records.proofs.of_hwp_core_rule.Lists.{at_map, map-was}
-use Rattle.hwp_law_records.specs.hwp_core_rule.Steps.{damage_place}
-use Rattle.hwp_law_records.specs.hwp_core_task.Boards.{view_of}
-use Rattle.hwp_law_records.specs.hwp_core_task.Known.{Saw}
-use Rattle.hwp_law_records.specs.hwp_script_read.declared.Command.{Command}
-use Rattle.hwp_law_records.specs.hwp_script_read.declared.Command.TheVariants as commands
-use Rattle.hwp_law_records.specs.hwp_script_read.declared.Script.{Script}
-use Rattle.hwp_law_records.specs.hwp_report_text.declared.Answer.{Answer}
-use Rattle.hwp_law_records.specs.hwp_report_text.declared.Answer.TheVariants as answers
-use Rattle.hwp_law_records.specs.hwp_report_text.declared.EventLine.{EventLine}
-use Rattle.hwp_law_records.specs.hwp_report_text.declared.Report.{Report}
-use Rattle.hwp_law_records.specs.hwp_law.Answers.{frame_named, named_frames}
-use Rattle.hwp_law_records.proofs.of_hwp_law_served.RunEnds.{IsEnd, served-of}
-use Rattle.std.proofs.Common.{◌/◌, replicate}
-use Rattle.hwp_law_records.specs.hwp_geom.declared.Layout.{Layout}
-use Rattle.hwp_law_records.specs.hwp_geom.declared.Mode.{Mode}
-use Rattle.hwp_law_records.specs.hwp_geom.declared.Mode.TheVariants as modes
-use Rattle.hwp_law_records.specs.hwp_geom.declared.Thread.{Thread}
+use Rattle.std.proofs.lemmas.Option.{none-some, same_Some, option_and_then_some}
+use Rattle.hwp_law_served.specs.hwp_geom.declared.Cpu.{Cpu}
+use Rattle.hwp_law_served.specs.hwp_geom.declared.Damage.{Damage}
+use Rattle.hwp_law_served.specs.hwp_geom.declared.Damage.TheVariants as damages
+use Rattle.hwp_law_served.specs.hwp_geom.declared.Frame.{Frame}
+use Rattle.hwp_law_served.specs.hwp_geom.declared.Who.{Who}
+use Rattle.hwp_law_served.specs.hwp_core_rule.declared.SharedWord.TheVariants as places
+use Rattle.hwp_law_served.specs.hwp_core_rule.declared.State.{State}
+use Rattle.hwp_law_served.specs.hwp_core_rule.declared.View.{View}
+use Rattle.hwp_law_served.proofs.of_hwp_core_rule.Lists.{at_map, map-was, each-set}
+use Rattle.hwp_law_served.specs.hwp_core_rule.Steps.{damage_place}
+use Rattle.hwp_law_served.specs.hwp_core_task.Boards.{view_of}
+use Rattle.hwp_law_served.specs.hwp_core_task.Known.{Saw}
+use Rattle.hwp_law_served.specs.hwp_script_read.declared.Command.{Command}
+use Rattle.hwp_law_served.specs.hwp_script_read.declared.Command.TheVariants as commands
+use Rattle.hwp_law_served.specs.hwp_script_read.declared.Script.{Script}
+use Rattle.hwp_law_served.specs.hwp_report_text.declared.Answer.{Answer}
+use Rattle.hwp_law_served.specs.hwp_report_text.declared.Answer.TheVariants as answers
+use Rattle.hwp_law_served.specs.hwp_report_text.declared.EventLine.{EventLine}
+use Rattle.hwp_law_served.specs.hwp_report_text.declared.Report.{Report}
+use Rattle.hwp_law_served.specs.hwp_law.Answers.{frame_named, named_frames}
+use Rattle.hwp_law_served.proofs.RunEnds.{IsEnd, served-of}
+use Rattle.hwp_law_served.specs.hwp_geom.declared.Layout.{Layout}
+use Rattle.hwp_law_served.specs.hwp_geom.declared.Mode.{Mode}
+use Rattle.hwp_law_served.specs.hwp_geom.declared.Mode.TheVariants as modes
+use Rattle.hwp_law_served.specs.hwp_geom.declared.Thread.{Thread}
 use Rattle.std.specs.Prelude.{MatchBool}
-use Rattle.hwp_law_records.specs.hwp_banks.declared.Event.{Event}
-use Rattle.hwp_law_records.specs.hwp_banks.declared.Origin.{Origin}
-use Rattle.hwp_law_records.specs.hwp_banks.declared.Origin.TheVariants as origins
-use Rattle.hwp_law_records.specs.hwp_banks.Addresses.{frame_at, line_address}
-use Rattle.hwp_law_records.specs.hwp_banks.Events.{bank_count, bank_of, own_event}
-use Rattle.hwp_law_records.specs.hwp_banks.Logged.{Class, Corrected, Fatal, Uncorrected, class_of, logged, overwritten, stored}
-use Rattle.hwp_law_records.specs.hwp_banks.Status.{is_valid}
-use Rattle.hwp_law_records.specs.hwp_core_rule.Lists.{EachMember}
-use Rattle.hwp_law_records.proofs.of_hwp_core_rule.Lists.{each-set}
-use Rattle.hwp_law_records.proofs.of_hwp_core_rule.MoreEntries.{each-append}
-use Rattle.hwp_law_records.specs.hwp_banks.Banks.{Banks, empty_banks, held_from, log_in}
-use Rattle.hwp_law_records.specs.hwp_law_commands.Commands.{arrival_of, command_at, has_watch}
-use Rattle.hwp_law_records.specs.hwp_law_commands.Notes.{checks, ends_machine, frame_of, is_corrected, is_for_pages, noted_frame, notes, notes_of_check, with_line}
-use Rattle.hwp_law_records.specs.hwp_law_commands.Watched.{Watched, due, offlining, told}
-use Rattle.hwp_law_records.specs.hwp_law_commands.hwp_cec.Ages.{Note, live}
-use Rattle.hwp_law_records.specs.hwp_severity.declared.Arrival.{Arrival}
-use Rattle.hwp_law_records.specs.hwp_law.Events.{logged_if_done}
-use Rattle.hwp_law_records.specs.hwp_geom.declared.Page.{Page}
-use Rattle.hwp_law_records.specs.hwp_geom.declared.Proc.{Proc}
-use Rattle.hwp_law_records.specs.hwp_fork.declared.cow.Cow.{Cow}
-use Rattle.hwp_law_records.specs.hwp_fork.declared.cow.CowAt.{CowAt}
-use Rattle.hwp_law_records.specs.hwp_fork.declared.cow.CowAt.TheVariants as cow_at
-use Rattle.hwp_law_records.specs.hwp_fork.declared.cow.Sub.{Sub}
-use Rattle.hwp_law_records.specs.hwp_fork.declared.cow.Sub.TheVariants as subs
-use Rattle.hwp_law_records.specs.hwp_fork.Cows as cows
-use Rattle.hwp_law_records.specs.hwp_cpu_copy.Copyings.{request_by}
-use Rattle.hwp_law_records.specs.hwp_cpu_copy.Runs.{AreRuns, IsRun, Run, checks_by}
-use Rattle.hwp_law_records.specs.hwp_law_served.Copied.{AreChecksOf, IsCopyTold, store_by}
-use Rattle.hwp_law_records.proofs.copied.CopyEvents.{lines-behind}
-use Rattle.hwp_law_records.specs.hwp_banks.Banks.{raw_bank, raw_event}
-use Rattle.hwp_law_records.specs.hwp_claim.declared.Found.{Found}
-use Rattle.hwp_law_records.specs.hwp_cpu_check.declared.Held.{Held}
-use Rattle.hwp_law_records.specs.hwp_cpu_row.declared.Row.{Row}
-use Rattle.hwp_law_records.specs.hwp_cpu_check.declared.EventOutcome.{EventOutcome}
-use Rattle.hwp_law_records.specs.hwp_cpu_check.Checks.{AreChecks, Check, IsActedOn, SawBad, left_by, lines_of, with_own}
-use Rattle.hwp_law_records.specs.hwp_cpu_check.Events.{graded_in}
-use Rattle.hwp_law_records.specs.hwp_scrub.Visits as scrubs
-use Rattle.hwp_law_records.specs.hwp_scrub.Visits.{AreBanks, AreVisits, IsBadMet, IsWeakMet, SawLowest, Visit, left_by_bad, left_by_visit, left_by_weak, lines_of_visit, scrub_bank, scrubbing, with_bad}
-use Rattle.hwp_law_records.proofs.of_hwp_scrub.VisitLaws.{bad-leaves, left-banks}
-use Rattle.hwp_law_records.specs.hwp_law_served.Served.{AreRowsServed, spoiling}
-use Rattle.hwp_law_records.specs.hwp_law_served.Told.{AreToldBy, AreToldWith, IsAccessTold, IsCutShort, IsRaiseTold, IsScrubTold, IsUntold, is_raised}
-use Rattle.hwp_law_records.proofs.of_hwp_law_served.Picked.{picked-is}
-use Rattle.hwp_law_records.proofs.of_hwp_law_served.lines.ScrubBank.{empty-free, kept-so, with-free}
-use Rattle.hwp_law_records.proofs.lines.SpoiledLines.{set-at, spoiled-at-end, spoiled-so}
-use Rattle.hwp_law_records.proofs.marks.RowNotes.{each-cons}
-use Rattle.std.proofs.lemmas.Option.{option_and_then_some}
-use Rattle.hwp_law_records.specs.hwp_geom.declared.VSlot.{VSlot}
+use Rattle.hwp_law_served.specs.hwp_banks.declared.Event.{Event}
+use Rattle.hwp_law_served.specs.hwp_banks.declared.Origin.{Origin}
+use Rattle.hwp_law_served.specs.hwp_banks.declared.Origin.TheVariants as origins
+use Rattle.hwp_law_served.specs.hwp_banks.Addresses.{frame_at, line_address}
+use Rattle.hwp_law_served.specs.hwp_banks.Events.{bank_count, bank_of, own_event}
+use Rattle.hwp_law_served.specs.hwp_banks.Logged.{Class, Corrected, Fatal, Uncorrected, class_of, logged, overwritten, stored}
+use Rattle.hwp_law_served.specs.hwp_banks.Status.{is_valid}
+use Rattle.hwp_law_served.specs.hwp_core_rule.Lists.{EachMember}
+use Rattle.hwp_law_served.proofs.of_hwp_core_rule.MoreEntries.{each-append}
+use Rattle.hwp_law_served.specs.hwp_banks.Banks.{Banks, empty_banks, held_from, log_in, raw_bank, raw_event}
+use Rattle.hwp_law_served.specs.hwp_law_commands.Commands.{arrival_of, command_at, has_watch}
+use Rattle.hwp_law_served.specs.hwp_law_commands.Notes.{checks, ends_machine, frame_of, is_corrected, is_for_pages, noted_frame, notes, notes_of_check, with_line}
+use Rattle.hwp_law_served.specs.hwp_law_commands.Watched.{Watched, due, offlining, told}
+use Rattle.hwp_law_served.specs.hwp_law_commands.hwp_cec.Ages.{Note, live}
+use Rattle.hwp_law_served.specs.hwp_severity.declared.Arrival.{Arrival}
+use Rattle.hwp_law_served.specs.hwp_law.Events.{logged_if_done}
+use Rattle.hwp_law_served.specs.hwp_geom.declared.Page.{Page}
+use Rattle.hwp_law_served.specs.hwp_geom.declared.Proc.{Proc}
+use Rattle.hwp_law_served.specs.hwp_fork.declared.cow.Cow.{Cow}
+use Rattle.hwp_law_served.specs.hwp_fork.declared.cow.CowAt.{CowAt}
+use Rattle.hwp_law_served.specs.hwp_fork.declared.cow.CowAt.TheVariants as cow_at
+use Rattle.hwp_law_served.specs.hwp_fork.declared.cow.Sub.{Sub}
+use Rattle.hwp_law_served.specs.hwp_fork.declared.cow.Sub.TheVariants as subs
+use Rattle.hwp_law_served.specs.hwp_fork.Cows as cows
+use Rattle.hwp_law_served.specs.hwp_cpu_copy.Copyings.{request_by}
+use Rattle.hwp_law_served.specs.hwp_cpu_copy.Runs.{AreRuns, IsRun, Run, checks_by}
+use Rattle.hwp_law_served.specs.Copied.{AreChecksOf, IsCopyTold, store_by}
+use Rattle.hwp_law_holds.proofs.copied.CopyEvents.{lines-behind}
+use Rattle.hwp_law_served.specs.hwp_claim.declared.Found.{Found}
+use Rattle.hwp_law_served.specs.hwp_cpu_check.declared.Held.{Held}
+use Rattle.hwp_law_served.specs.hwp_cpu_row.declared.Row.{Row}
+use Rattle.hwp_law_served.specs.hwp_cpu_check.declared.EventOutcome.{EventOutcome}
+use Rattle.hwp_law_served.specs.hwp_cpu_check.Checks.{AreChecks, Check, IsActedOn, SawBad, left_by, lines_of, with_own}
+use Rattle.hwp_law_served.specs.hwp_cpu_check.Events.{graded_in}
+use Rattle.hwp_law_served.specs.hwp_scrub.Visits as scrubs
+use Rattle.hwp_law_served.specs.hwp_scrub.Visits.{AreBanks, AreVisits, IsBadMet, IsWeakMet, SawLowest, Visit, left_by_bad, left_by_visit, left_by_weak, lines_of_visit, scrub_bank, scrubbing, with_bad}
+use Rattle.hwp_law_served.proofs.of_hwp_scrub.VisitLaws.{bad-leaves, left-banks}
+use Rattle.hwp_law_served.specs.Served.{AreRowsServed, spoiling}
+use Rattle.hwp_law_served.specs.Told.{AreToldBy, AreToldWith, IsAccessTold, IsCutShort, IsRaiseTold, IsScrubTold, IsUntold, is_raised}
+use Rattle.hwp_law_served.proofs.Picked.{picked-is}
+use Rattle.hwp_law_served.proofs.lines.ScrubBank.{empty-free, kept-so, with-free}
+use Rattle.hwp_law_holds.proofs.lines.SpoiledLines.{set-at, spoiled-at-end, spoiled-so}
+use Rattle.hwp_law_holds.proofs.marks.RowNotes.{each-cons}
+use Rattle.hwp_law_served.specs.hwp_geom.declared.VSlot.{VSlot}
 
 -- ---- named frames
 

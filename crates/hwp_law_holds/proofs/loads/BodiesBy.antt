@@ -1,24 +1,24 @@
 -- What a step makes of the bodies in hand: it keeps their pages, their frames and what was seen before them.
 use Rattle.std.proofs.Common.{◌≡◌, ℕ, ◌==◌, Bool, true, false, cond, [], ◌∷◌, ◌++◌, Option, Some, None, length, refl, sym, ap}
 use Rattle.std.proofs.lemmas.Bool.{eqb-true}
-use Rattle.hwp_law_records.specs.hwp_geom.declared.Frame.{Frame}
-use Rattle.hwp_law_records.specs.hwp_geom.declared.Layout.{Layout}
-use Rattle.hwp_law_records.specs.hwp_geom.declared.Page.{Page}
-use Rattle.hwp_law_records.specs.hwp_geom.declared.Proc.{Proc}
-use Rattle.hwp_law_records.specs.hwp_geom.declared.Who.{Who}
-use Rattle.hwp_law_records.specs.hwp_core_rule.declared.InHand.{InHand}
-use Rattle.hwp_law_records.specs.hwp_core_rule.declared.Log.{Log}
-use Rattle.hwp_law_records.specs.hwp_core_rule.declared.SharedWord.{SharedWord}
-use Rattle.hwp_law_records.specs.hwp_core_rule.declared.SharedWord.TheVariants as places
-use Rattle.hwp_law_records.specs.hwp_core_rule.declared.Step.{Step}
-use Rattle.hwp_law_records.specs.hwp_core_rule.declared.Step.TheVariants as steps
-use Rattle.hwp_law_records.specs.hwp_core_rule.declared.View.{View}
-use Rattle.hwp_law_records.specs.hwp_core_rule.Lists.{EachMember}
-use Rattle.hwp_law_records.specs.hwp_core_rule.Logs.{log_of}
-use Rattle.hwp_law_records.specs.hwp_core_rule.Steps.{goes}
-use Rattle.hwp_law_records.specs.hwp_core_rule.Views.{body_of, is_body_of, killed_by, listed_of, loaded, lock_found, lock_of_page, put_home, taken, view_by}
-use Rattle.hwp_law_records.proofs.of_hwp_core_rule.Lists.{each-changed, each-push}
-use Rattle.hwp_law_records.proofs.of_hwp_core_rule.ListDrops.{each-without}
+use Rattle.hwp_law_served.specs.hwp_geom.declared.Frame.{Frame}
+use Rattle.hwp_law_served.specs.hwp_geom.declared.Layout.{Layout}
+use Rattle.hwp_law_served.specs.hwp_geom.declared.Page.{Page}
+use Rattle.hwp_law_served.specs.hwp_geom.declared.Proc.{Proc}
+use Rattle.hwp_law_served.specs.hwp_geom.declared.Who.{Who}
+use Rattle.hwp_law_served.specs.hwp_core_rule.declared.InHand.{InHand}
+use Rattle.hwp_law_served.specs.hwp_core_rule.declared.Log.{Log}
+use Rattle.hwp_law_served.specs.hwp_core_rule.declared.SharedWord.{SharedWord}
+use Rattle.hwp_law_served.specs.hwp_core_rule.declared.SharedWord.TheVariants as places
+use Rattle.hwp_law_served.specs.hwp_core_rule.declared.Step.{Step}
+use Rattle.hwp_law_served.specs.hwp_core_rule.declared.Step.TheVariants as steps
+use Rattle.hwp_law_served.specs.hwp_core_rule.declared.View.{View}
+use Rattle.hwp_law_served.specs.hwp_core_rule.Lists.{EachMember}
+use Rattle.hwp_law_served.specs.hwp_core_rule.Logs.{log_of}
+use Rattle.hwp_law_served.specs.hwp_core_rule.Steps.{goes}
+use Rattle.hwp_law_served.specs.hwp_core_rule.Views.{body_of, is_body_of, killed_by, listed_of, loaded, lock_found, lock_of_page, put_home, taken, view_by}
+use Rattle.hwp_law_served.proofs.of_hwp_core_rule.Lists.{each-changed, each-push}
+use Rattle.hwp_law_served.proofs.of_hwp_core_rule.ListDrops.{each-without}
 
 -- what holds of a body and reads no more than its page, its frame and what was seen before it
 abbrev pub IsLike : (InHand → Type 0) → Type 0

@@ -2,43 +2,43 @@
 use Rattle.std.proofs.Common.{◌≡◌, ℕ, List, [], Option, Some, slice_get, ap, ◌∙◌, subst}
 use Rattle.std.specs.Prelude.{IsTrue, slice_index}
 use Rattle.std.specs.FinSet as set
-use Rattle.hwp_law_records.specs.hwp_geom.declared.Who.{Who}
-use Rattle.hwp_law_records.specs.hwp_geom.declared.VSlot.{VSlot}
-use Rattle.hwp_law_records.specs.hwp_geom.declared.Cpu.{Cpu}
-use Rattle.hwp_law_records.specs.hwp_geom.declared.Frame.{Frame}
-use Rattle.hwp_law_records.specs.hwp_geom.declared.Page.{Page}
-use Rattle.hwp_law_records.specs.hwp_page.declared.At.{At}
-use Rattle.hwp_law_records.specs.hwp_page.declared.Entry.{Entry}
-use Rattle.hwp_law_records.specs.hwp_page.declared.Met.TheVariants.{Word}
-use Rattle.hwp_law_records.specs.hwp_page.declared.PageState.{PageState}
-use Rattle.hwp_law_records.specs.hwp_page.declared.What.TheVariants.{Load}
-use Rattle.hwp_law_records.specs.hwp_page.Step.{Allowed}
-use Rattle.hwp_law_records.specs.hwp_core_rule.declared.State.{State}
-use Rattle.hwp_law_records.specs.hwp_core_rule.declared.View.{View}
-use Rattle.hwp_law_records.specs.hwp_core_rule.Lists.{EachMember}
-use Rattle.hwp_law_records.specs.hwp_core_rule.Opening.{opening}
-use Rattle.hwp_law_records.specs.hwp_core_rule.Rule.{Holds}
-use Rattle.hwp_law_records.specs.hwp_core_rule.parts.Holdings.{HoldsNothing}
-use Rattle.hwp_law_records.proofs.of_hwp_core_rule.Lists.{each-weaken}
-use Rattle.hwp_law_records.specs.hwp_core_task.Boards.{Played}
-use Rattle.hwp_law_records.specs.hwp_core_task.Turns.{Member}
-use Rattle.hwp_law_records.specs.hwp_script_read.declared.Script.{Script}
-use Rattle.hwp_law_records.specs.hwp_report_text.declared.Report.{Report}
-use Rattle.hwp_law_records.specs.hwp_law.PageHistory.{IsHistory}
-use Rattle.hwp_law_records.specs.hwp_law.Law.{HasShape, IsLawful}
-use Rattle.hwp_law_records.specs.hwp_law.Places.{entry_at}
-use Rattle.hwp_law_records.specs.hwp_law.States.{HadState}
-use Rattle.hwp_law_records.specs.hwp_law_run.Ends.{EndsWith}
-use Rattle.hwp_law_records.specs.hwp_law_run.Run.{CoreRun}
-use Rattle.hwp_law_records.specs.hwp_law_run.Turns.{Leads}
-use Rattle.hwp_law_records.proofs.of_hwp_law_run.TurnLeads.{leads-hold}
-use Rattle.hwp_law_records.proofs.of_hwp_law_run.Legal.{run-legal}
-use Rattle.hwp_law_records.proofs.of_hwp_law_run.Reported.{IsLast, entry-listed}
-use Rattle.hwp_law_records.proofs.of_hwp_law_run.SightOrder.{run-rises}
+use Rattle.hwp_law_served.specs.hwp_geom.declared.Who.{Who}
+use Rattle.hwp_law_served.specs.hwp_geom.declared.VSlot.{VSlot}
+use Rattle.hwp_law_served.specs.hwp_geom.declared.Cpu.{Cpu}
+use Rattle.hwp_law_served.specs.hwp_geom.declared.Frame.{Frame}
+use Rattle.hwp_law_served.specs.hwp_geom.declared.Page.{Page}
+use Rattle.hwp_law_served.specs.hwp_page.declared.At.{At}
+use Rattle.hwp_law_served.specs.hwp_page.declared.Entry.{Entry}
+use Rattle.hwp_law_served.specs.hwp_page.declared.Met.TheVariants.{Word}
+use Rattle.hwp_law_served.specs.hwp_page.declared.PageState.{PageState}
+use Rattle.hwp_law_served.specs.hwp_page.declared.What.TheVariants.{Load}
+use Rattle.hwp_law_served.specs.hwp_page.Step.{Allowed}
+use Rattle.hwp_law_served.specs.hwp_core_rule.declared.State.{State}
+use Rattle.hwp_law_served.specs.hwp_core_rule.declared.View.{View}
+use Rattle.hwp_law_served.specs.hwp_core_rule.Lists.{EachMember}
+use Rattle.hwp_law_served.specs.hwp_core_rule.Opening.{opening}
+use Rattle.hwp_law_served.specs.hwp_core_rule.Rule.{Holds}
+use Rattle.hwp_law_served.specs.hwp_core_rule.parts.Holdings.{HoldsNothing}
+use Rattle.hwp_law_served.proofs.of_hwp_core_rule.Lists.{each-weaken}
+use Rattle.hwp_law_served.specs.hwp_core_task.Boards.{Played}
+use Rattle.hwp_law_served.specs.hwp_core_task.Turns.{Member}
+use Rattle.hwp_law_served.specs.hwp_script_read.declared.Script.{Script}
+use Rattle.hwp_law_served.specs.hwp_report_text.declared.Report.{Report}
+use Rattle.hwp_law_served.specs.hwp_law.PageHistory.{IsHistory}
+use Rattle.hwp_law_served.specs.hwp_law.Law.{HasShape, IsLawful}
+use Rattle.hwp_law_served.specs.hwp_law.Places.{entry_at}
+use Rattle.hwp_law_served.specs.hwp_law.States.{HadState}
+use Rattle.hwp_law_served.specs.hwp_law_run.Ends.{EndsWith}
+use Rattle.hwp_law_served.specs.hwp_law_run.Run.{CoreRun}
+use Rattle.hwp_law_served.specs.hwp_law_run.Turns.{Leads}
+use Rattle.hwp_law_served.proofs.of_hwp_law_run.TurnLeads.{leads-hold}
+use Rattle.hwp_law_served.proofs.of_hwp_law_run.Legal.{run-legal}
+use Rattle.hwp_law_served.proofs.of_hwp_law_run.Reported.{IsLast, entry-listed}
+use Rattle.hwp_law_served.proofs.of_hwp_law_run.SightOrder.{run-rises}
 use Rattle.hwp_law_holds.specs.Loads.{AreGoodLoads, Inspects}
-use Rattle.hwp_law_records.specs.hwp_law_served.Runs.{IsRunOf}
+use Rattle.hwp_law_served.specs.Runs.{IsRunOf}
 use Rattle.hwp_law_holds.proofs.AllowedThere.{allowed-there, had-so}
-use Rattle.hwp_law_records.proofs.of_hwp_law_served.LastBoard.{nothing}
+use Rattle.hwp_law_served.proofs.LastBoard.{nothing}
 use Rattle.hwp_law_holds.proofs.loads.Inspected.{all-inspected, mask_of}
 use Rattle.hwp_law_holds.proofs.Lawful.{histories-fit, shape-fits}
 

@@ -3,45 +3,45 @@
 use Rattle.std.proofs.Common.{◌≡◌, ◌⊎◌, inl, inr, ℕ, zero, suc, ◌+◌, ◌<◌, ◌≤◌, Bool, true, false, true≢false, List, [], ◌∷◌, ◌++◌, Option, Some, None, drop, length, slice_get, refl, sym, ap, ◌∙◌, subst, append_assoc, arith}
 use Rattle.std.proofs.lemmas.List.{append-nil}
 use Rattle.std.proofs.lemmas.Option.{none-some, same_Some, slice_get_within}
-use Rattle.hwp_law_records.specs.hwp_geom.declared.Frame.{Frame}
-use Rattle.hwp_law_records.specs.hwp_geom.declared.Layout.{Layout}
-use Rattle.hwp_law_records.specs.hwp_geom.declared.Page.{Page}
-use Rattle.hwp_law_records.specs.hwp_geom.declared.Who.{Who}
-use Rattle.hwp_law_records.specs.hwp_page.declared.Entry.{Entry}
-use Rattle.hwp_law_records.specs.hwp_page.declared.Met.TheVariants.{Word}
-use Rattle.hwp_law_records.specs.hwp_page.declared.What.{What}
-use Rattle.hwp_law_records.specs.hwp_page.declared.What.TheVariants as whats
-use Rattle.hwp_law_records.specs.hwp_core_rule.declared.FrameLock.{FrameLock}
-use Rattle.hwp_law_records.specs.hwp_core_rule.declared.InHand.{InHand}
-use Rattle.hwp_law_records.specs.hwp_core_rule.declared.Log.{Log}
-use Rattle.hwp_law_records.specs.hwp_core_rule.declared.Made.{Made}
-use Rattle.hwp_law_records.specs.hwp_core_rule.declared.SharedWord.{SharedWord}
-use Rattle.hwp_law_records.specs.hwp_core_rule.declared.SharedWord.TheVariants as places
-use Rattle.hwp_law_records.specs.hwp_core_rule.declared.Sight.{Sight}
-use Rattle.hwp_law_records.specs.hwp_core_rule.declared.Stamp.{Stamp}
-use Rattle.hwp_law_records.specs.hwp_core_rule.declared.State.{State}
-use Rattle.hwp_law_records.specs.hwp_core_rule.declared.Step.{Step}
-use Rattle.hwp_law_records.specs.hwp_core_rule.declared.Step.TheVariants as steps
-use Rattle.hwp_law_records.specs.hwp_core_rule.declared.View.{View}
-use Rattle.hwp_law_records.specs.hwp_core_rule.Lists.{EachMember, SomeMember}
-use Rattle.hwp_law_records.specs.hwp_core_rule.Moves.{Move}
-use Rattle.hwp_law_records.specs.hwp_core_rule.Opening.{below, opening, opening_view}
-use Rattle.hwp_law_records.specs.hwp_core_rule.Rule.{Holds}
-use Rattle.hwp_law_records.specs.hwp_core_rule.Steps.{place_of}
-use Rattle.hwp_law_records.specs.hwp_core_rule.Views.{made_from, more_of, noted, stamp_of, view_after, view_by, is_body_of}
-use Rattle.hwp_law_records.specs.hwp_core_rule.parts.Entries.{HasMask, HasSeen, IsUnder}
-use Rattle.hwp_law_records.proofs.of_hwp_core_rule.AsksNoted.{asks-noted}
-use Rattle.hwp_law_records.proofs.of_hwp_core_rule.Lists.{at_last, at_push, each-map, each-set, each-weaken}
-use Rattle.hwp_law_records.proofs.of_hwp_core_rule.MoreEntries.{each-append}
-use Rattle.hwp_law_records.proofs.of_hwp_core_rule.ListDrops.{find-is}
-use Rattle.hwp_law_records.specs.hwp_core_task.Boards.{Played}
-use Rattle.hwp_law_records.specs.hwp_law_run.Turns.{Leads}
-use Rattle.hwp_law_records.proofs.of_hwp_law_run.StepAdds.{Adds, AddsMade, adds}
-use Rattle.hwp_law_records.proofs.of_hwp_law_run.TurnLeads.{leads-on}
-use Rattle.hwp_law_records.proofs.of_hwp_law_run.SeatKnows.{under-lock}
-use Rattle.hwp_law_records.proofs.of_hwp_law_run.SeatTells.{later, now}
+use Rattle.hwp_law_served.specs.hwp_geom.declared.Frame.{Frame}
+use Rattle.hwp_law_served.specs.hwp_geom.declared.Layout.{Layout}
+use Rattle.hwp_law_served.specs.hwp_geom.declared.Page.{Page}
+use Rattle.hwp_law_served.specs.hwp_geom.declared.Who.{Who}
+use Rattle.hwp_law_served.specs.hwp_page.declared.Entry.{Entry}
+use Rattle.hwp_law_served.specs.hwp_page.declared.Met.TheVariants.{Word}
+use Rattle.hwp_law_served.specs.hwp_page.declared.What.{What}
+use Rattle.hwp_law_served.specs.hwp_page.declared.What.TheVariants as whats
+use Rattle.hwp_law_served.specs.hwp_core_rule.declared.FrameLock.{FrameLock}
+use Rattle.hwp_law_served.specs.hwp_core_rule.declared.InHand.{InHand}
+use Rattle.hwp_law_served.specs.hwp_core_rule.declared.Log.{Log}
+use Rattle.hwp_law_served.specs.hwp_core_rule.declared.Made.{Made}
+use Rattle.hwp_law_served.specs.hwp_core_rule.declared.SharedWord.{SharedWord}
+use Rattle.hwp_law_served.specs.hwp_core_rule.declared.SharedWord.TheVariants as places
+use Rattle.hwp_law_served.specs.hwp_core_rule.declared.Sight.{Sight}
+use Rattle.hwp_law_served.specs.hwp_core_rule.declared.Stamp.{Stamp}
+use Rattle.hwp_law_served.specs.hwp_core_rule.declared.State.{State}
+use Rattle.hwp_law_served.specs.hwp_core_rule.declared.Step.{Step}
+use Rattle.hwp_law_served.specs.hwp_core_rule.declared.Step.TheVariants as steps
+use Rattle.hwp_law_served.specs.hwp_core_rule.declared.View.{View}
+use Rattle.hwp_law_served.specs.hwp_core_rule.Lists.{EachMember, SomeMember}
+use Rattle.hwp_law_served.specs.hwp_core_rule.Moves.{Move}
+use Rattle.hwp_law_served.specs.hwp_core_rule.Opening.{below, opening, opening_view}
+use Rattle.hwp_law_served.specs.hwp_core_rule.Rule.{Holds}
+use Rattle.hwp_law_served.specs.hwp_core_rule.Steps.{place_of}
+use Rattle.hwp_law_served.specs.hwp_core_rule.Views.{made_from, more_of, noted, stamp_of, view_after, view_by, is_body_of}
+use Rattle.hwp_law_served.specs.hwp_core_rule.parts.Entries.{HasMask, HasSeen, IsUnder}
+use Rattle.hwp_law_served.proofs.of_hwp_core_rule.AsksNoted.{asks-noted}
+use Rattle.hwp_law_served.proofs.of_hwp_core_rule.Lists.{at_last, at_push, each-map, each-set, each-weaken}
+use Rattle.hwp_law_served.proofs.of_hwp_core_rule.MoreEntries.{each-append}
+use Rattle.hwp_law_served.proofs.of_hwp_core_rule.ListDrops.{find-is}
+use Rattle.hwp_law_served.specs.hwp_core_task.Boards.{Played}
+use Rattle.hwp_law_served.specs.hwp_law_run.Turns.{Leads}
+use Rattle.hwp_law_served.proofs.of_hwp_law_run.StepAdds.{Adds, AddsMade, adds}
+use Rattle.hwp_law_served.proofs.of_hwp_law_run.TurnLeads.{leads-on}
+use Rattle.hwp_law_served.proofs.of_hwp_law_run.SeatKnows.{under-lock}
+use Rattle.hwp_law_served.proofs.of_hwp_law_run.SeatTells.{later, now}
 use Rattle.hwp_law_holds.specs.Loads.{HasPageIn, Inspects}
-use Rattle.hwp_law_records.proofs.of_hwp_law_served.StepAdds.{OneMore, adds-by}
+use Rattle.hwp_law_served.proofs.StepAdds.{OneMore, adds-by}
 use Rattle.hwp_law_holds.proofs.loads.BodiesBy.{bodies-so}
 
 -- the bad lines that an entry rests on

@@ -1,2 +1,0 @@
-pub mod CopyShown
-pub mod CopyGoing

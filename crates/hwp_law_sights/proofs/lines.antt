@@ -1,2 +1,0 @@
-pub mod ScrubLines
-pub mod ScrubShown
