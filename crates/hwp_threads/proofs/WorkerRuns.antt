@@ -7,7 +7,7 @@ use Rattle.hwp_core_task.specs.hwp_core_rule.declared.View.{View}
 use Rattle.hwp_core_task.specs.hwp_core_rule.Lists.{EachMember}
 use Rattle.hwp_core_task.specs.Ranks.{is_refused}
 use Rattle.hwp_core_task.specs.Turns.{Member}
-use Rattle.hwp_threads_order.specs.Own.{IsOwnRun, Turned, made_of}
+use Rattle.hwp_threads.specs.Own.{IsOwnRun, Turned, made_of}
 use Rattle.hwp_threads.specs.declared.worker.Worker.{Worker}
 use Rattle.hwp_threads.specs.Workers.{HasRun, TookTurn, standing}
 

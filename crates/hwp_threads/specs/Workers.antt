@@ -8,7 +8,7 @@ use Rattle.hwp_core_task.specs.hwp_core_rule.declared.View.{View}
 use Rattle.hwp_core_task.specs.hwp_core_rule.Lists.{EachMember}
 use Rattle.hwp_core_task.specs.Ranks.{is_refused}
 use Rattle.hwp_core_task.specs.Turns.{Member}
-use Rattle.hwp_threads_order.specs.Own.{IsOwnRun, Standing, Turned, made_of}
+use Rattle.hwp_threads.specs.Own.{IsOwnRun, Standing, Turned, made_of}
 use Rattle.hwp_threads.specs.declared.worker.Worker.{Worker}
 
 -- a seat that can make a step can make another one after it

@@ -12,7 +12,7 @@ use Rattle.hwp_threads.proofs.of_hwp_core_rule.Lists.{at_map, from_bool-same, te
 use Rattle.hwp_threads.proofs.of_hwp_core_rule.WordsOpen.{length-below}
 use Rattle.hwp_threads.specs.hwp_core_task.Boards.{Played}
 use Rattle.hwp_threads.specs.hwp_core_task.Hands.{Hand}
-use Rattle.hwp_threads.specs.hwp_threads_order.Parts.{Own}
+use Rattle.hwp_threads.specs.Parts.{Own}
 use Rattle.hwp_top_turns.specs.hwp_script_read.declared.Script.{Script}
 use Rattle.hwp_top_turns.specs.hwp_script_read.Valid.{IsValid}
 use Rattle.hwp_top_turns.specs.hwp_report_text.declared.Report.{Report}

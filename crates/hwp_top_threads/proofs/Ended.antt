@@ -19,10 +19,10 @@ use Rattle.hwp_threads.proofs.of_hwp_core_rule.WordsOpen.{below-at, length-below
 use Rattle.hwp_threads.proofs.of_hwp_core_rule.StepKeeps.{keeps}
 use Rattle.hwp_threads.specs.hwp_core_task.Boards.{AreSeated, Played, view_of}
 use Rattle.hwp_threads.specs.hwp_core_task.Ranks.{Pending, words_at}
-use Rattle.hwp_threads.specs.hwp_threads_order.Own.{IsTurn, Standing, Turned}
-use Rattle.hwp_threads.specs.hwp_threads_order.Parts.{AreParts, IsClaim, Own, Stands, froms, tos}
-use Rattle.hwp_threads.proofs.of_hwp_threads_order.FailureClaims.{back, stands-on, stands-settled}
-use Rattle.hwp_threads.proofs.of_hwp_threads_order.OwnKeeps.{own-keeps}
+use Rattle.hwp_threads.specs.Own.{IsTurn, Standing, Turned}
+use Rattle.hwp_threads.specs.Parts.{AreParts, IsClaim, Own, Stands, froms, tos}
+use Rattle.hwp_threads.proofs.FailureClaims.{back, stands-on, stands-settled}
+use Rattle.hwp_threads.proofs.OwnKeeps.{own-keeps}
 use Rattle.hwp_top_turns.proofs.of_hwp_plain.TrailViews.{AreViews, view-there, views-more, views-open}
 use Rattle.hwp_top_turns.specs.hwp_script_read.declared.Script.{Script}
 use Rattle.hwp_top_turns.specs.hwp_script_read.Valid.{IsValid}

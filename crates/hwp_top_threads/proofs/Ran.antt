@@ -15,8 +15,8 @@ use Rattle.hwp_threads.proofs.of_hwp_core_rule.Lists.{at_map, from_bool-same, ma
 use Rattle.hwp_threads.proofs.of_hwp_core_rule.WordsOpen.{below-at}
 use Rattle.std.specs.Int.{from_bool}
 use Rattle.hwp_threads.specs.hwp_core_task.Boards.{view_of}
-use Rattle.hwp_threads.specs.hwp_threads_order.Own.{IsOwnRun, Standing, made_of}
-use Rattle.hwp_threads.specs.hwp_threads_order.Parts.{Own}
+use Rattle.hwp_threads.specs.Own.{IsOwnRun, Standing, made_of}
+use Rattle.hwp_threads.specs.Parts.{Own}
 use Rattle.hwp_threads.specs.declared.Worker.{Worker}
 use Rattle.hwp_threads.specs.Workers.{AllRan, CanRun, RanToEnd, recs_of, standing}
 use Rattle.hwp_threads_seats.specs.hwp_table_words.Known.{Known, moves_by}

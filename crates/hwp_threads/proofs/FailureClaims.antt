@@ -18,8 +18,8 @@ use Rattle.hwp_core_task.proofs.of_hwp_core_rule.StepKeeps.{keeps}
 use Rattle.hwp_core_task.specs.Classes.{TellsClass}
 use Rattle.hwp_core_task.specs.Ranks.{IsRanked, Made, Pending, is_refused, words_at}
 use Rattle.hwp_core_task.specs.Turns.{Member}
-use Rattle.hwp_threads_order.specs.Own.{IsOwnRun, IsTurn, Standing, Turned, after_of, made_of}
-use Rattle.hwp_threads_order.specs.Parts.{AreParts, IsClaim, IsPart, Own, Stands, froms, part, tos}
+use Rattle.hwp_threads.specs.Own.{IsOwnRun, IsTurn, Standing, Turned, after_of, made_of}
+use Rattle.hwp_threads.specs.Parts.{AreParts, IsClaim, IsPart, Own, Stands, froms, part, tos}
 
 -- ---- lists
 

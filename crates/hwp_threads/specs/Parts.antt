@@ -9,7 +9,7 @@ use Rattle.hwp_core_task.specs.hwp_core_rule.Moves.{Run}
 use Rattle.hwp_core_task.specs.hwp_core_rule.Rule.{Holds}
 use Rattle.hwp_core_task.specs.Ranks.{Pending, is_refused, words_at}
 use Rattle.hwp_core_task.specs.Turns.{Member}
-use Rattle.hwp_threads_order.specs.Own.{IsOwnRun, Standing, Turned, made_of}
+use Rattle.hwp_threads.specs.Own.{IsOwnRun, Standing, Turned, made_of}
 
 -- the moves of one processor, among those of all
 abbrev pub part : ℕ → List (ℕ × Rec) → List (ℕ × Rec)

@@ -1,2 +1,0 @@
-pub mod OwnKeeps
-pub mod FailureClaims
