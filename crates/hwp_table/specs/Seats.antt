@@ -6,7 +6,7 @@ use Rattle.hwp_core_task.specs.hwp_core_rule.declared.View.{View}
 use Rattle.hwp_core_task.specs.hwp_core_rule.Lists.{EachMember}
 use Rattle.hwp_core_task.specs.hwp_core_rule.Opening.{opening_view}
 use Rattle.hwp_core_task.specs.hwp_core_rule.parts.Holdings.{HoldsNothing}
-use Rattle.hwp_table_words.specs.hwp_tlb_rule.Caching.{idle_caching}
+use Rattle.hwp_table_words.specs.tlb.Caching.{idle_caching}
 use Rattle.hwp_table_words.specs.Known.{Known, Whole, let_go, note, times, views_for, with_note}
 use Rattle.hwp_table_words.specs.Seats.{IsTableOf, SeatValue, cpu, mine}
 use Rattle.hwp_table_words.specs.Stands.{Me}

@@ -29,8 +29,8 @@ use Rattle.hwp_table_words.specs.Known.{less, times}
 use Rattle.hwp_table_words.specs.Plays.{IsFront, carried}
 use Rattle.hwp_table_words.specs.Seats.{slots_of}
 use Rattle.hwp_table_words.specs.Stands.{Content}
-use Rattle.hwp_tlb_rule.specs.Rule.{frames_of}
-use Rattle.hwp_tlb_rule.proofs.LockSlots.{pages_of, locks_then, pages_then, locks-after, pages-after}
+use Rattle.hwp_table_words.specs.tlb.Rule.{frames_of}
+use Rattle.hwp_table_words.proofs.tlb.LockSlots.{pages_of, locks_then, pages_then, locks-after, pages-after}
 use Rattle.hwp_table_words.proofs.Times.{times-append, times-cons, times-less}
 
 -- the slot that comes home with a step, whatever word it meets

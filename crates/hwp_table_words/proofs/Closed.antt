@@ -29,7 +29,7 @@ use Rattle.hwp_table_words.specs.Stands.{Content, Table, first_part, home_of, st
 use Rattle.hwp_table_words.proofs.TableKeeps.{reached-holds, run-seats}
 use Rattle.hwp_table_words.proofs.ListReads.{as-slice, home-was}
 use Rattle.hwp_table_words.proofs.SeatKnows.{counted}
-use Rattle.hwp_tlb_rule.specs.Rule.{CachesAgree, Leads}
+use Rattle.hwp_table_words.specs.tlb.Rule.{CachesAgree, Leads}
 
 -- what was read is what was at home
 pub all-read : (hs : List (Option Content)) (xs : List Content) → length hs ≡ length xs → ((k : ℕ) → k < length hs → (y : Content) × (get_elem? hs k ≡ some (some y)))

@@ -16,12 +16,12 @@ use Rattle.hwp_core_task.specs.hwp_core_rule.Rule.{Holds}
 use Rattle.hwp_core_task.specs.hwp_core_rule.Steps.{exchanged}
 use Rattle.hwp_core_task.specs.hwp_core_rule.Words.{size}
 use Rattle.hwp_core_task.proofs.of_hwp_core_rule.Lists.{at_map, set_again}
-use Rattle.hwp_tlb_rule.specs.Caching.{Caching}
-use Rattle.hwp_tlb_rule.specs.Rule.{CachesAgree, HaveViews, Seat}
-use Rattle.hwp_tlb_rule.specs.Steps.{filled, flushed, looked}
-use Rattle.hwp_tlb_rule.specs.Words.{entry_word}
-use Rattle.hwp_tlb_rule.proofs.EntrySteps.{agree-filled, agree-flushed, agree-looked}
-use Rattle.hwp_tlb_rule.proofs.SeatViews.{have-views}
+use Rattle.hwp_table_words.specs.tlb.Caching.{Caching}
+use Rattle.hwp_table_words.specs.tlb.Rule.{CachesAgree, HaveViews, Seat}
+use Rattle.hwp_table_words.specs.tlb.Steps.{filled, flushed, looked}
+use Rattle.hwp_table_words.specs.tlb.Words.{entry_word}
+use Rattle.hwp_table_words.proofs.tlb.EntrySteps.{agree-filled, agree-flushed, agree-looked}
+use Rattle.hwp_table_words.proofs.tlb.SeatViews.{have-views}
 use Rattle.hwp_table_words.specs.CachePlays.{Aim, CanFill, CanFlush, CanSearch, IsEntry, IsFilled, IsFlushed, IsSearched, own_place}
 use Rattle.hwp_table_words.specs.Caches.{IsAtTable}
 use Rattle.hwp_table_words.specs.Known.{Known, Knowing}

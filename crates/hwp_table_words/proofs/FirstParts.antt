@@ -9,7 +9,7 @@ use Rattle.hwp_core_task.specs.hwp_core_rule.Words.{size}
 use Rattle.hwp_table_words.specs.Known.{Knowing}
 use Rattle.hwp_table_words.specs.Rules.{Kept, Reached, cache_seat}
 use Rattle.hwp_table_words.specs.Stands.{CachedTable, Content, Table, first_part, stand}
-use Rattle.hwp_tlb_rule.specs.Rule.{CachesAgree}
+use Rattle.hwp_table_words.specs.tlb.Rule.{CachesAgree}
 
 module _ {A : Type 0} where
   pub take-set : (m : ℕ) (xs : List A) (i : ℕ) (a : A) → take m (set xs i a) ≡ set (take m xs) i a

@@ -15,11 +15,11 @@ use Rattle.hwp_core_task.specs.hwp_core_rule.declared.SharedWord.{SharedWord}
 use Rattle.hwp_core_task.specs.hwp_core_rule.declared.SharedWord.TheVariants as shared
 use Rattle.hwp_core_task.specs.hwp_core_rule.Views.{locks_on}
 use Rattle.hwp_core_task.proofs.of_hwp_core_rule.Lists.{from_bool-other, from_bool-same, same-or}
-use Rattle.hwp_tlb_rule.specs.Caching.{Caching, upto_of}
-use Rattle.hwp_tlb_rule.specs.Rule.{frames_of, locks_in, times}
-use Rattle.hwp_tlb_rule.specs.Steps.{IsGuarded, shown_after}
-use Rattle.hwp_tlb_rule.proofs.Guards.{shown-load}
-use Rattle.hwp_tlb_rule.proofs.LockTimes.{locks-one, times-cons}
+use Rattle.hwp_table_words.specs.tlb.Caching.{Caching, upto_of}
+use Rattle.hwp_table_words.specs.tlb.Rule.{frames_of, locks_in, times}
+use Rattle.hwp_table_words.specs.tlb.Steps.{IsGuarded, shown_after}
+use Rattle.hwp_table_words.proofs.tlb.Guards.{shown-load}
+use Rattle.hwp_table_words.proofs.tlb.LockTimes.{locks-one, times-cons}
 use Rattle.hwp_table_words.specs.CachePlays.{CanFill, with_caching}
 use Rattle.hwp_table_words.specs.Caches.{AreLocked, AreSwept, IsAlmostGuarded, IsSweptOn, IsToSweep, follow_of, load_of}
 use Rattle.hwp_table_words.specs.declared.follow.Follow.{Follow}

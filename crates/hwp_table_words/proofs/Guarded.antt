@@ -12,12 +12,12 @@ use Rattle.hwp_core_task.specs.hwp_core_rule.Moves.{Told}
 use Rattle.hwp_core_task.specs.hwp_core_rule.Steps.{goes}
 use Rattle.hwp_core_task.specs.hwp_core_rule.Views.{locks_on, noted, view_after}
 use Rattle.hwp_core_task.proofs.of_hwp_core_rule.Lists.{same-or, from_bool-other, from_bool-same}
-use Rattle.hwp_tlb_rule.specs.Caching.{Caching, upto_of}
-use Rattle.hwp_tlb_rule.specs.Rule.{frames_of, times}
-use Rattle.hwp_tlb_rule.specs.Steps.{IsGuarded, caching_after}
-use Rattle.hwp_tlb_rule.proofs.Guards.{guard-after, locks-once, locks-within}
-use Rattle.hwp_tlb_rule.proofs.LockSlots.{less, locks-after, locks_then}
-use Rattle.hwp_tlb_rule.proofs.LockTimes.{times-append, times-cons, times-frames}
+use Rattle.hwp_table_words.specs.tlb.Caching.{Caching, upto_of}
+use Rattle.hwp_table_words.specs.tlb.Rule.{frames_of, times}
+use Rattle.hwp_table_words.specs.tlb.Steps.{IsGuarded, caching_after}
+use Rattle.hwp_table_words.proofs.tlb.Guards.{guard-after, locks-once, locks-within}
+use Rattle.hwp_table_words.proofs.tlb.LockSlots.{less, locks-after, locks_then}
+use Rattle.hwp_table_words.proofs.tlb.LockTimes.{times-append, times-cons, times-frames}
 
 -- a frame that is locked after a step was so before, or is the frame of the step
 module _ (layout : Layout) (locks : List ℕ) (f : ℕ) (within : 0 < times f locks → f < layout.frames) where

@@ -1,3 +1,4 @@
+pub mod tlb
 mod Times
 mod WordOrder
 mod ListReads
@@ -19,9 +20,8 @@ mod SeatKeeps
 mod Taken
 pub mod Opened
 mod Closed
-pub use Rattle.hwp_core_task.proofs.of_hwp_core_rule as of_hwp_core_rule
-pub use Rattle.hwp_plain_words.proofs as of_hwp_plain_words
-pub use Rattle.hwp_tlb_rule.proofs as of_hwp_tlb_rule
 mod OrderLocks
 mod Guarded
 mod SeatMakes
+pub use Rattle.hwp_core_task.proofs.of_hwp_core_rule as of_hwp_core_rule
+pub use Rattle.hwp_plain_words.proofs as of_hwp_plain_words

@@ -25,11 +25,11 @@ use Rattle.hwp_core_task.specs.hwp_core_rule.Words.{IsPlace, index, size, words_
 use Rattle.hwp_core_task.specs.Calls.{CanMake}
 use Rattle.hwp_core_task.proofs.of_hwp_core_rule.Lists.{at_map, set-set, set_again, set_here}
 use Rattle.hwp_core_task.proofs.of_hwp_core_rule.WordsByKind.{index-within, words-read}
-use Rattle.hwp_tlb_rule.specs.Rule.{CachesAgree, Seat, frames_of}
-use Rattle.hwp_tlb_rule.specs.Steps.{IsGuarded, caching_after, hit}
-use Rattle.hwp_tlb_rule.specs.Words.{hit_of, hit_to}
-use Rattle.hwp_tlb_rule.proofs.Agrees.{agree-hit}
-use Rattle.hwp_tlb_rule.proofs.Named.{hit-word}
+use Rattle.hwp_table_words.specs.tlb.Rule.{CachesAgree, Seat, frames_of}
+use Rattle.hwp_table_words.specs.tlb.Steps.{IsGuarded, caching_after, hit}
+use Rattle.hwp_table_words.specs.tlb.Words.{hit_of, hit_to}
+use Rattle.hwp_table_words.proofs.tlb.Agrees.{agree-hit}
+use Rattle.hwp_table_words.proofs.tlb.Named.{hit-word}
 use Rattle.hwp_table_words.specs.CachePlays.{CanLook, HasFound, IsEntry, IsLooked, Look}
 use Rattle.hwp_table_words.specs.Known.{Knowing, times}
 use Rattle.hwp_table_words.specs.Order.{in_table}

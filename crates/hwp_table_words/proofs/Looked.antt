@@ -9,8 +9,8 @@ use Rattle.hwp_core_task.specs.hwp_geom.declared.Who.{Who}
 use Rattle.hwp_core_task.specs.hwp_core_rule.declared.Step.{Step}
 use Rattle.hwp_core_task.specs.hwp_core_rule.declared.View.{View}
 use Rattle.hwp_core_task.specs.Calls.{CanMake}
-use Rattle.hwp_tlb_rule.specs.Steps.{IsGuarded}
-use Rattle.hwp_tlb_rule.specs.Words.{hit_of}
+use Rattle.hwp_table_words.specs.tlb.Steps.{IsGuarded}
+use Rattle.hwp_table_words.specs.tlb.Words.{hit_of}
 use Rattle.hwp_table_words.specs.CachePlays.{CanLook, HasFound, IsHit, IsLooked, Look}
 use Rattle.hwp_table_words.specs.Caches.{HasLooked, IsAtTable, call_of, load_of, word_to}
 use Rattle.hwp_table_words.specs.Plays.{Call}

@@ -26,8 +26,8 @@ use Rattle.hwp_table_words.specs.Order.{in_table}
 use Rattle.hwp_table_words.specs.Plays.{Call, IsFront, IsMade, Makes, carried, rec}
 use Rattle.hwp_table_words.specs.Seats.{CanPlay, HasRight, IsSeat, IsTableOf, Moves, SeatValue, cpu_of, mine, mine_of, slots_of, value_of}
 use Rattle.hwp_table_words.specs.Stands.{Content, Me, first_me}
-use Rattle.hwp_tlb_rule.specs.Rule.{frames_of}
-use Rattle.hwp_tlb_rule.specs.Steps.{IsGuarded, caching_after}
+use Rattle.hwp_table_words.specs.tlb.Rule.{frames_of}
+use Rattle.hwp_table_words.specs.tlb.Steps.{IsGuarded, caching_after}
 use Rattle.hwp_table_words.proofs.Carried.{front-laid, first-now, brought-now, is-carried, carries-after, room-for}
 
 -- what a call asks of a seat, or tells of it, it asks and tells of an equal one

@@ -30,7 +30,7 @@ use Rattle.hwp_table_words.proofs.ListReads.{as-slice}
 use Rattle.hwp_table_words.proofs.WordOrder.{length-in_rule}
 use Rattle.hwp_table_words.proofs.SeatKnows.{Of, each-one}
 use Rattle.hwp_table_words.proofs.Times.{times-append, times-cons}
-use Rattle.hwp_tlb_rule.proofs.Agrees.{first-agree}
+use Rattle.hwp_table_words.proofs.tlb.Agrees.{first-agree}
 
 -- the numbers below n, each once
 below-less : (n i c : ℕ) → slice_get (below n) i ≡ Some c → c < n

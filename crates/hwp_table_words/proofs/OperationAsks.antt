@@ -40,11 +40,11 @@ use Rattle.hwp_table_words.proofs.FirstParts.{drop-set, element-map, first-stepp
 use Rattle.hwp_table_words.proofs.ListReads.{as-slice, home-was, home-out, home-in}
 use Rattle.hwp_table_words.proofs.WordOrder.{length-in_rule, in_rule-read, in_rule-set}
 use Rattle.hwp_table_words.proofs.SeatKnows.{step-ruled, view-at}
-use Rattle.hwp_tlb_rule.specs.Caching.{Caching}
-use Rattle.hwp_tlb_rule.specs.Rule.{CachesAgree, HaveViews, Seat, frames_of}
-use Rattle.hwp_tlb_rule.specs.Steps.{IsGuarded, caching_after}
-use Rattle.hwp_tlb_rule.proofs.Moved.{agree-moved}
-use Rattle.hwp_tlb_rule.proofs.SeatViews.{have-views}
+use Rattle.hwp_table_words.specs.tlb.Caching.{Caching}
+use Rattle.hwp_table_words.specs.tlb.Rule.{CachesAgree, HaveViews, Seat, frames_of}
+use Rattle.hwp_table_words.specs.tlb.Steps.{IsGuarded, caching_after}
+use Rattle.hwp_table_words.proofs.tlb.Moved.{agree-moved}
+use Rattle.hwp_table_words.proofs.tlb.SeatViews.{have-views}
 
 -- the bodies at home, where a slot went out or came home
 bodies-out : (layout : Layout) (hs : List (Option Content)) (slot : ℕ) → AreOfLayout layout hs → AreOfLayout layout (set hs slot none)

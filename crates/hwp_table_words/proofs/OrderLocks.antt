@@ -9,9 +9,9 @@ use Rattle.hwp_core_task.specs.hwp_core_rule.declared.PageLock.{PageLock}
 use Rattle.hwp_core_task.specs.hwp_core_rule.declared.View.{View}
 use Rattle.hwp_core_task.specs.hwp_core_rule.Views.{locks_on}
 use Rattle.hwp_core_task.proofs.of_hwp_core_rule.Lists.{from_bool-other, from_bool-same}
-use Rattle.hwp_tlb_rule.specs.Rule.{frames_of, times}
-use Rattle.hwp_tlb_rule.proofs.LockSlots.{pages_of}
-use Rattle.hwp_tlb_rule.proofs.LockTimes.{times-append, times-cons, times-frames}
+use Rattle.hwp_table_words.specs.tlb.Rule.{frames_of, times}
+use Rattle.hwp_table_words.proofs.tlb.LockSlots.{pages_of}
+use Rattle.hwp_table_words.proofs.tlb.LockTimes.{times-append, times-cons, times-frames}
 use Rattle.hwp_table_words.specs.Seats.{Carries}
 use Rattle.hwp_table_words.specs.Stands.{Content}
 

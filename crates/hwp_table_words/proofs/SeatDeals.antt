@@ -13,8 +13,8 @@ use Rattle.hwp_table_words.specs.Stands.{CachedTable, Table, first_part, stand}
 use Rattle.hwp_table_words.proofs.FirstParts.{kept-of, map-cut, map-joined}
 use Rattle.hwp_table_words.proofs.ListReads.{as-slice}
 use Rattle.hwp_table_words.proofs.SeatKnows.{note-ruled, deal-ruled, join-ruled}
-use Rattle.hwp_tlb_rule.specs.Rule.{CachesAgree, Seat}
-use Rattle.hwp_tlb_rule.proofs.Agrees.{agree-dealt, agree-joined, agree-noted}
+use Rattle.hwp_table_words.specs.tlb.Rule.{CachesAgree, Seat}
+use Rattle.hwp_table_words.proofs.tlb.Agrees.{agree-dealt, agree-joined, agree-noted}
 
 abbrev known_of : Knowing → Known
 known_of k = k.known

@@ -11,10 +11,10 @@ use Rattle.hwp_table_words.specs.CacheCounts.{told_counts}
 use Rattle.hwp_table_words.specs.Known.{Knowing, joined, joining, let_go, times, with_note}
 use Rattle.hwp_table_words.specs.Seats.{HasCache, IsSeat, IsTableOf, cpu_of, mine_of, slots_of}
 use Rattle.hwp_table_words.specs.Stands.{Me, first_me}
-use Rattle.hwp_tlb_rule.specs.declared.TlbCounts.{TlbCounts}
-use Rattle.hwp_tlb_rule.specs.Caching.{Caching, idle_caching, joined_caching}
-use Rattle.hwp_tlb_rule.specs.Steps.{IsGuarded}
-use Rattle.hwp_tlb_rule.proofs.CachingLaws.{joined-idle}
+use Rattle.hwp_table_words.specs.declared.counts.TlbCounts.{TlbCounts}
+use Rattle.hwp_table_words.specs.tlb.Caching.{Caching, idle_caching, joined_caching}
+use Rattle.hwp_table_words.specs.tlb.Steps.{IsGuarded}
+use Rattle.hwp_table_words.proofs.tlb.CachingLaws.{joined-idle}
 
 pub some-word : (ways : ℕ) (layout : Layout) (id : TableId) → IsTableOf ways layout id → 0 < id.words
 some-word ways layout id is = omega (arith, is.words)

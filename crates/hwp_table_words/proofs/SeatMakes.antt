@@ -21,11 +21,11 @@ use Rattle.hwp_core_task.specs.hwp_core_rule.Steps.{goes}
 use Rattle.hwp_core_task.specs.hwp_core_rule.Views.{locks_on, noted, view_after}
 use Rattle.hwp_core_task.specs.Calls.{CanMake, GoesHome, Steps, logs, rec_of}
 use Rattle.hwp_core_task.proofs.of_hwp_core_rule.Lists.{same-number}
-use Rattle.hwp_tlb_rule.specs.declared.TlbCounts.{TlbCounts}
-use Rattle.hwp_tlb_rule.specs.Caching.{Caching, upto_of}
-use Rattle.hwp_tlb_rule.specs.Rule.{frames_of}
-use Rattle.hwp_tlb_rule.specs.Steps.{IsGuarded, caching_after}
-use Rattle.hwp_tlb_rule.proofs.LockSlots.{locks-after, locks_then, pages-after, pages_of, pages_then}
+use Rattle.hwp_table_words.specs.declared.counts.TlbCounts.{TlbCounts}
+use Rattle.hwp_table_words.specs.tlb.Caching.{Caching, upto_of}
+use Rattle.hwp_table_words.specs.tlb.Rule.{frames_of}
+use Rattle.hwp_table_words.specs.tlb.Steps.{IsGuarded, caching_after}
+use Rattle.hwp_table_words.proofs.tlb.LockSlots.{locks-after, locks_then, pages-after, pages_of, pages_then}
 use Rattle.hwp_table_words.specs.CacheCounts.{capped, told_counts}
 use Rattle.hwp_table_words.specs.CachePlays.{IsHit, with_caching}
 use Rattle.hwp_table_words.specs.Caches.{IsAlmostGuarded, IsListed, IsToSweep, call_of, follow_of, load_of}

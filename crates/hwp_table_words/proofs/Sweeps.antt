@@ -1,10 +1,10 @@
 -- What a sweep does: entry after entry is cleared of a frame, and what is known else of the caches stays.
 use Rattle.std.proofs.Common.{◌≡◌, ℕ, suc, ◌+◌, ◌-◌, ◌^◌, ◌<◌, ◌≤◌, Bool, true, false, cond, min, max, refl, sym, ap, ◌∙◌, subst, arith}
 use Rattle.std.specs.Prelude.{Some}
-use Rattle.hwp_tlb_rule.specs.Caching.{Caching, upto_of, with_upto}
-use Rattle.hwp_tlb_rule.specs.Steps.{flushed, looked}
-use Rattle.hwp_tlb_rule.specs.Words.{is_of}
-use Rattle.hwp_tlb_rule.proofs.CachingLaws.{upto-grows, upto-raised}
+use Rattle.hwp_table_words.specs.tlb.Caching.{Caching, upto_of, with_upto}
+use Rattle.hwp_table_words.specs.tlb.Steps.{flushed, looked}
+use Rattle.hwp_table_words.specs.tlb.Words.{is_of}
+use Rattle.hwp_table_words.proofs.tlb.CachingLaws.{upto-grows, upto-raised}
 use Rattle.hwp_table_words.specs.CacheCounts.{capped}
 use Rattle.hwp_table_words.specs.CachePlays.{with_caching}
 use Rattle.hwp_table_words.specs.Caches.{IsSweptOn}

@@ -1,7 +1,7 @@
 -- What a seat tells of what it counted.
 use Rattle.std.specs.Prelude.{ℕ, ◌-◌, ◌^◌, min}
-use Rattle.hwp_tlb_rule.specs.Caching.{Counts}
-use Rattle.hwp_tlb_rule.specs.declared.TlbCounts.{TlbCounts}
+use Rattle.hwp_table_words.specs.tlb.Caching.{Counts}
+use Rattle.hwp_table_words.specs.declared.counts.TlbCounts.{TlbCounts}
 
 -- a number that stops at the highest
 abbrev pub capped : ℕ → ℕ

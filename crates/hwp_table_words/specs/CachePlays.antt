@@ -10,10 +10,10 @@ use Rattle.hwp_core_task.specs.hwp_core_rule.declared.View.{View}
 use Rattle.hwp_core_task.specs.hwp_core_rule.Lists.{SomeMember}
 use Rattle.hwp_core_task.specs.hwp_core_rule.Words.{size}
 use Rattle.hwp_core_task.specs.Calls.{CanMake}
-use Rattle.hwp_tlb_rule.specs.Caching.{Caching, upto_of}
-use Rattle.hwp_tlb_rule.specs.Rule.{frames_of, locks_in, times}
-use Rattle.hwp_tlb_rule.specs.Steps.{IsGuarded, caching_after, filled, flushed, hit, looked}
-use Rattle.hwp_tlb_rule.specs.Words.{hit_of}
+use Rattle.hwp_table_words.specs.tlb.Caching.{Caching, upto_of}
+use Rattle.hwp_table_words.specs.tlb.Rule.{frames_of, locks_in, times}
+use Rattle.hwp_table_words.specs.tlb.Steps.{IsGuarded, caching_after, filled, flushed, hit, looked}
+use Rattle.hwp_table_words.specs.tlb.Words.{hit_of}
 use Rattle.hwp_table_words.specs.Plays.{Call, Makes, no_call}
 use Rattle.hwp_table_words.specs.Seats.{IsTableOf}
 use Rattle.hwp_table_words.specs.Stands.{Me, first_me}

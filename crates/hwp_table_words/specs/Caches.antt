@@ -12,8 +12,8 @@ use Rattle.hwp_core_task.specs.hwp_core_rule.declared.View.{View}
 use Rattle.hwp_core_task.specs.hwp_core_rule.Lists.{EachMember}
 use Rattle.hwp_core_task.specs.hwp_core_rule.Steps.{goes}
 use Rattle.hwp_core_task.specs.hwp_core_rule.Views.{locks_on}
-use Rattle.hwp_tlb_rule.specs.Caching.{Caching, upto_of}
-use Rattle.hwp_tlb_rule.specs.Rule.{locks_in}
+use Rattle.hwp_table_words.specs.tlb.Caching.{Caching, upto_of}
+use Rattle.hwp_table_words.specs.tlb.Rule.{locks_in}
 use Rattle.hwp_table_words.specs.declared.follow.Follow.{Follow}
 use Rattle.hwp_table_words.specs.declared.follow.Follow.TheVariants as follows
 use Rattle.hwp_table_words.specs.CachePlays.{IsHit, with_caching}

@@ -14,7 +14,7 @@ use Rattle.hwp_plain_words.specs.Openings.{home_with}
 use Rattle.hwp_table_words.specs.Known.{Known, Whole, moves_by, views_for}
 use Rattle.hwp_table_words.specs.Rules.{IsWhole}
 use Rattle.hwp_table_words.specs.Stands.{Content}
-use Rattle.hwp_tlb_rule.specs.Rule.{Leads}
+use Rattle.hwp_table_words.specs.tlb.Rule.{Leads}
 
 -- the seat has the views of all processors, and none of them holds anything
 pub record HasAll (layout : Layout) (v : Known) : Type 0 where

@@ -11,7 +11,7 @@ use Rattle.hwp_core_task.specs.hwp_core_rule.SlotMoves.{homes_after}
 use Rattle.hwp_core_task.specs.hwp_core_rule.Steps.{place_of, word_after}
 use Rattle.hwp_core_task.specs.hwp_core_rule.Views.{view_after, without}
 use Rattle.hwp_core_task.specs.hwp_core_rule.Words.{index}
-use Rattle.hwp_tlb_rule.specs.Caching.{Caching, forgotten, idle_caching, joined_caching}
+use Rattle.hwp_table_words.specs.tlb.Caching.{Caching, forgotten, idle_caching, joined_caching}
 
 -- What the table is: all words and all slots at home, in the order of the frame rule, and the moves that led to them, the
 -- newest first.

@@ -1,3 +1,4 @@
+pub mod tlb
 pub mod Order
 pub mod Operations
 pub mod Known
@@ -17,4 +18,3 @@ pub use Rattle.hwp_core_task.specs.hwp_kill as hwp_kill
 pub use Rattle.hwp_core_task.specs.hwp_page as hwp_page
 pub use Rattle.hwp_plain_words.specs as hwp_plain_words
 pub use Rattle.hwp_core_task.specs.hwp_words as hwp_words
-pub use Rattle.hwp_tlb_rule.specs as hwp_tlb_rule

@@ -19,8 +19,8 @@ use Rattle.hwp_core_task.specs.hwp_core_rule.Words.{index}
 use Rattle.hwp_core_task.specs.Calls.{FitsLayout, logs, rec_of}
 use Rattle.hwp_table_words.specs.Known.{Whole, known_after}
 use Rattle.hwp_table_words.specs.Stands.{Content, FirstMe, Me, first_me}
-use Rattle.hwp_tlb_rule.specs.Rule.{frames_of}
-use Rattle.hwp_tlb_rule.specs.Steps.{caching_after}
+use Rattle.hwp_table_words.specs.tlb.Rule.{frames_of}
+use Rattle.hwp_table_words.specs.tlb.Steps.{caching_after}
 
 -- a step that is to be made: on which machine, of which processor with this view, of which command, which step, and the
 -- content that goes home with it; and how many words the translation caches have

@@ -12,7 +12,7 @@ use Rattle.hwp_core_task.specs.hwp_core_rule.Opening.{opening}
 use Rattle.hwp_core_task.specs.hwp_core_rule.Words.{size}
 use Rattle.hwp_table_words.specs.Known.{Known, Knowing, Whole, moves_by, times, views_for}
 use Rattle.hwp_table_words.specs.Stands.{CachedTable, Table, first_part, stand, AreOfLayout}
-use Rattle.hwp_tlb_rule.specs.Rule.{CachesAgree, Seat}
+use Rattle.hwp_table_words.specs.tlb.Rule.{CachesAgree, Seat}
 
 -- what one seat knows of the whole: it has all rights
 pub record IsWhole (layout : Layout) (s : State) (log : List (ℕ × Rec)) (rights : List ℕ) (w : Whole) : Type 0 where

@@ -19,9 +19,9 @@ use Rattle.hwp_table_words.specs.Known.{Known, Knowing, Whole, known_after, time
 use Rattle.hwp_table_words.specs.Order.{in_table}
 use Rattle.hwp_table_words.specs.Plays.{Call, Finds, IsFront}
 use Rattle.hwp_table_words.specs.Stands.{Content, FirstMe, Me}
-use Rattle.hwp_tlb_rule.specs.Caching.{Caching}
-use Rattle.hwp_tlb_rule.specs.Steps.{IsGuarded}
-use Rattle.hwp_tlb_rule.specs.declared.TlbCounts.{TlbCounts}
+use Rattle.hwp_table_words.specs.tlb.Caching.{Caching}
+use Rattle.hwp_table_words.specs.tlb.Steps.{IsGuarded}
+use Rattle.hwp_table_words.specs.declared.counts.TlbCounts.{TlbCounts}
 
 -- the processor of a seat that has one view, and that view
 abbrev pub cpu_of : List (ℕ × View) → ℕ

@@ -8,17 +8,18 @@ ghost use Rattle.hwp_table_words.specs.Caches.{AreLocked, AreSwept, HasLooked, I
 ghost use Rattle.hwp_table_words.specs.Known.{times};
 ghost use Rattle.hwp_table_words.specs.Seats.{Carries, HasRight, IsSeat, mine_of};
 ghost use Rattle.hwp_table_words.specs.Stands.{first_me};
-ghost use Rattle.hwp_tlb_rule.specs.Caching.{upto_of};
-ghost use Rattle.hwp_tlb_rule.specs.Rule.{frames_of, locks_in};
-ghost use Rattle.hwp_tlb_rule.specs.Steps.{IsGuarded, flushed, looked, shown_after};
-ghost use Rattle.hwp_tlb_rule.specs.Words.{hit_of};
+ghost use Rattle.hwp_table_words.specs.tlb.Caching.{upto_of};
+ghost use Rattle.hwp_table_words.specs.tlb.Rule.{frames_of, locks_in};
+ghost use Rattle.hwp_table_words.specs.tlb.Steps.{IsGuarded, flushed, looked, shown_after};
+ghost use Rattle.hwp_table_words.specs.tlb.Words.{hit_of};
 
+use crate::counts::TlbCounts;
 use crate::entries::{entry_at, fill_as, flush_as, look_as, own_place, search_as};
+use crate::entry::EntryWord;
 use crate::follow::Follow;
 use crate::plays::{Pass, Sheet};
 use crate::ways::Ways;
 use hwp_core_task::{Frame, Layout, SharedWord, Step, VSlot, Who};
-use hwp_tlb_rule::{EntryWord, TlbCounts};
 use std::marker::Brand;
 
 /// What each place of a processor's cache was filled with last. It says where to look, and nothing rests on it.

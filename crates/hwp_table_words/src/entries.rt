@@ -2,7 +2,7 @@ ghost use Rattle.std.specs.Prelude.{◌≡◌, ◌+◌, ◌*◌, ◌<◌, ◌≤
 ghost use Rattle.hwp_core_task.specs.hwp_geom.Layout.{IsSound};
 ghost use Rattle.hwp_core_task.specs.hwp_core_rule.Words.{size};
 ghost use Rattle.hwp_table_words.specs.CachePlays.{CanFill, CanFlush, CanLook, CanSearch, IsEntry, IsFilled, IsFlushed, IsLooked, IsSearched, own_place};
-ghost use Rattle.hwp_tlb_rule.specs.Words.{entry_word};
+ghost use Rattle.hwp_table_words.specs.tlb.Words.{entry_word};
 
 use crate::cache_plays::{Aimed, Fills, Flushes, Looking, Looks, Searches};
 use crate::plays::{Pass, Sheet};

@@ -2,8 +2,8 @@ ghost use Rattle.std.specs.Prelude.{◌≡◌, ◌*◌};
 ghost use Rattle.hwp_core_task.specs.Calls.{CanMake, Steps, logs, rec_of};
 ghost use Rattle.hwp_table_words.specs.Seats.{HasRight, IsSeat, Moves, mine_of, value_of};
 ghost use Rattle.hwp_table_words.specs.Stands.{first_me};
-ghost use Rattle.hwp_tlb_rule.specs.Rule.{frames_of};
-ghost use Rattle.hwp_tlb_rule.specs.Steps.{IsGuarded, caching_after};
+ghost use Rattle.hwp_table_words.specs.tlb.Rule.{frames_of};
+ghost use Rattle.hwp_table_words.specs.tlb.Steps.{IsGuarded, caching_after};
 
 use crate::carrying::{Order, lay, settle};
 use crate::plays::{Pass, Sheet};

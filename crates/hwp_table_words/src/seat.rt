@@ -3,17 +3,17 @@ ghost use Rattle.hwp_core_task.specs.Calls.{CanMake, Steps, logs, rec_of};
 ghost use Rattle.hwp_table_words.specs.CacheCounts.{told_counts};
 ghost use Rattle.hwp_table_words.specs.Known.{idling, let_go, note, with_note};
 ghost use Rattle.hwp_table_words.specs.Seats.{HasRight, IsTableOf, Moves, cpu_of, mine, mine_of, slots_of, value_of};
-ghost use Rattle.hwp_tlb_rule.specs.Caching.{idle_caching};
+ghost use Rattle.hwp_table_words.specs.tlb.Caching.{idle_caching};
 
 use crate::baton::{join, let_go};
 use crate::caching::{Filled, follow, look};
 use crate::carrying::Order;
+use crate::counts::TlbCounts;
 use crate::making::one;
 use crate::plays::{Pass, Sheet};
 use crate::ways::Ways;
 use arrayvec::ArrayVec;
 use hwp_core_task::{Body, Layout, Met, Step, Who};
-use hwp_tlb_rule::TlbCounts;
 use std::marker::Model;
 
 /// A seat at the table that has the view of one processor, with the slots of its locks, which are empty between its steps.

@@ -2,7 +2,7 @@
 use Rattle.std.proofs.Common.{map, drop}
 use Rattle.hwp_core_task.specs.hwp_core_rule.Words.{size}
 use Rattle.hwp_table_words.proofs.TableKeeps.{reached-holds}
-use Rattle.hwp_table_words.proofs.of_hwp_tlb_rule.Named.{none-handled}
+use Rattle.hwp_table_words.proofs.tlb.Named.{none-handled}
 use Rattle.hwp_table_words.specs.Rules.{cache_seat}
 use Rattle.hwp_table_words.specs.Stands.{first_part, stand}
 use Rattle.hwp_tlb.specs.Law.{NoneHandled}

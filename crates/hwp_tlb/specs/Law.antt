@@ -2,8 +2,8 @@
 use Rattle.std.specs.Prelude.{◌≡◌, ℕ, true, List, [], Some, drop, slice_get}
 use Rattle.hwp_core_task.specs.hwp_geom.declared.Layout.{Layout}
 use Rattle.hwp_core_task.specs.hwp_core_rule.Words.{size, words_of}
-use Rattle.hwp_table_words.specs.hwp_tlb_rule.Rule.{IsInUse}
-use Rattle.hwp_table_words.specs.hwp_tlb_rule.Words.{is_of}
+use Rattle.hwp_table_words.specs.tlb.Rule.{IsInUse}
+use Rattle.hwp_table_words.specs.tlb.Words.{is_of}
 use Rattle.hwp_table_words.specs.Rules.{Kept}
 use Rattle.hwp_table_words.specs.Stands.{CachedTable, first_part, stand}
 

@@ -1,7 +1,7 @@
 -- The caches of a table that was closed lead where the translations do, and name frames in use alone.
 use Rattle.std.proofs.Common.{ℕ, []}
 use Rattle.std.proofs.lemmas.Option.{none-some}
-use Rattle.hwp_table_words.proofs.of_hwp_tlb_rule.Named.{none-handled}
+use Rattle.hwp_table_words.proofs.tlb.Named.{none-handled}
 use Rattle.hwp_table_words.specs.Ends.{EndValue, IsEnd, board_of}
 use Rattle.hwp_top_turns.specs.Caches.{IsCachedEnd}
 

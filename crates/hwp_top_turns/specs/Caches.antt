@@ -1,8 +1,8 @@
 -- The translation caches of a table that was closed.
 use Rattle.std.specs.Prelude.{◌≡◌, ◌⊎◌, ℕ, ◌*◌, true, Some, length, slice_get}
 use Rattle.hwp_table_words.specs.hwp_core_rule.Words.{words_of}
-use Rattle.hwp_table_words.specs.hwp_tlb_rule.Rule.{IsInUse, Leads}
-use Rattle.hwp_table_words.specs.hwp_tlb_rule.Words.{is_of}
+use Rattle.hwp_table_words.specs.tlb.Rule.{IsInUse, Leads}
+use Rattle.hwp_table_words.specs.tlb.Words.{is_of}
 use Rattle.hwp_table_words.specs.Ends.{EndValue}
 
 -- Each processor has so many entries. An entry leads where its translation does, so that no entry names a frame that is handled, or one that

@@ -30,6 +30,5 @@ pub use Rattle.hwp_top_report.specs.hwp_soft as hwp_soft
 pub use Rattle.hwp_top_report.specs.hwp_soft_move as hwp_soft_move
 pub use Rattle.hwp_top_report.specs.hwp_soft_unpoison as hwp_soft_unpoison
 pub use Rattle.hwp_table_words.specs as hwp_table_words
-pub use Rattle.hwp_table_words.specs.hwp_tlb_rule as hwp_tlb_rule
 pub use Rattle.hwp_top_report.specs as hwp_top_report
 pub use Rattle.hwp_table_words.specs.hwp_words as hwp_words

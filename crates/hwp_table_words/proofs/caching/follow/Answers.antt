@@ -1,7 +1,7 @@
 use Rattle.std.proofs.Common.{ℕ, ◌*◌, ◌<◌, ◌≤◌, sym, ap, ◌∙◌, subst}
 use Rattle.hwp_core_task.specs.hwp_core_rule.declared.Step.{Step}
-use Rattle.hwp_tlb_rule.specs.Rule.{frames_of}
-use Rattle.hwp_tlb_rule.specs.Steps.{shown_after}
+use Rattle.hwp_table_words.specs.tlb.Rule.{frames_of}
+use Rattle.hwp_table_words.specs.tlb.Steps.{shown_after}
 use Rattle.hwp_table_words.specs.declared.follow.Follow.{Follow}
 use Rattle.hwp_table_words.specs.declared.follow.Follow.TheVariants as follows
 use Rattle.hwp_table_words.specs.Caches.{IsAlmostGuarded, IsListed}

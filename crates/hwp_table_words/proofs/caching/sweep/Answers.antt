@@ -1,7 +1,7 @@
 use Rattle.std.proofs.Common.{ℕ, ◌*◌, ◌<◌, ◌≤◌, List, refl, sym, ap, ◌∙◌, subst, arith}
 use Rattle.hwp_core_task.specs.hwp_core_rule.declared.View.{View}
-use Rattle.hwp_tlb_rule.specs.Caching.{upto_of}
-use Rattle.hwp_tlb_rule.specs.Rule.{locks_in, times}
+use Rattle.hwp_table_words.specs.tlb.Caching.{upto_of}
+use Rattle.hwp_table_words.specs.tlb.Rule.{locks_in, times}
 use Rattle.hwp_table_words.specs.Stands.{Me}
 use Rattle.hwp_table_words.proofs.Sweeps.{swept-on, swept-same, through}
 use Rattle.hwp_table_words.proofs.caching.sweep.Goals as goal

@@ -1,5 +1,5 @@
 use Rattle.std.proofs.Common.{◌≡◌, ℕ, ◌*◌, ◌<◌, ◌≤◌, Some, slice_get}
-use Rattle.hwp_tlb_rule.specs.Caching.{upto_of}
+use Rattle.hwp_table_words.specs.tlb.Caching.{upto_of}
 use Rattle.hwp_table_words.specs.CacheCounts.{told_counts}
 use Rattle.hwp_table_words.specs.Caches.{IsSweptOn}
 use Rattle.hwp_table_words.proofs.caching.sweep_all.Given as goal

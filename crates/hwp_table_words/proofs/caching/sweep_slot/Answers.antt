@@ -1,6 +1,6 @@
 use Rattle.std.proofs.Common.{ℕ, ◌*◌, ◌<◌, ◌≤◌, sym, subst}
-use Rattle.hwp_tlb_rule.specs.Caching.{upto_of}
-use Rattle.hwp_tlb_rule.specs.Rule.{locks_in, times}
+use Rattle.hwp_table_words.specs.tlb.Caching.{upto_of}
+use Rattle.hwp_table_words.specs.tlb.Rule.{locks_in, times}
 use Rattle.hwp_table_words.proofs.caching.sweep_slot.Goals as goal
 
 pub sweep-requires-clause-locked : goal.sweep-requires-clause-locked

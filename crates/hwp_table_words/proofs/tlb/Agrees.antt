@@ -8,10 +8,10 @@ use Rattle.hwp_core_task.specs.hwp_core_rule.declared.View.{View}
 use Rattle.hwp_core_task.specs.hwp_core_rule.Lists.{EachMember}
 use Rattle.hwp_core_task.specs.hwp_core_rule.Words.{words_of}
 use Rattle.hwp_core_task.proofs.of_hwp_core_rule.Lists.{each-set, each-push}
-use Rattle.hwp_tlb_rule.specs.Caching.{Caching, Counts, forgotten, idle_caching, joined_caching}
-use Rattle.hwp_tlb_rule.specs.Rule.{CachesAgree, IsCleared, IsGlimpsed, IsShown, Knows, Seat, frames_of, locks_in, times}
-use Rattle.hwp_tlb_rule.specs.Steps.{hit}
-use Rattle.hwp_tlb_rule.proofs.LockTimes.{times-append}
+use Rattle.hwp_table_words.specs.tlb.Caching.{Caching, Counts, forgotten, idle_caching, joined_caching}
+use Rattle.hwp_table_words.specs.tlb.Rule.{CachesAgree, IsCleared, IsGlimpsed, IsShown, Knows, Seat, frames_of, locks_in, times}
+use Rattle.hwp_table_words.specs.tlb.Steps.{hit}
+use Rattle.hwp_table_words.proofs.tlb.LockTimes.{times-append}
 
 -- who lists nothing is right
 pub knows-nothing : (trans entries locks : List ℕ) (counts : Counts) → Knows trans entries locks (record { cleared = []; glimpse = None; shown = None; counts = counts })

@@ -1,5 +1,5 @@
 ghost use Rattle.std.specs.Prelude.{◌≡◌};
-ghost use Rattle.hwp_tlb_rule.specs.Words.{entry_reading, entry_word_of, is_of};
+ghost use Rattle.hwp_table_words.specs.tlb.Words.{entry_reading, entry_word_of, is_of};
 
 use hwp_core_task::{Frame, VSlot};
 

@@ -3,7 +3,7 @@ use Rattle.std.specs.Prelude.{ℕ, ◌+◌, ◌-◌, ◌*◌, ◌/◌, ◌%◌, 
 use Rattle.hwp_core_task.specs.hwp_geom.declared.Frame.{Frame}
 use Rattle.hwp_core_task.specs.hwp_geom.declared.VSlot.{VSlot}
 use Rattle.hwp_core_task.specs.hwp_words.Fields.{Field, field}
-use Rattle.hwp_tlb_rule.specs.declared.entry.EntryWord.{EntryWord}
+use Rattle.hwp_table_words.specs.declared.entry.EntryWord.{EntryWord}
 
 -- the entry of a translation that leads to a frame
 abbrev pub entry_word : ℕ → ℕ → ℕ

@@ -19,9 +19,9 @@ use Rattle.hwp_core_task.specs.hwp_core_rule.Views.{locks_on}
 use Rattle.hwp_core_task.specs.hwp_core_rule.Words.{words_of}
 use Rattle.hwp_core_task.proofs.of_hwp_core_rule.Lists.{same-or, at_map, each-map, sum-map, term-le, terms-le, from_bool-same, from_bool-other}
 use Rattle.hwp_core_task.proofs.of_hwp_core_rule.MoveKeeps.{shaped}
-use Rattle.hwp_tlb_rule.specs.Caching.{Caching}
-use Rattle.hwp_tlb_rule.specs.Rule.{HaveViews, Seat, locks_in, times, views_for}
-use Rattle.hwp_tlb_rule.proofs.LockTimes.{some-listed}
+use Rattle.hwp_table_words.specs.tlb.Caching.{Caching}
+use Rattle.hwp_table_words.specs.tlb.Rule.{HaveViews, Seat, locks_in, times, views_for}
+use Rattle.hwp_table_words.proofs.tlb.LockTimes.{some-listed}
 
 -- a view that is there is counted
 pub counted : (c : ℕ) (m : View) (mines : List (ℕ × View)) (i : ℕ) → slice_get mines i ≡ Some (c, m) → 0 < views_for c mines

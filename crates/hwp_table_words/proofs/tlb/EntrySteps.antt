@@ -13,13 +13,13 @@ use Rattle.hwp_core_task.specs.hwp_core_rule.Rule.{Holds}
 use Rattle.hwp_core_task.specs.hwp_core_rule.Steps.{exchanged}
 use Rattle.hwp_core_task.specs.hwp_core_rule.Words.{words_of}
 use Rattle.hwp_core_task.proofs.of_hwp_core_rule.Lists.{at_set, not-both, same-number, set_again}
-use Rattle.hwp_tlb_rule.specs.Caching.{Caching, Cleared, upto_of, with_upto}
-use Rattle.hwp_tlb_rule.specs.Rule.{CachesAgree, HaveViews, IsCleared, IsGlimpsed, IsShown, Knows, Leads, Seat, locks_in, times}
-use Rattle.hwp_tlb_rule.specs.Steps.{filled, flushed, looked}
-use Rattle.hwp_tlb_rule.specs.Words.{entry_word, is_of}
-use Rattle.hwp_tlb_rule.proofs.CachingLaws.{each-gone, each-upto, upto-listed}
-use Rattle.hwp_tlb_rule.proofs.Named.{entry-frame, slot-few}
-use Rattle.hwp_tlb_rule.proofs.SeatViews.{listed-few, seats-apart}
+use Rattle.hwp_table_words.specs.tlb.Caching.{Caching, Cleared, upto_of, with_upto}
+use Rattle.hwp_table_words.specs.tlb.Rule.{CachesAgree, HaveViews, IsCleared, IsGlimpsed, IsShown, Knows, Leads, Seat, locks_in, times}
+use Rattle.hwp_table_words.specs.tlb.Steps.{filled, flushed, looked}
+use Rattle.hwp_table_words.specs.tlb.Words.{entry_word, is_of}
+use Rattle.hwp_table_words.proofs.tlb.CachingLaws.{each-gone, each-upto, upto-listed}
+use Rattle.hwp_table_words.proofs.tlb.Named.{entry-frame, slot-few}
+use Rattle.hwp_table_words.proofs.tlb.SeatViews.{listed-few, seats-apart}
 
 -- an entry that is 0 names no frame, and one of a frame no other
 pub none-of : (g : ℕ) → is_of g 0 ≡ false

@@ -9,9 +9,9 @@ use Rattle.hwp_core_task.specs.hwp_core_rule.declared.Step.{Step}
 use Rattle.hwp_core_task.specs.hwp_core_rule.declared.Step.TheVariants as steps
 use Rattle.hwp_core_task.specs.hwp_core_rule.declared.View.{View}
 use Rattle.hwp_core_task.specs.hwp_core_rule.Views.{locks_on, view_after}
-use Rattle.hwp_tlb_rule.specs.Caching.{Caching, Cleared, Shown, upto_of, with_upto, without_frame}
-use Rattle.hwp_tlb_rule.specs.Rule.{times}
-use Rattle.hwp_tlb_rule.specs.Words.{is_of}
+use Rattle.hwp_table_words.specs.tlb.Caching.{Caching, Cleared, Shown, upto_of, with_upto, without_frame}
+use Rattle.hwp_table_words.specs.tlb.Rule.{times}
+use Rattle.hwp_table_words.specs.tlb.Words.{is_of}
 
 -- a load of a translation that leads to a frame whose lock the seat has
 abbrev pub shown_by : SharedWord → ℕ → List ℕ → Option Shown

@@ -8,7 +8,7 @@ use Rattle.hwp_core_task.specs.hwp_core_rule.declared.View.{View}
 use Rattle.hwp_core_task.specs.hwp_core_rule.Lists.{SomeMember}
 use Rattle.hwp_core_task.specs.hwp_core_rule.Views.{locks_on}
 use Rattle.hwp_core_task.proofs.of_hwp_core_rule.Lists.{sum-map}
-use Rattle.hwp_tlb_rule.specs.Rule.{frames_of, locks_in, times}
+use Rattle.hwp_table_words.specs.tlb.Rule.{frames_of, locks_in, times}
 
 pub times-append : (n : ℕ) (xs ys : List ℕ) → times n (xs ++ ys) ≡ times n xs + times n ys
 times-append n xs ys = sum_by-append (λ (m : ℕ). from_bool (m == n)) xs ys

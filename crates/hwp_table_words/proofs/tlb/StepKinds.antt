@@ -19,11 +19,11 @@ use Rattle.hwp_core_task.specs.hwp_core_rule.Steps.{goes, place_of, word_after}
 use Rattle.hwp_core_task.specs.hwp_core_rule.Views.{noted, view_after}
 use Rattle.hwp_core_task.specs.hwp_core_rule.Words.{Words, put, read}
 use Rattle.hwp_core_task.proofs.of_hwp_core_rule.WordsByKind.{same-put}
-use Rattle.hwp_tlb_rule.specs.Caching.{Cleared, Shown, with_upto, without_frame}
-use Rattle.hwp_tlb_rule.specs.Rule.{frames_of, locks_in, times}
-use Rattle.hwp_tlb_rule.specs.Steps.{cleared_after, mine_after, shown_after, shown_by}
-use Rattle.hwp_tlb_rule.proofs.LockSlots.{less, locks-after, locks_then}
-use Rattle.hwp_tlb_rule.proofs.LockTimes.{times-append}
+use Rattle.hwp_table_words.specs.tlb.Caching.{Cleared, Shown, with_upto, without_frame}
+use Rattle.hwp_table_words.specs.tlb.Rule.{frames_of, locks_in, times}
+use Rattle.hwp_table_words.specs.tlb.Steps.{cleared_after, mine_after, shown_after, shown_by}
+use Rattle.hwp_table_words.proofs.tlb.LockSlots.{less, locks-after, locks_then}
+use Rattle.hwp_table_words.proofs.tlb.LockTimes.{times-append}
 
 -- the step writes a translation
 abbrev pub is_pte : Step → Bool

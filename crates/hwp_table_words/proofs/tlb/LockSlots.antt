@@ -18,7 +18,7 @@ use Rattle.hwp_core_task.specs.hwp_core_rule.declared.View.{View}
 use Rattle.hwp_core_task.specs.hwp_core_rule.Steps.{goes}
 use Rattle.hwp_core_task.specs.hwp_core_rule.Views.{without, changed, is_lock_of, is_page_lock_of, loaded, taken, listed_of, put_home, body_of, view_by, lock_found, lock_of_page, poisoned}
 use Rattle.hwp_core_task.specs.hwp_core_rule.Logs.{log_of}
-use Rattle.hwp_tlb_rule.specs.Rule.{frames_of}
+use Rattle.hwp_table_words.specs.tlb.Rule.{frames_of}
 
 -- the list without the number, where it stands first
 abbrev pub less : ℕ → List ℕ → List ℕ

@@ -4,7 +4,7 @@ use Rattle.std.proofs.lemmas.Bool.{eqb-true}
 use Rattle.std.proofs.lemmas.Option.{none-some, same_Some}
 use Rattle.hwp_core_task.specs.hwp_core_rule.Lists.{EachMember}
 use Rattle.hwp_core_task.proofs.of_hwp_core_rule.Lists.{not-both, same-number}
-use Rattle.hwp_tlb_rule.specs.Caching.{Caching, Cleared, idle_caching, joined_caching, upto_of, with_upto, without_frame}
+use Rattle.hwp_table_words.specs.tlb.Caching.{Caching, Cleared, idle_caching, joined_caching, upto_of, with_upto, without_frame}
 
 -- raised for its frame
 pub upto-raised : (f n : ℕ) (list : List Cleared) → upto_of f (with_upto f n list) ≡ max (upto_of f list) n

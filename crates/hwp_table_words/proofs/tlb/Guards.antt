@@ -26,13 +26,13 @@ use Rattle.hwp_core_task.specs.hwp_core_rule.Views.{locks_on, noted, view_after}
 use Rattle.hwp_core_task.specs.hwp_core_rule.Words.{words_of}
 use Rattle.hwp_core_task.proofs.of_hwp_core_rule.Lists.{at_map, same-or, term-le, from_bool-other}
 use Rattle.hwp_core_task.proofs.of_hwp_core_rule.MoveKeeps.{shaped}
-use Rattle.hwp_tlb_rule.specs.Caching.{Caching, Cleared, upto_of, with_upto, without_frame}
-use Rattle.hwp_tlb_rule.specs.Rule.{frames_of, times}
-use Rattle.hwp_tlb_rule.specs.Steps.{IsGuarded, caching_after, cleared_after, shown_after}
-use Rattle.hwp_tlb_rule.proofs.CachingLaws.{upto-gone, upto-grows, upto-raised}
-use Rattle.hwp_tlb_rule.proofs.LockSlots.{less, locks-after, locks_then, pages-after, pages_of, pages_then}
-use Rattle.hwp_tlb_rule.proofs.LockTimes.{times-append, times-cons, times-frames}
-use Rattle.hwp_tlb_rule.proofs.SeatViews.{lock-there}
+use Rattle.hwp_table_words.specs.tlb.Caching.{Caching, Cleared, upto_of, with_upto, without_frame}
+use Rattle.hwp_table_words.specs.tlb.Rule.{frames_of, times}
+use Rattle.hwp_table_words.specs.tlb.Steps.{IsGuarded, caching_after, cleared_after, shown_after}
+use Rattle.hwp_table_words.proofs.tlb.CachingLaws.{upto-gone, upto-grows, upto-raised}
+use Rattle.hwp_table_words.proofs.tlb.LockSlots.{less, locks-after, locks_then, pages-after, pages_of, pages_then}
+use Rattle.hwp_table_words.proofs.tlb.LockTimes.{times-append, times-cons, times-frames}
+use Rattle.hwp_table_words.proofs.tlb.SeatViews.{lock-there}
 
 -- a view lists the lock of a frame at most once
 pub locks-once : (layout : Layout) (s : State) → Holds layout s → (c : ℕ) (v : View) → slice_get s.views c ≡ Some v → (f : ℕ) → locks_on f v.locks ≤ 1

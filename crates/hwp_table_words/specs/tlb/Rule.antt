@@ -9,8 +9,8 @@ use Rattle.hwp_core_task.specs.hwp_core_rule.declared.State.{State}
 use Rattle.hwp_core_task.specs.hwp_core_rule.declared.View.{View}
 use Rattle.hwp_core_task.specs.hwp_core_rule.Lists.{EachMember}
 use Rattle.hwp_core_task.specs.hwp_core_rule.Words.{words_of}
-use Rattle.hwp_tlb_rule.specs.Caching.{Caching, Cleared, Glimpse, Shown}
-use Rattle.hwp_tlb_rule.specs.Words.{entry_word, is_of}
+use Rattle.hwp_table_words.specs.tlb.Caching.{Caching, Cleared, Glimpse, Shown}
+use Rattle.hwp_table_words.specs.tlb.Words.{entry_word, is_of}
 
 -- the frames of locks
 abbrev pub frames_of : List FrameLock → List ℕ

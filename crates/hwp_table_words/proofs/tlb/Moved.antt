@@ -27,17 +27,17 @@ use Rattle.hwp_core_task.proofs.of_hwp_core_rule.Lists.{at_map, at_set, each-wea
 use Rattle.hwp_core_task.proofs.of_hwp_core_rule.MoveKeeps.{shaped}
 use Rattle.hwp_core_task.proofs.of_hwp_core_rule.steps.NameSteps.{frame_in-name}
 use Rattle.hwp_core_task.proofs.of_hwp_core_rule.WordsByKind.{word-there, words-put, words-read}
-use Rattle.hwp_tlb_rule.specs.Caching.{Caching, Cleared, Shown, upto_of, with_upto}
-use Rattle.hwp_tlb_rule.specs.Rule.{CachesAgree, HaveViews, IsCleared, IsShown, Knows, Leads, Seat, frames_of, locks_in, times}
-use Rattle.hwp_tlb_rule.specs.Steps.{IsGuarded, caching_after, mine_after}
-use Rattle.hwp_tlb_rule.specs.Words.{entry_word, is_of}
-use Rattle.hwp_tlb_rule.proofs.CachingLaws.{each-gone}
-use Rattle.hwp_tlb_rule.proofs.EntrySteps.{cleared-upto, raised-cleared}
-use Rattle.hwp_tlb_rule.proofs.LockSlots.{locks-after, locks_then}
-use Rattle.hwp_tlb_rule.proofs.LockTimes.{listed-in, times-append, times-cons, times-frames}
-use Rattle.hwp_tlb_rule.proofs.Named.{entry-frame, entry-leads, in-hand-unnamed, slot-few}
-use Rattle.hwp_tlb_rule.proofs.SeatViews.{listed-few, seats-apart}
-use Rattle.hwp_tlb_rule.proofs.StepKinds.{IsShowing, cleared-then, frees_lock, is_pte, pte-is, put-trans, seat-keeps, shown-then}
+use Rattle.hwp_table_words.specs.tlb.Caching.{Caching, Cleared, Shown, upto_of, with_upto}
+use Rattle.hwp_table_words.specs.tlb.Rule.{CachesAgree, HaveViews, IsCleared, IsShown, Knows, Leads, Seat, frames_of, locks_in, times}
+use Rattle.hwp_table_words.specs.tlb.Steps.{IsGuarded, caching_after, mine_after}
+use Rattle.hwp_table_words.specs.tlb.Words.{entry_word, is_of}
+use Rattle.hwp_table_words.proofs.tlb.CachingLaws.{each-gone}
+use Rattle.hwp_table_words.proofs.tlb.EntrySteps.{cleared-upto, raised-cleared}
+use Rattle.hwp_table_words.proofs.tlb.LockSlots.{locks-after, locks_then}
+use Rattle.hwp_table_words.proofs.tlb.LockTimes.{listed-in, times-append, times-cons, times-frames}
+use Rattle.hwp_table_words.proofs.tlb.Named.{entry-frame, entry-leads, in-hand-unnamed, slot-few}
+use Rattle.hwp_table_words.proofs.tlb.SeatViews.{listed-few, seats-apart}
+use Rattle.hwp_table_words.proofs.tlb.StepKinds.{IsShowing, cleared-then, frees_lock, is_pte, pte-is, put-trans, seat-keeps, shown-then}
 
 -- the translation words after a move
 pub trans-moved : (layout : Layout) (s : State) → Holds layout s → (c : ℕ) (r : Rec) (t : State) → Move layout c r s t

@@ -22,8 +22,8 @@ use Rattle.hwp_core_task.specs.hwp_core_rule.Words.{words_of, free_bit}
 use Rattle.hwp_core_task.proofs.of_hwp_core_rule.FramesInHand.{in_hand-mine}
 use Rattle.hwp_core_task.proofs.of_hwp_core_rule.Lists.{at_map, term-le, from_bool-same}
 use Rattle.hwp_core_task.proofs.of_hwp_core_rule.MoveKeeps.{shaped}
-use Rattle.hwp_tlb_rule.specs.Rule.{CachesAgree, NamesInUse, Seat}
-use Rattle.hwp_tlb_rule.specs.Words.{entry_frame_field, entry_named, entry_reading, entry_slot_field, entry_word, hit_of, hit_to, is_of}
+use Rattle.hwp_table_words.specs.tlb.Rule.{CachesAgree, NamesInUse, Seat}
+use Rattle.hwp_table_words.specs.tlb.Words.{entry_frame_field, entry_named, entry_reading, entry_slot_field, entry_word, hit_of, hit_to, is_of}
 
 -- a member of a list that is long enough
 pub at-within : {A : Type 0} (l : List A) (i : ℕ) → i < length l → (x : A) × (slice_get l i ≡ Some x)

@@ -1,0 +1,4 @@
+pub mod Words
+pub mod Caching
+pub mod Rule
+pub mod Steps
