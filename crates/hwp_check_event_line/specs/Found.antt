@@ -11,10 +11,9 @@ use Rattle.hwp_banks.specs.declared.Origin.TheVariants as origins
 use Rattle.hwp_check_poison.specs.hwp_law.hwp_script_read.declared.Script.{Script}
 use Rattle.hwp_check_poison.specs.hwp_law.hwp_report_text.declared.Report.{Report}
 use Rattle.hwp_check_poison.specs.hwp_law.Checks.{IsLineOf}
-use Rattle.hwp_banks.specs.Banks.{Banks}
+use Rattle.hwp_banks.specs.Banks.{Banks, raw_bank}
 use Rattle.hwp_check_poison.specs.hwp_law.hwp_severity.Handling.{is_stop, severity_of}
 use Rattle.hwp_check_poison.specs.hwp_law.hwp_severity.declared.Arrival.{Arrival}
-use Rattle.hwp_banks.specs.Banks.{raw_bank}
 use Rattle.hwp_check_poison.specs.hwp_law.hwp_report_text.declared.EventLine.{EventLine}
 use Rattle.hwp_check_poison.specs.hwp_law.Lines.{bad_lines_of}
 

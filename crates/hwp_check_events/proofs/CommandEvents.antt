@@ -16,26 +16,25 @@ use Rattle.hwp_law.specs.hwp_report_text.declared.Answer.TheVariants as answers
 use Rattle.hwp_law.specs.hwp_report_text.declared.EventLine.{EventLine}
 use Rattle.hwp_law.specs.hwp_report_text.declared.Report.{Report}
 use Rattle.hwp_law.specs.Checks.{IsCheck}
-use Rattle.hwp_banks.specs.Banks.{Banks, empty_banks}
+use Rattle.hwp_banks.specs.Banks.{Banks, empty_banks, raw_event}
 use Rattle.hwp_law.specs.hwp_law_commands.Commands.{arrival_of}
 use Rattle.hwp_law.specs.hwp_severity.declared.Arrival.{Arrival}
 use Rattle.hwp_law.specs.Events.{AreEventsOf, AreScrubbed, IsDamaged, IsRaise, is_raised, logged_if_done, AreAccessChecks, access_lines, store_lines}
-use Rattle.hwp_banks.specs.Banks.{raw_event}
 use Rattle.hwp_law.specs.Lines.{answer_of}
 use Rattle.hwp_check_events.specs.Accesses.{IsAccessLine, IsRaisedLine, asked_by_access, access_of}
-use Rattle.hwp_check_scrub.specs.hwp_check_event_line.Firsts.{AreRight}
-use Rattle.hwp_check_scrub.specs.hwp_check_event_line.Found.{of_access, resting}
+use Rattle.hwp_check_event_line.specs.Firsts.{AreRight}
+use Rattle.hwp_check_event_line.specs.Found.{of_access, resting}
 use Rattle.hwp_check_events.specs.Misfits.{IsFit, IsRightLine, Lacks, course_of, leaves, logged_if}
-use Rattle.hwp_check_scrub.specs.Scrubs.{Course, IsScrubbedLine, after, after_all, comes_instead, is_instead, lacking, marked_from, reach_from, turn}
-use Rattle.hwp_check_scrub.specs.Scrubbing.{IsRightIn}
-use Rattle.hwp_check_scrub.specs.declared.Reach.{Reach}
-use Rattle.hwp_check_scrub.specs.declared.Turn.{Turn}
-use Rattle.hwp_check_scrub.specs.declared.Turn.TheVariants as turns
+use Rattle.hwp_check_event_line.specs.Scrubs.{Course, IsScrubbedLine, after, after_all, comes_instead, is_instead, lacking, marked_from, reach_from, turn}
+use Rattle.hwp_check_event_line.specs.Scrubbing.{IsRightIn}
+use Rattle.hwp_check_event_line.specs.declared.Reach.{Reach}
+use Rattle.hwp_check_event_line.specs.declared.Turn.{Turn}
+use Rattle.hwp_check_event_line.specs.declared.Turn.TheVariants as turns
 use Rattle.hwp_check_events.proofs.AccessLaws.{access-back, access-forth}
 use Rattle.hwp_check_events.proofs.LowestMarks.{HasLines, backs, lows, most}
 use Rattle.hwp_check_events.proofs.RaiseLaws.{check-back, check-forth}
-use Rattle.hwp_check_scrub.proofs.ScrubBack.{frames-back}
-use Rattle.hwp_check_scrub.proofs.ScrubForth.{AllGood, Ready, bound-has, can-meet, frames-forth, step}
+use Rattle.hwp_check_event_line.proofs.ScrubBack.{frames-back}
+use Rattle.hwp_check_event_line.proofs.ScrubForth.{AllGood, Ready, bound-has, can-meet, frames-forth, step}
 use Rattle.hwp_banks.specs.hwp_geom.declared.VSlot.{VSlot}
 
 -- lines that can be damaged are lines

@@ -8,8 +8,8 @@ use Rattle.hwp_law.specs.hwp_report_text.declared.CpuLine.TheVariants as lines
 use Rattle.hwp_law.specs.hwp_report_text.declared.EventLine.{EventLine}
 use Rattle.hwp_law.specs.Lines.{events_among}
 use Rattle.hwp_check_events.specs.Indexed.{AreShown, own_shown, shown_at, shown_from, with_shown}
-use Rattle.hwp_check_scrub.specs.hwp_check_event_line.Firsts.{shown_lines}
-use Rattle.hwp_check_scrub.specs.hwp_check_event_line.declared.Shown.{Shown}
+use Rattle.hwp_check_event_line.specs.Firsts.{shown_lines}
+use Rattle.hwp_check_event_line.specs.declared.Shown.{Shown}
 
 append-none : (l : List Shown) → l ++ [] ≡ l
 append-none [] = refl

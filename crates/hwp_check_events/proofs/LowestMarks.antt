@@ -20,8 +20,8 @@ use Rattle.hwp_law.specs.Events.{MeetsMarked, marking}
 use Rattle.hwp_law.specs.Lines.{answer_of}
 use Rattle.hwp_law.specs.hwp_law_commands.Commands.{command_at}
 use Rattle.hwp_check_events.specs.Misfits.{commands_before, is_scrubbed, low_of}
-use Rattle.hwp_check_scrub.specs.Scrubs.{lowest, marked_at, place_of}
-use Rattle.hwp_check_scrub.proofs.ScrubForth.{MeetsLow}
+use Rattle.hwp_check_event_line.specs.Scrubs.{lowest, marked_at, place_of}
+use Rattle.hwp_check_event_line.proofs.ScrubForth.{MeetsLow}
 
 -- items of the beginning of a list
 get-take : {X : Type 0} (xs : List X) (n i : ℕ) (x : X) → slice_get xs i ≡ Some x → i < n → slice_get (take n xs) i ≡ Some x

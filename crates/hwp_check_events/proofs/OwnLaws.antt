@@ -17,9 +17,9 @@ use Rattle.hwp_law.specs.Events.{IsDamaged}
 use Rattle.hwp_law.specs.hwp_report_text.declared.EventLine.{EventLine}
 use Rattle.hwp_law.specs.Lines.{bad_lines_of}
 use Rattle.hwp_check_events.specs.Accesses.{IsOwnLine}
-use Rattle.hwp_check_scrub.specs.hwp_check_event_line.Found.{IsCandidate, beside, has_stopper, may_stop, of_access, own_found, stops}
-use Rattle.hwp_check_scrub.proofs.of_hwp_check_event_line.FoundLaws.{same-stop}
-use Rattle.hwp_check_scrub.proofs.of_hwp_check_event_line.LineLaws.{frame-of-line}
+use Rattle.hwp_check_event_line.specs.Found.{IsCandidate, beside, has_stopper, may_stop, of_access, own_found, stops}
+use Rattle.hwp_check_event_line.proofs.FoundLaws.{same-stop}
+use Rattle.hwp_check_event_line.proofs.LineLaws.{frame-of-line}
 
 is-bad : (report : Report) (origin : Origin) → of_access origin ≡ true → (frame at : ℕ) → IsDamaged report origin frame at → IsBitSet (bad_lines_of report frame) at
 is-bad report origins.Access is frame at set = set

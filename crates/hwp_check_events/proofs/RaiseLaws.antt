@@ -10,10 +10,10 @@ use Rattle.hwp_law.specs.Checks.{IsCheck}
 use Rattle.hwp_law.specs.hwp_severity.declared.Arrival.{Arrival}
 use Rattle.hwp_law.specs.hwp_report_text.declared.EventLine.{EventLine}
 use Rattle.hwp_check_events.specs.Accesses.{IsRaisedLine}
-use Rattle.hwp_check_scrub.specs.hwp_check_event_line.Found.{IsRawLine, may_stop, resting, stops}
-use Rattle.hwp_check_scrub.specs.hwp_check_event_line.Firsts.{AreRight, AreRightTo, IsFirstWrong, shown_lines}
-use Rattle.hwp_check_scrub.specs.hwp_check_event_line.declared.Shown.{Shown}
-use Rattle.hwp_check_scrub.proofs.of_hwp_check_event_line.FoundLaws.{one-line, or-none}
+use Rattle.hwp_check_event_line.specs.Found.{IsRawLine, may_stop, resting, stops}
+use Rattle.hwp_check_event_line.specs.Firsts.{AreRight, AreRightTo, IsFirstWrong, shown_lines}
+use Rattle.hwp_check_event_line.specs.declared.Shown.{Shown}
+use Rattle.hwp_check_event_line.proofs.FoundLaws.{one-line, or-none}
 
 module _ (script : Script) (report : Report) (who : Who) (how : Arrival) where
   abbrev Right : Option Event → ℕ → EventLine → Type 0

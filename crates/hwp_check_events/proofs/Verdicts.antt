@@ -23,7 +23,7 @@ use Rattle.hwp_law.specs.Events.{AreEventsFrom, IsDamaged}
 use Rattle.hwp_check_events.specs.Misfits.{AreTold}
 use Rattle.hwp_check_events.specs.Walked.{AllRight, IsFirstRow, IsProcessorJudged, IsTableOf, IsWalked, IsWrongRow, LacksSome}
 use Rattle.hwp_check_events.specs.declared.misfits.Misfits.{Misfits}
-use Rattle.hwp_check_scrub.proofs.of_hwp_check_event_line.LineLaws.{no-line}
+use Rattle.hwp_check_event_line.proofs.LineLaws.{no-line}
 use Rattle.hwp_check_events.proofs.ValidLaws.{fits, has-lines}
 use Rattle.hwp_check_events.proofs.Walks.{processor-law}
 use Rattle.hwp_check_events.proofs.CommandEvents.{AreMasks}

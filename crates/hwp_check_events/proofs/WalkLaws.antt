@@ -13,14 +13,14 @@ use Rattle.hwp_law.specs.hwp_report_text.declared.CpuLine.TheVariants as rowkind
 use Rattle.hwp_law.specs.hwp_report_text.declared.EventLine.{EventLine}
 use Rattle.hwp_law.specs.hwp_report_text.declared.Report.{Report}
 use Rattle.hwp_law.specs.Lines.{events_of}
-use Rattle.hwp_check_scrub.specs.hwp_check_event_line.Firsts.{AreRight, IsFirstWrong, shown_lines}
+use Rattle.hwp_check_event_line.specs.Firsts.{AreRight, IsFirstWrong, shown_lines}
 use Rattle.hwp_check_events.specs.Indexed.{shown_from}
 use Rattle.hwp_check_events.specs.Judged.{IsJudged}
 use Rattle.hwp_check_events.specs.Misfits.{IsRightLine, IsWrong, Lacks, found_by, leaves, left_by}
 use Rattle.hwp_check_events.specs.Walked.{AllRight, IsFirstRow, IsWalked, IsWrongRow, LacksSome, joined, joined_wrong, place_at}
-use Rattle.hwp_check_scrub.specs.hwp_check_event_line.declared.Faults.{Faults}
+use Rattle.hwp_check_event_line.specs.declared.Faults.{Faults}
 use Rattle.hwp_check_events.specs.declared.misfits.Misfits.{Misfits}
-use Rattle.hwp_check_scrub.specs.hwp_check_event_line.declared.Shown.{Shown}
+use Rattle.hwp_check_event_line.specs.declared.Shown.{Shown}
 use Rattle.hwp_banks.specs.hwp_geom.declared.VSlot.{VSlot}
 
 -- the places of a command's event lines rise

@@ -21,11 +21,11 @@ use Rattle.hwp_law.specs.Pairings.{entries_of}
 use Rattle.hwp_check_events.specs.Indexed.{AreChecks, AreFirst, checks_in, shown_from}
 use Rattle.hwp_check_events.specs.Judged.{IsJudged, IsTable}
 use Rattle.hwp_check_events.specs.Misfits.{IsFit, found_by, leaves, left_by}
-use Rattle.hwp_check_scrub.specs.hwp_check_event_line.Firsts.{shown_lines}
+use Rattle.hwp_check_event_line.specs.Firsts.{shown_lines}
 use Rattle.hwp_check_events.specs.Walked.{HasPlace, IsTableOf, IsWalked, joined, with_mark}
-use Rattle.hwp_check_scrub.specs.hwp_check_event_line.declared.Faults.{Faults}
+use Rattle.hwp_check_event_line.specs.declared.Faults.{Faults}
 use Rattle.hwp_check_events.specs.declared.misfits.Misfits.{Misfits}
-use Rattle.hwp_check_scrub.specs.hwp_check_event_line.declared.Shown.{Shown}
+use Rattle.hwp_check_event_line.specs.declared.Shown.{Shown}
 use Rattle.hwp_check_events.proofs.IndexLaws.{told-is}
 use Rattle.hwp_check_events.proofs.TableLaws.{table-next, table-size}
 use Rattle.hwp_check_events.proofs.ValidLaws.{command-of, fits}

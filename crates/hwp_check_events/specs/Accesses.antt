@@ -12,7 +12,7 @@ use Rattle.hwp_law.specs.hwp_report_text.Acts.{is_panic}
 use Rattle.hwp_law.specs.hwp_severity.declared.Arrival.{Arrival}
 use Rattle.hwp_law.specs.Events.{IsDamaged}
 use Rattle.hwp_law.specs.hwp_report_text.declared.EventLine.{EventLine}
-use Rattle.hwp_check_scrub.specs.hwp_check_event_line.Found.{IsRawLine, beside, has_stopper, may_stop, own_found}
+use Rattle.hwp_check_event_line.specs.Found.{IsRawLine, beside, has_stopper, may_stop, own_found}
 use Rattle.hwp_check_events.specs.declared.known.Checks.{Checks}
 
 -- the machine checks of an access, each at a line, of which the first finds this in bank 1

@@ -14,7 +14,7 @@ use Rattle.hwp_law.specs.Lines.{answer_of}
 use Rattle.hwp_law.specs.Pairings.{entries_of}
 use Rattle.hwp_check_acting.specs.ActedOn.{copies_in}
 use Rattle.hwp_check_acting.specs.Scripts.{IsDeclared}
-use Rattle.hwp_check_scrub.specs.hwp_check_event_line.declared.Shown.{Shown}
+use Rattle.hwp_check_event_line.specs.declared.Shown.{Shown}
 use Rattle.hwp_check_events.specs.Copied.{AreCopied, copied_by}
 use Rattle.hwp_check_events.specs.Indexed.{AreChecks, AreFirst, AreShown, shown_from}
 use Rattle.hwp_check_events.specs.Misfits.{IsFit}

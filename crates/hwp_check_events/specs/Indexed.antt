@@ -8,7 +8,7 @@ use Rattle.hwp_law.specs.hwp_report_text.declared.CpuLine.{CpuLine}
 use Rattle.hwp_law.specs.hwp_report_text.declared.CpuLine.TheVariants as lines
 use Rattle.hwp_law.specs.hwp_law_commands.Commands.{is_check}
 use Rattle.hwp_law.specs.Lines.{answer_among, is_same_command}
-use Rattle.hwp_check_scrub.specs.hwp_check_event_line.declared.Shown.{Shown}
+use Rattle.hwp_check_event_line.specs.declared.Shown.{Shown}
 
 -- the event that a line shows, which stands at this place
 abbrev pub shown_at : ℕ → CpuLine → Option Shown

@@ -14,12 +14,12 @@ use Rattle.hwp_law.specs.hwp_report_text.declared.EventLine.{EventLine}
 use Rattle.hwp_law.specs.Events.{is_raised}
 use Rattle.hwp_law.specs.Lines.{answer_of}
 use Rattle.hwp_check_events.specs.Accesses.{IsAccessLine, IsRaisedLine, asked_by_access, access_of}
-use Rattle.hwp_check_scrub.specs.hwp_check_event_line.Firsts.{IsScanned}
+use Rattle.hwp_check_event_line.specs.Firsts.{IsScanned}
 use Rattle.hwp_check_events.specs.Misfits.{IsRightLine, Lacks, commands_before, course_of, leaves}
-use Rattle.hwp_check_scrub.specs.Scrubs.{after_all, lacking, lowest, reach_from}
-use Rattle.hwp_check_scrub.specs.Scrubbing.{IsRightIn}
-use Rattle.hwp_check_scrub.specs.declared.Reach.{Reach}
-use Rattle.hwp_check_scrub.specs.hwp_check_event_line.declared.Faults.{Faults}
+use Rattle.hwp_check_event_line.specs.Scrubs.{after_all, lacking, lowest, reach_from}
+use Rattle.hwp_check_event_line.specs.Scrubbing.{IsRightIn}
+use Rattle.hwp_check_event_line.specs.declared.Reach.{Reach}
+use Rattle.hwp_check_event_line.specs.declared.Faults.{Faults}
 use Rattle.hwp_banks.specs.hwp_geom.declared.VSlot.{VSlot}
 
 -- where a command found `raw` in bank 1, and leaves `left` there: the first of its lines that is wrong, and whether it lacks some

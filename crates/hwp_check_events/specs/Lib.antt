@@ -6,4 +6,4 @@ pub mod Indexed
 pub mod Walked
 pub mod Cases
 pub use Rattle.hwp_check_acting.specs as hwp_check_acting
-pub use Rattle.hwp_check_scrub.specs.hwp_check_event_line as hwp_check_event_line
+pub use Rattle.hwp_check_event_line.specs as hwp_check_event_line

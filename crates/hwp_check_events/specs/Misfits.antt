@@ -20,10 +20,10 @@ use Rattle.hwp_law.specs.hwp_law_commands.Commands.{arrival_of}
 use Rattle.hwp_law.specs.Events.{access_lines, is_raised, store_lines}
 use Rattle.hwp_banks.specs.Banks.{raw_event}
 use Rattle.hwp_law.specs.Lines.{answer_of, events_of}
-use Rattle.hwp_check_scrub.specs.hwp_check_event_line.Firsts.{AreRight}
+use Rattle.hwp_check_event_line.specs.Firsts.{AreRight}
 use Rattle.hwp_check_events.specs.Accesses.{IsAccessLine, IsRaisedLine, access_of, asked_by_access}
-use Rattle.hwp_check_scrub.specs.Scrubs.{Course, after_all, bound_from, lacking, lowest, reach_from}
-use Rattle.hwp_check_scrub.specs.Scrubbing.{IsRightIn}
+use Rattle.hwp_check_event_line.specs.Scrubs.{Course, after_all, bound_from, lacking, lowest, reach_from}
+use Rattle.hwp_check_event_line.specs.Scrubbing.{IsRightIn}
 
 abbrev pub is_scrubbed : Option Answer → Bool
 is_scrubbed (Some (answers.Scrubbed n)) = true

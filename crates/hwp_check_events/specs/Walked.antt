@@ -12,12 +12,12 @@ use Rattle.hwp_law.specs.hwp_report_text.declared.Report.{Report}
 use Rattle.hwp_banks.specs.Banks.{empty_banks}
 use Rattle.hwp_law.specs.Events.{AreEventsFrom}
 use Rattle.hwp_law.specs.Lines.{events_of}
-use Rattle.hwp_check_scrub.specs.hwp_check_event_line.Firsts.{AreRight}
+use Rattle.hwp_check_event_line.specs.Firsts.{AreRight}
 use Rattle.hwp_check_events.specs.Indexed.{shown_from}
 use Rattle.hwp_check_events.specs.Misfits.{IsRightLine, IsWrong, Lacks, found_by}
-use Rattle.hwp_check_scrub.specs.Scrubs.{lowest, place_of}
-use Rattle.hwp_check_scrub.specs.hwp_check_event_line.declared.Faults.{Faults}
-use Rattle.hwp_check_scrub.specs.hwp_check_event_line.declared.Shown.{Shown}
+use Rattle.hwp_check_event_line.specs.Scrubs.{lowest, place_of}
+use Rattle.hwp_check_event_line.specs.declared.Faults.{Faults}
+use Rattle.hwp_check_event_line.specs.declared.Shown.{Shown}
 use Rattle.hwp_check_events.specs.declared.misfits.Misfits.{Misfits}
 use Rattle.hwp_banks.specs.declared.Origin.TheVariants as origins
 

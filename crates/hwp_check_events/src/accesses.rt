@@ -1,12 +1,12 @@
 ghost use Rattle.std.specs.Prelude.{◌≡◌, ◌↔◌, ◌<◌, ◌≤◌, ◌+◌, ◌^◌, ◌||◌, ℕ, true, None, IsTrue, IsBitSet, MatchOption, get_or, length};
 ghost use Rattle.hwp_law.specs.Lines.{bad_lines_of};
-ghost use Rattle.hwp_check_scrub.specs.hwp_check_event_line.Firsts.{IsScanned, shown_lines};
-ghost use Rattle.hwp_check_scrub.specs.hwp_check_event_line.Found.{IsCandidate, beside, may_stop, of_access, own_found, stops};
+ghost use Rattle.hwp_check_event_line.specs.Firsts.{IsScanned, shown_lines};
+ghost use Rattle.hwp_check_event_line.specs.Found.{IsCandidate, beside, may_stop, of_access, own_found, stops};
 ghost use Rattle.hwp_check_events.specs.Accesses.{IsAccessLine, IsOwnLine, access_by, asked_by_access, begins_in_panic, lines_met};
 
 use crate::known::Checks;
 use hwp_banks::{Bank, Event, Origin};
-use hwp_check_scrub::{Shown, Traced, has_stopper, is_bad_at, is_line_of, is_raw_line};
+use hwp_check_event_line::{Shown, Traced, has_stopper, is_bad_at, is_line_of, is_raw_line};
 use hwp_law::{Arrival, EventLine, Frame, Line, Script, Who};
 
 /// The lowest frame that is bad at a line.

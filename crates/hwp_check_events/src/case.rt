@@ -2,7 +2,7 @@ ghost use Rattle.std.specs.Prelude.{◌≡◌};
 ghost use Rattle.hwp_check_events.specs.Misfits.{IsFit};
 
 use crate::known::Known;
-use hwp_check_scrub::{Shown, Traced};
+use hwp_check_event_line::{Shown, Traced};
 use hwp_law::{Command, Line, List, Script, VSlot, Who};
 use std::marker::Model;
 

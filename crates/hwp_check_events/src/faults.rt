@@ -1,14 +1,14 @@
 ghost use Rattle.std.specs.Prelude.{◌≡◌, ◌≤◌, ◌+◌, ◌<◌, ◌==◌, ◌^◌, true, None, cond, nat_lt, is_some, length, MatchBool};
 ghost use Rattle.std.specs.Int.{from_bool};
 ghost use Rattle.hwp_law.specs.Events.{is_raised};
-ghost use Rattle.hwp_check_scrub.specs.hwp_check_event_line.Firsts.{IsScanned, shown_lines};
-ghost use Rattle.hwp_check_scrub.specs.hwp_check_event_line.Found.{of_access};
+ghost use Rattle.hwp_check_event_line.specs.Firsts.{IsScanned, shown_lines};
+ghost use Rattle.hwp_check_event_line.specs.Found.{of_access};
 ghost use Rattle.hwp_check_events.specs.Accesses.{IsAccessLine, IsRaisedLine, access_by, asked_by_access};
 
 use crate::accesses::{access_wrong, asked_by_access};
 use crate::known::Checks;
 use hwp_banks::{Bank, Event};
-use hwp_check_scrub::{Faults, Shown, Traced, is_raw_line, may_stop};
+use hwp_check_event_line::{Faults, Shown, Traced, is_raw_line, may_stop};
 use hwp_law::{Answer, Arrival, Line, Script, Who};
 
 /// The first line where none is asked.

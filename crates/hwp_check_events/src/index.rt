@@ -1,7 +1,7 @@
 ghost use Rattle.std.specs.Prelude.{◌≡◌, [], replicate, IfOk, OnOk};
 ghost use Rattle.hwp_check_events.specs.Indexed.{AreFirst, AreShown, first_answer, shown_at, with_answer, with_shown};
 
-use hwp_check_scrub::Shown;
+use hwp_check_event_line::Shown;
 use hwp_law::{Answer, CpuLine, List, OutOfMemory};
 use std::alloc::Global;
 

@@ -8,7 +8,7 @@ use crate::checks::checks_by_command;
 use crate::copied::{copied_of, list_at};
 use crate::index::{answers_by_command, events_by_command};
 use crate::known::Known;
-use hwp_check_scrub::{Shown, Traced};
+use hwp_check_event_line::{Shown, Traced};
 use hwp_law::{Answer, Command, Cpu, CpuLine, Line, List, OutOfMemory, Report, Script, VSlot, Who};
 use std::alloc::Global;
 use std::marker::Model;

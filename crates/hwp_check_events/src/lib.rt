@@ -20,7 +20,7 @@ pub use checks::checkers_of;
 pub use hwp_check_acting::{
     ActedScript, acted_on, answers_to, copy_of, freezes_slot, has_fork, pairs_of,
 };
-pub use hwp_check_scrub::Shown;
+pub use hwp_check_event_line::Shown;
 pub use index::events_by_command;
 pub use misfits::Misfits;
 pub use processors::{processor_faults, small_masks};

@@ -8,7 +8,7 @@ ghost use Rattle.hwp_check_events.specs.Walked.{IsProcessorJudged, IsTableOf};
 use crate::indexed::IndexedProcessor;
 use crate::misfits::Misfits;
 use crate::walk::walk;
-use hwp_check_scrub::{Traced, past_of, results_of};
+use hwp_check_event_line::{Traced, past_of, results_of};
 use hwp_law::{Command, Cpu, List, OutOfMemory, Report, Script, VSlot, Who};
 use std::alloc::Global;
 

@@ -8,7 +8,7 @@ use crate::judge::command_faults;
 use crate::misfits::Misfits;
 use crate::tables::mark;
 use hwp_banks::Bank;
-use hwp_check_scrub::{Faults, Shown};
+use hwp_check_event_line::{Faults, Shown};
 
 /// The lower of a row that was found so far, if one was, and one more.
 fn sooner(found: Option<usize>, place: usize) -> Option<usize>

@@ -1,5 +1,5 @@
 use Rattle.std.proofs.Common.{◌≡◌, rules, arith, IsTrue}
-use Rattle.hwp_check_scrub.specs.hwp_check_event_line.Firsts.{shown_lines}
+use Rattle.hwp_check_event_line.specs.Firsts.{shown_lines}
 use Rattle.hwp_check_events.specs.Accesses.{access_by, asked_by_access}
 use Rattle.hwp_check_events.proofs.AskedLaws.{later-is}
 use Rattle.hwp_check_events.proofs.accesses.is_later_line.Goals as goal

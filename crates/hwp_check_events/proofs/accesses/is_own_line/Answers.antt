@@ -1,5 +1,5 @@
 use Rattle.std.proofs.Common.{IsTrue, ap, ◌∙◌}
-use Rattle.hwp_check_scrub.specs.hwp_check_event_line.Found.{beside}
+use Rattle.hwp_check_event_line.specs.Found.{beside}
 use Rattle.hwp_check_events.proofs.OwnLaws.{own_is}
 use Rattle.hwp_check_events.proofs.accesses.is_own_line.Goals as goal
 

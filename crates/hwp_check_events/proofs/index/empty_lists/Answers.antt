@@ -1,6 +1,6 @@
 use Rattle.std.proofs.Common.{◌≡◌, ℕ, List, [], ◌∷◌, ◌++◌, replicate, ap, ◌∙◌, arith}
 use Rattle.std.proofs.lemmas.List.{replicate_more}
-use Rattle.hwp_check_scrub.specs.hwp_check_event_line.declared.Shown.{Shown}
+use Rattle.hwp_check_event_line.specs.declared.Shown.{Shown}
 use Rattle.hwp_check_events.proofs.index.empty_lists.Goals as goal
 
 pub loop-number-preserved : goal.loop-number-preserved

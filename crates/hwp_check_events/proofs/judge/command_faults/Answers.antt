@@ -2,7 +2,7 @@ use Rattle.std.proofs.Common.{ap, sym, subst}
 use Rattle.hwp_law.specs.hwp_law_commands.Commands.{arrival_of}
 use Rattle.hwp_law.specs.hwp_script_read.declared.Command.{Command}
 use Rattle.hwp_check_acting.specs.ActedOn.{copies_in}
-use Rattle.hwp_check_scrub.specs.hwp_check_event_line.Firsts.{shown_lines}
+use Rattle.hwp_check_event_line.specs.Firsts.{shown_lines}
 use Rattle.hwp_check_events.specs.Copied.{copied_by}
 use Rattle.hwp_check_events.specs.Judged.{IsJudged}
 use Rattle.hwp_check_events.proofs.JudgeLaws.{accessed-judged, fetch-judged, log-judged, raised-judged, scrubbed-judged, store-judged}

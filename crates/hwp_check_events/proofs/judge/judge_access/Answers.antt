@@ -3,7 +3,7 @@ use Rattle.std.proofs.lemmas.List.{length-replicate}
 use Rattle.hwp_law.specs.Events.{access_lines}
 use Rattle.hwp_law.specs.hwp_law_commands.Commands.{arrival_of}
 use Rattle.hwp_law.specs.hwp_severity.declared.Arrival.{Arrival}
-use Rattle.hwp_check_scrub.specs.hwp_check_event_line.Firsts.{shown_lines}
+use Rattle.hwp_check_event_line.specs.Firsts.{shown_lines}
 use Rattle.hwp_check_events.specs.Cases.{CaseValue}
 use Rattle.hwp_check_events.specs.Judged.{IsAccessJudged}
 use Rattle.hwp_check_events.proofs.CopyLaws.{met-plain}

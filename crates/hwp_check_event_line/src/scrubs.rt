@@ -3,18 +3,18 @@ ghost use Rattle.hwp_banks.specs.Addresses.{frame_at};
 ghost use Rattle.hwp_banks.specs.Events.{own_status};
 ghost use Rattle.hwp_check_event_line.specs.Firsts.{IsScanned, first_of, shown_lines};
 ghost use Rattle.hwp_check_event_line.specs.Found.{has_stopper};
-ghost use Rattle.hwp_check_event_line.specs.declared.Shown.{Shown};
-ghost use Rattle.hwp_check_scrub.specs.Scrubbing.{IsAhead, IsRightIn, IsSound, IsWithin, course_of, low_of};
-ghost use Rattle.hwp_check_scrub.specs.Scrubs.{IsScrubbedLine, after, after_all, comes_instead, is_instead, lacking, marked_from, may_meet, own_at, passed_to, place_of, tells_own, turn};
+ghost use Rattle.hwp_check_event_line.specs.declared.shown.Shown.{Shown};
+ghost use Rattle.hwp_check_event_line.specs.Scrubbing.{IsAhead, IsRightIn, IsSound, IsWithin, course_of, low_of};
+ghost use Rattle.hwp_check_event_line.specs.Scrubs.{IsScrubbedLine, after, after_all, comes_instead, is_instead, lacking, marked_from, may_meet, own_at, passed_to, place_of, tells_own, turn};
 ghost use Rattle.hwp_banks.specs.declared.Origin.TheVariants as origins;
 
-use crate::lines::{damaged_lines, line_at};
+use crate::acts::{has_stopper, is_line_of, is_raw_line};
+use crate::lines::{damaged_lines, has_line, line_at};
 use crate::reach::{Range, Reach, Turn};
+use crate::shown::Shown;
+use crate::traced::Traced;
 use hwp_banks::{Event, Origin, Status};
-use hwp_check_event_line::{
-    Arrival, EventLine, Frame, Line, Script, Shown, Traced, Who, has_line, has_stopper, is_line_of,
-    is_raw_line,
-};
+use hwp_check_poison::{Arrival, EventLine, Frame, Line, Script, Who};
 
 /// The greatest line number, and one more.
 pub(crate) const LINES: u8 = 64;

@@ -1,12 +1,12 @@
 use Rattle.std.proofs.Common.{◌≡◌, ◌+◌, IsTrue, slice_get, sym, ap, ◌∙◌, subst}
 use Rattle.std.proofs.lemmas.Option.{slice_get-map}
 use Rattle.hwp_check_event_line.specs.Firsts.{IsScannedTo, shown_lines}
-use Rattle.hwp_check_scrub.specs.Scrubbing.{IsRightIn, course_of, reach_at}
-use Rattle.hwp_check_scrub.specs.Scrubs.{comes_instead}
-use Rattle.hwp_check_event_line.specs.declared.Shown.{Shown}
-use Rattle.hwp_check_scrub.proofs.ScrubScans.{reach-next, right-at}
+use Rattle.hwp_check_event_line.specs.Scrubbing.{IsRightIn, course_of, reach_at}
+use Rattle.hwp_check_event_line.specs.Scrubs.{comes_instead}
+use Rattle.hwp_check_event_line.specs.declared.shown.Shown.{Shown}
+use Rattle.hwp_check_event_line.proofs.ScrubScans.{reach-next, right-at}
 use Rattle.hwp_check_event_line.proofs.LineScans.{scanned-all, scanned-next}
-use Rattle.hwp_check_scrub.proofs.scrubs.scan.Goals as goal
+use Rattle.hwp_check_event_line.proofs.scrubs.scan.Goals as goal
 
 pub loop-number-preserved : goal.loop-number-preserved
 loop-number-preserved c =

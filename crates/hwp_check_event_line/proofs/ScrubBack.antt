@@ -10,23 +10,23 @@ use Rattle.hwp_banks.specs.Addresses.{frame_at}
 use Rattle.hwp_banks.specs.declared.Event.{Event}
 use Rattle.hwp_banks.specs.declared.Origin.{Origin}
 use Rattle.hwp_banks.specs.declared.Origin.TheVariants as origins
-use Rattle.hwp_check_event_line.specs.hwp_law.hwp_script_read.declared.Script.{Script}
-use Rattle.hwp_check_event_line.specs.hwp_law.hwp_report_text.declared.Report.{Report}
-use Rattle.hwp_check_event_line.specs.hwp_law.Checks.{IsLineOf}
-use Rattle.hwp_check_event_line.specs.hwp_law.hwp_report_text.Acts.{is_panic}
-use Rattle.hwp_check_event_line.specs.hwp_law.hwp_severity.declared.Arrival.{Arrival}
-use Rattle.hwp_check_event_line.specs.hwp_law.Events.{AreScrubbed, MeetsMarked}
-use Rattle.hwp_check_event_line.specs.hwp_law.hwp_report_text.declared.EventLine.{EventLine}
+use Rattle.hwp_check_poison.specs.hwp_law.hwp_script_read.declared.Script.{Script}
+use Rattle.hwp_check_poison.specs.hwp_law.hwp_report_text.declared.Report.{Report}
+use Rattle.hwp_check_poison.specs.hwp_law.Checks.{IsLineOf}
+use Rattle.hwp_check_poison.specs.hwp_law.hwp_report_text.Acts.{is_panic}
+use Rattle.hwp_check_poison.specs.hwp_law.hwp_severity.declared.Arrival.{Arrival}
+use Rattle.hwp_check_poison.specs.hwp_law.Events.{AreScrubbed, MeetsMarked}
+use Rattle.hwp_check_poison.specs.hwp_law.hwp_report_text.declared.EventLine.{EventLine}
 use Rattle.hwp_check_event_line.specs.Found.{IsRawLine, has_stopper, resting}
-use Rattle.hwp_check_scrub.specs.Scrubs.{Course, IsScrubbedLine, after, line_at, marked_from, own_at, passed_to, place_of, turn}
-use Rattle.hwp_check_scrub.specs.declared.reach.Reach.{Reach}
-use Rattle.hwp_check_scrub.specs.declared.reach.Turn.{Turn}
-use Rattle.hwp_check_scrub.specs.declared.reach.Turn.TheVariants as turns
+use Rattle.hwp_check_event_line.specs.Scrubs.{Course, IsScrubbedLine, after, line_at, marked_from, own_at, passed_to, place_of, turn}
+use Rattle.hwp_check_event_line.specs.declared.reach.Reach.{Reach}
+use Rattle.hwp_check_event_line.specs.declared.reach.Turn.{Turn}
+use Rattle.hwp_check_event_line.specs.declared.reach.Turn.TheVariants as turns
 use Rattle.hwp_check_event_line.proofs.FoundLaws.{or-none}
-use Rattle.hwp_check_scrub.proofs.MarkLaws.{is-unmarked, mark, mark-first, mark-last}
-use Rattle.hwp_check_scrub.proofs.ScrubForth.{AllGood, MeetsLow, step}
-use Rattle.hwp_check_scrub.proofs.ScrubFound.{BadLines, BadMet, WeakMet, bad-back, weak-back}
-use Rattle.hwp_check_scrub.proofs.ScrubLines.{Known, Met, known}
+use Rattle.hwp_check_event_line.proofs.MarkLaws.{is-unmarked, mark, mark-first, mark-last}
+use Rattle.hwp_check_event_line.proofs.ScrubForth.{AllGood, MeetsLow, step}
+use Rattle.hwp_check_event_line.proofs.ScrubFound.{BadLines, BadMet, WeakMet, bad-back, weak-back}
+use Rattle.hwp_check_event_line.proofs.ScrubLines.{Known, Met, known}
 
 module _ (script : Script) (report : Report) (who : Who) (how : Arrival) (course : Course) (most : (place : ℕ) → course.low place ≤ line_limit)
     (backs : (origin : Origin) (frame : Frame) (met : Option ℕ) → MeetsLow course.low (place_of origin frame.0) met → MeetsMarked script report who origin frame met) where

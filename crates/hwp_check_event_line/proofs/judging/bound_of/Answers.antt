@@ -1,7 +1,7 @@
-use Rattle.hwp_check_scrub.specs.Scrubbing.{low_of}
-use Rattle.hwp_check_scrub.specs.Scrubs.{bound_from}
-use Rattle.hwp_check_scrub.proofs.Bounds.{bound-next}
-use Rattle.hwp_check_scrub.proofs.judging.bound_of.Goals as goal
+use Rattle.hwp_check_event_line.specs.Scrubbing.{low_of}
+use Rattle.hwp_check_event_line.specs.Scrubs.{bound_from}
+use Rattle.hwp_check_event_line.proofs.Bounds.{bound-next}
+use Rattle.hwp_check_event_line.proofs.judging.bound_of.Goals as goal
 
 pub loop-number-preserved : goal.loop-number-preserved
 loop-number-preserved c =

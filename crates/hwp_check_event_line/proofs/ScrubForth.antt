@@ -11,26 +11,26 @@ use Rattle.hwp_banks.specs.Events.{own_event}
 use Rattle.hwp_banks.specs.declared.Event.{Event}
 use Rattle.hwp_banks.specs.declared.Origin.{Origin}
 use Rattle.hwp_banks.specs.declared.Origin.TheVariants as origins
-use Rattle.hwp_check_event_line.specs.hwp_law.hwp_script_read.declared.Script.{Script}
-use Rattle.hwp_check_event_line.specs.hwp_law.hwp_report_text.declared.Report.{Report}
-use Rattle.hwp_check_event_line.specs.hwp_law.Checks.{IsLineOf}
-use Rattle.hwp_check_event_line.specs.hwp_law.hwp_report_text.Acts.{is_panic}
+use Rattle.hwp_check_poison.specs.hwp_law.hwp_script_read.declared.Script.{Script}
+use Rattle.hwp_check_poison.specs.hwp_law.hwp_report_text.declared.Report.{Report}
+use Rattle.hwp_check_poison.specs.hwp_law.Checks.{IsLineOf}
+use Rattle.hwp_check_poison.specs.hwp_law.hwp_report_text.Acts.{is_panic}
 use Rattle.hwp_banks.specs.Banks.{Banks}
-use Rattle.hwp_check_event_line.specs.hwp_law.hwp_severity.declared.Arrival.{Arrival}
-use Rattle.hwp_check_event_line.specs.hwp_law.Events.{AreScrubbed, IsDamaged, IsScrubbed, IsWeakFound, MeetsMarked}
-use Rattle.hwp_check_event_line.specs.hwp_law.hwp_report_text.declared.EventLine.{EventLine}
-use Rattle.hwp_check_event_line.specs.hwp_law.Lines.{bad_lines_of}
+use Rattle.hwp_check_poison.specs.hwp_law.hwp_severity.declared.Arrival.{Arrival}
+use Rattle.hwp_check_poison.specs.hwp_law.Events.{AreScrubbed, IsDamaged, IsScrubbed, IsWeakFound, MeetsMarked}
+use Rattle.hwp_check_poison.specs.hwp_law.hwp_report_text.declared.EventLine.{EventLine}
+use Rattle.hwp_check_poison.specs.hwp_law.Lines.{bad_lines_of}
 use Rattle.hwp_check_event_line.specs.Found.{IsRawLine, has_stopper, resting}
-use Rattle.hwp_check_scrub.specs.Scrubs.{Course, IsScrubbedLine, after, bound_from, can_meet_bad, has_line_below, line_at, marked_from, own_at, passed_to, place_of, turn}
+use Rattle.hwp_check_event_line.specs.Scrubs.{Course, IsScrubbedLine, after, bound_from, can_meet_bad, has_line_below, line_at, marked_from, own_at, passed_to, place_of, turn}
 use Rattle.hwp_check_event_line.specs.Lines.{has_line}
-use Rattle.hwp_check_scrub.specs.declared.reach.Reach.{Reach}
-use Rattle.hwp_check_scrub.specs.declared.reach.Turn.{Turn}
-use Rattle.hwp_check_scrub.specs.declared.reach.Turn.TheVariants as turns
+use Rattle.hwp_check_event_line.specs.declared.reach.Reach.{Reach}
+use Rattle.hwp_check_event_line.specs.declared.reach.Turn.{Turn}
+use Rattle.hwp_check_event_line.specs.declared.reach.Turn.TheVariants as turns
 use Rattle.hwp_check_event_line.proofs.FoundLaws.{or-none}
 use Rattle.hwp_check_event_line.proofs.LineLaws.{has_line_is}
-use Rattle.hwp_check_scrub.proofs.MarkLaws.{mark, mark-last, unmarked}
-use Rattle.hwp_check_scrub.proofs.ScrubFound.{BadLines, BadMet, WeakMet, bad-forth, weak-forth}
-use Rattle.hwp_check_scrub.proofs.ScrubLines.{Says, meets, says, turn-bad, turn-beside, turn-weak}
+use Rattle.hwp_check_event_line.proofs.MarkLaws.{mark, mark-last, unmarked}
+use Rattle.hwp_check_event_line.proofs.ScrubFound.{BadLines, BadMet, WeakMet, bad-forth, weak-forth}
+use Rattle.hwp_check_event_line.proofs.ScrubLines.{Says, meets, says, turn-bad, turn-beside, turn-weak}
 
 -- a scrub meets a line at a place no higher than it must, or isn't asked to meet one
 abbrev pub MeetsLow : (ℕ → ℕ) → ℕ → Option ℕ → Type 0

@@ -2,10 +2,10 @@ use Rattle.std.proofs.Common.{◌+◌, ◌≤◌, ℕ, ap, ◌∙◌, arith}
 use Rattle.std.specs.Bool.{nat_lt}
 use Rattle.std.specs.Int.{from_bool}
 use Rattle.hwp_banks.specs.hwp_geom.Limits.{line_limit}
-use Rattle.hwp_check_scrub.specs.Scrubbing.{low_of}
-use Rattle.hwp_check_scrub.specs.Scrubs.{marked_from}
-use Rattle.hwp_check_scrub.proofs.MarkLaws.{mark-next, one-most}
-use Rattle.hwp_check_scrub.proofs.scrubs.marked_from.Goals as goal
+use Rattle.hwp_check_event_line.specs.Scrubbing.{low_of}
+use Rattle.hwp_check_event_line.specs.Scrubs.{marked_from}
+use Rattle.hwp_check_event_line.proofs.MarkLaws.{mark-next, one-most}
+use Rattle.hwp_check_event_line.proofs.scrubs.marked_from.Goals as goal
 
 pub loop-number-preserved : goal.loop-number-preserved
 loop-number-preserved c =

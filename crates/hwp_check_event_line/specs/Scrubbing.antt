@@ -6,15 +6,15 @@ use Rattle.hwp_banks.specs.declared.Origin.TheVariants as origins
 use Rattle.hwp_banks.specs.declared.Origin.{Origin}
 use Rattle.hwp_banks.specs.hwp_geom.declared.Frame.{Frame}
 use Rattle.hwp_banks.specs.hwp_geom.declared.Who.{Who}
-use Rattle.hwp_check_event_line.specs.hwp_law.hwp_script_read.declared.Script.{Script}
-use Rattle.hwp_check_event_line.specs.hwp_law.hwp_report_text.declared.Report.{Report}
-use Rattle.hwp_check_event_line.specs.hwp_law.hwp_severity.declared.Arrival.{Arrival}
-use Rattle.hwp_check_event_line.specs.hwp_law.hwp_report_text.declared.EventLine.{EventLine}
-use Rattle.hwp_check_scrub.specs.Scrubs.{Course, IsScrubbedLine, after_all, bound_from, comes_instead, place_of, turn}
-use Rattle.hwp_check_scrub.specs.declared.reach.Reach.{Reach}
-use Rattle.hwp_check_scrub.specs.declared.reach.Turn.{Turn}
-use Rattle.hwp_check_scrub.specs.declared.reach.Turn.TheVariants as turns
-use Rattle.hwp_check_scrub.specs.declared.reach.Range.{Range}
+use Rattle.hwp_check_poison.specs.hwp_law.hwp_script_read.declared.Script.{Script}
+use Rattle.hwp_check_poison.specs.hwp_law.hwp_report_text.declared.Report.{Report}
+use Rattle.hwp_check_poison.specs.hwp_law.hwp_severity.declared.Arrival.{Arrival}
+use Rattle.hwp_check_poison.specs.hwp_law.hwp_report_text.declared.EventLine.{EventLine}
+use Rattle.hwp_check_event_line.specs.Scrubs.{Course, IsScrubbedLine, after_all, bound_from, comes_instead, place_of, turn}
+use Rattle.hwp_check_event_line.specs.declared.reach.Reach.{Reach}
+use Rattle.hwp_check_event_line.specs.declared.reach.Turn.{Turn}
+use Rattle.hwp_check_event_line.specs.declared.reach.Turn.TheVariants as turns
+use Rattle.hwp_check_event_line.specs.declared.reach.Range.{Range}
 
 -- up to which line a scrub must meet one at a place: any, where the scrub didn't go to its end
 abbrev pub low_of : List ℕ → Bool → ℕ → ℕ

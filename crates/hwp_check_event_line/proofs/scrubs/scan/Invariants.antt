@@ -1,7 +1,7 @@
 use Rattle.std.proofs.Common.{◌≡◌}
 use Rattle.hwp_check_event_line.specs.Firsts.{IsScannedTo, shown_lines}
-use Rattle.hwp_check_scrub.specs.Scrubbing.{IsRightIn, IsSound, course_of, reach_at}
-use Rattle.hwp_check_scrub.proofs.scrubs.scan.Given as goal
+use Rattle.hwp_check_event_line.specs.Scrubbing.{IsRightIn, IsSound, course_of, reach_at}
+use Rattle.hwp_check_event_line.proofs.scrubs.scan.Given as goal
 
 abbrev pub invariant-loop-number : goal.invariant-loop-number
 invariant-loop-number l =

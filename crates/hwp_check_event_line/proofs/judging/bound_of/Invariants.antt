@@ -1,7 +1,7 @@
 use Rattle.std.proofs.Common.{◌≡◌, ◌+◌, ◌-◌}
-use Rattle.hwp_check_scrub.specs.Scrubbing.{low_of}
-use Rattle.hwp_check_scrub.specs.Scrubs.{bound_from}
-use Rattle.hwp_check_scrub.proofs.judging.bound_of.Given as goal
+use Rattle.hwp_check_event_line.specs.Scrubbing.{low_of}
+use Rattle.hwp_check_event_line.specs.Scrubs.{bound_from}
+use Rattle.hwp_check_event_line.proofs.judging.bound_of.Given as goal
 
 abbrev pub invariant-loop-number : goal.invariant-loop-number
 invariant-loop-number l =

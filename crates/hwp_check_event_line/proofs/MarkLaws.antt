@@ -5,7 +5,7 @@ use Rattle.std.specs.Int.{from_bool}
 use Rattle.std.proofs.Math.Nat.{add-zero}
 use Rattle.std.proofs.lemmas.Bool.{cases_lt, le-ltb, lt-ltb}
 use Rattle.hwp_banks.specs.hwp_geom.Limits.{line_limit}
-use Rattle.hwp_check_scrub.specs.Scrubs.{marked_from}
+use Rattle.hwp_check_event_line.specs.Scrubs.{marked_from}
 
 module _ (low : ℕ → ℕ) where
   abbrev pub mark : ℕ → ℕ

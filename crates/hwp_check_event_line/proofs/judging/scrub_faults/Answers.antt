@@ -1,10 +1,10 @@
 use Rattle.std.proofs.Common.{◌≡◌, ℕ, ◌+◌, ◌-◌, ◌*◌, None, ap, ◌∙◌, arith}
-use Rattle.hwp_check_scrub.specs.Scrubbing.{course_of, low_of}
-use Rattle.hwp_check_scrub.specs.Scrubs.{bound_from}
+use Rattle.hwp_check_event_line.specs.Scrubbing.{course_of, low_of}
+use Rattle.hwp_check_event_line.specs.Scrubs.{bound_from}
 use Rattle.hwp_check_event_line.specs.Firsts.{shown_lines}
-use Rattle.hwp_check_scrub.proofs.Bounds.{kept-by}
-use Rattle.hwp_check_scrub.proofs.ScrubScans.{scanned-same}
-use Rattle.hwp_check_scrub.proofs.judging.scrub_faults.Goals as goal
+use Rattle.hwp_check_event_line.proofs.Bounds.{kept-by}
+use Rattle.hwp_check_event_line.proofs.ScrubScans.{scanned-same}
+use Rattle.hwp_check_event_line.proofs.judging.scrub_faults.Goals as goal
 
 pub leave-requires : goal.leave-requires
 leave-requires c =

@@ -1,13 +1,16 @@
 ghost use Rattle.std.specs.Prelude.{◌≡◌, ◌≤◌, ◌<◌, ◌+◌, ◌-◌, ◌*◌, ◌^◌, ◌⊎◌, None, cond, nat_lt};
 ghost use Rattle.hwp_check_event_line.specs.Firsts.{IsScanned, shown_lines};
-ghost use Rattle.hwp_check_scrub.specs.Scrubbing.{IsRightIn, course_by, low_of};
-ghost use Rattle.hwp_check_scrub.specs.Scrubs.{after_all, bound_from, can_meet_bad, lacking, reach_from};
+ghost use Rattle.hwp_check_event_line.specs.Scrubbing.{IsRightIn, course_by, low_of};
+ghost use Rattle.hwp_check_event_line.specs.Scrubs.{after_all, bound_from, can_meet_bad, lacking, reach_from};
 
-use crate::lines::has_line_below;
+use crate::faults::Faults;
+use crate::lines::{bad_lines_of, has_line_below};
 use crate::reach::{Range, Reach};
 use crate::scrubs::{LINES, lacking, low_at, place_of, scan};
+use crate::shown::Shown;
+use crate::traced::Traced;
 use hwp_banks::{Bank, Event, Origin};
-use hwp_check_event_line::{Arrival, Faults, Frame, Script, Shown, Traced, Who, bad_lines_of};
+use hwp_check_poison::{Arrival, Frame, Script, Who};
 
 /// Whether the scrub may meet a bad line of the frame.
 fn can_meet_bad(report: &Traced<'_>, table: &[u8], whole: bool, frame: u64) -> bool
