@@ -25,7 +25,7 @@ KNOWN = (
     ("hwp_core_rule", "Rule", "FrameRule"),
     ("hwp_core_rule", "parts.Handled", "HandledIsPoisoned"),
     ("hwp_core_task", "Known", "Saw"),
-    ("hwp_soft_unpoison", "Unpoisons", "plan_at"),
+    ("hwp_soft", "Unpoisons", "plan_at"),
     ("hwp_check_rules", "Verdicts", "IsVerdict"),
     ("hwp_script", "Generated", "many"),
 )
@@ -77,7 +77,7 @@ class Statement(unittest.TestCase):
 
     def test_a_variable_is_no_definition(self) -> None:
         # `answer` is a variable in each clause of `answer_at`, and a definition beside it
-        named = self.tree.reach([("hwp_soft_unpoison", "Unpoisons", "answer_at")])
+        named = self.tree.reach([("hwp_soft", "Unpoisons", "answer_at")])
         self.assertEqual({name for _, _, name in named}, {"answer_at"})
 
     def test_a_field_hides_no_definition(self) -> None:

@@ -24,7 +24,7 @@ use Rattle.hwp_cpu_row.specs.declared.FrameChange.TheVariants as owns
 use Rattle.hwp_cpu_row.specs.declared.Row.{Row}
 use Rattle.hwp_cpu_causes.specs.hwp_law_served.Accounts.{IsLineOf, IsNote}
 use Rattle.hwp_cpu_causes.specs.hwp_law_served.Rows.{Note, note_by, note_of, notes_from, own_note, row_notes, told_note, act_note}
-use Rattle.hwp_cpu_command_laws.specs.hwp_cpu_command.hwp_soft_unpoison.Unpoisons.{HasRevivalLeft}
+use Rattle.hwp_cpu_command_laws.specs.hwp_cpu_command.hwp_soft.Unpoisons.{HasRevivalLeft}
 use Rattle.hwp_cpu.specs.Processors.{at_number}
 use Rattle.hwp_cpu_row.specs.Acts.{Act, Told, acts, Offlined, acts_from}
 use Rattle.hwp_cpu_causes.specs.hwp_law_served.hwp_report_text.declared.OfflineResult.{OfflineResult}

@@ -12,4 +12,3 @@ pub use Rattle.hwp_cpu_causes.specs.hwp_law_run as hwp_law_run
 pub use Rattle.hwp_cpu_command_laws.specs.hwp_cpu_command.hwp_scrub as hwp_scrub
 pub use Rattle.hwp_cpu_command_laws.specs.hwp_cpu_command.hwp_soft as hwp_soft
 pub use Rattle.hwp_cpu_command_laws.specs.hwp_cpu_command.hwp_soft_move as hwp_soft_move
-pub use Rattle.hwp_cpu_command_laws.specs.hwp_cpu_command.hwp_soft_unpoison as hwp_soft_unpoison

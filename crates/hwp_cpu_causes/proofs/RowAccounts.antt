@@ -61,10 +61,10 @@ use Rattle.hwp_law_served.specs.hwp_soft.declared.SoftAnswer.{SoftAnswer}
 use Rattle.hwp_law_served.specs.hwp_soft.declared.SoftAnswer.TheVariants as soft_answers
 use Rattle.hwp_law_served.specs.hwp_soft.Done.{marked_at, marked_of}
 use Rattle.hwp_law_served.specs.hwp_soft.Softs.{cycle_in}
-use Rattle.hwp_law_served.specs.hwp_soft_unpoison.declared.Unpoison.{Unpoison}
-use Rattle.hwp_law_served.specs.hwp_soft_unpoison.declared.UnpoisonAnswer.{UnpoisonAnswer}
-use Rattle.hwp_law_served.specs.hwp_soft_unpoison.declared.UnpoisonAnswer.TheVariants as unpoison_answers
-use Rattle.hwp_law_served.specs.hwp_soft_unpoison.Done as unpoison_done
+use Rattle.hwp_law_served.specs.hwp_soft.declared.Unpoison.{Unpoison}
+use Rattle.hwp_law_served.specs.hwp_soft.declared.UnpoisonAnswer.{UnpoisonAnswer}
+use Rattle.hwp_law_served.specs.hwp_soft.declared.UnpoisonAnswer.TheVariants as unpoison_answers
+use Rattle.hwp_law_served.specs.hwp_soft.UnpoisonDone as unpoison_done
 use Rattle.hwp_law_served.specs.hwp_cpu_row.declared.FrameChange.{FrameChange}
 use Rattle.hwp_cpu_command.specs.declared.Job.{Job}
 use Rattle.hwp_cpu_command.specs.declared.Job.TheVariants as jobs

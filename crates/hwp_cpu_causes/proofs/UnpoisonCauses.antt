@@ -12,11 +12,11 @@ use Rattle.hwp_law_served.specs.hwp_script_lines.declared.Command.TheVariants as
 use Rattle.hwp_law_served.specs.hwp_report_text.declared.Answer.{Answer}
 use Rattle.hwp_law_served.specs.hwp_cpu_check.declared.EventOutcome.{EventOutcome}
 use Rattle.hwp_law_served.specs.hwp_cpu_row.declared.FrameChange.{FrameChange}
-use Rattle.hwp_law_served.specs.hwp_soft_unpoison.declared.Unpoison.{Unpoison}
-use Rattle.hwp_law_served.specs.hwp_soft_unpoison.declared.UnpoisonAnswer.{UnpoisonAnswer}
-use Rattle.hwp_law_served.specs.hwp_soft_unpoison.declared.UnpoisonAnswer.TheVariants as answers
-use Rattle.hwp_law_served.specs.hwp_soft_unpoison.Unpoisons as unpoisons
-use Rattle.hwp_law_served.specs.hwp_soft_unpoison.Unpoisons.{is_revivable}
+use Rattle.hwp_law_served.specs.hwp_soft.declared.Unpoison.{Unpoison}
+use Rattle.hwp_law_served.specs.hwp_soft.declared.UnpoisonAnswer.{UnpoisonAnswer}
+use Rattle.hwp_law_served.specs.hwp_soft.declared.UnpoisonAnswer.TheVariants as answers
+use Rattle.hwp_law_served.specs.hwp_soft.Unpoisons as unpoisons
+use Rattle.hwp_law_served.specs.hwp_soft.Unpoisons.{is_revivable}
 use Rattle.hwp_law_served.specs.hwp_law_run.Shown.{IsRevivable}
 use Rattle.hwp_cpu_command.specs.declared.Job.{Job}
 use Rattle.hwp_cpu_command.specs.declared.Job.TheVariants as jobs

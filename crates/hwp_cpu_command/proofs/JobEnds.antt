@@ -91,12 +91,12 @@ use Rattle.hwp_soft.specs.declared.soft.SoftAt.{SoftAt}
 use Rattle.hwp_soft.specs.declared.soft.SoftAt.TheVariants as soft_at
 use Rattle.hwp_soft.specs.Offline as offline
 use Rattle.hwp_soft.specs.Softs as softs
-use Rattle.hwp_soft.specs.hwp_soft_unpoison.declared.Unpoison.{Unpoison}
-use Rattle.hwp_soft.specs.hwp_soft_unpoison.declared.UnpoisonAnswer.{UnpoisonAnswer}
-use Rattle.hwp_soft.specs.hwp_soft_unpoison.declared.unpoison.UnpoisonAt.{UnpoisonAt}
-use Rattle.hwp_soft.specs.hwp_soft_unpoison.declared.unpoison.UnpoisonAt.TheVariants as unpoison_at
-use Rattle.hwp_soft.specs.hwp_soft_unpoison.Unpoisons as unpoisons
-use Rattle.hwp_soft.proofs.of_hwp_soft_unpoison.UnpoisonLaws as reviving
+use Rattle.hwp_soft.specs.declared.Unpoison.{Unpoison}
+use Rattle.hwp_soft.specs.declared.UnpoisonAnswer.{UnpoisonAnswer}
+use Rattle.hwp_soft.specs.declared.unpoison.UnpoisonAt.{UnpoisonAt}
+use Rattle.hwp_soft.specs.declared.unpoison.UnpoisonAt.TheVariants as unpoison_at
+use Rattle.hwp_soft.specs.Unpoisons as unpoisons
+use Rattle.hwp_soft.proofs.UnpoisonLaws as reviving
 use Rattle.hwp_cpu_command.specs.declared.job.Job.{Job}
 use Rattle.hwp_cpu_command.specs.declared.job.Job.TheVariants as jobs
 use Rattle.hwp_cpu_command.specs.Answers.{fail_answer}

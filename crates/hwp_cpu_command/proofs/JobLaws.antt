@@ -102,11 +102,11 @@ use Rattle.hwp_soft.specs.declared.soft.SoftAt.TheVariants as soft_at
 use Rattle.hwp_soft.specs.Softs as softs
 use Rattle.hwp_soft.proofs.SoftAsks as offlining
 use Rattle.hwp_soft.proofs.SoftFits as softening
-use Rattle.hwp_soft.specs.hwp_soft_unpoison.declared.Unpoison.{Unpoison}
-use Rattle.hwp_soft.specs.hwp_soft_unpoison.Unpoisons as unpoisons
+use Rattle.hwp_soft.specs.declared.Unpoison.{Unpoison}
+use Rattle.hwp_soft.specs.Unpoisons as unpoisons
 use Rattle.hwp_soft.specs.Offline.{task as soft-task}
-use Rattle.hwp_soft.proofs.of_hwp_soft_unpoison.UnpoisonCosts as unpoisoning
-use Rattle.hwp_soft.proofs.of_hwp_soft_unpoison.UnpoisonLaws as reviving
+use Rattle.hwp_soft.proofs.UnpoisonCosts as unpoisoning
+use Rattle.hwp_soft.proofs.UnpoisonLaws as reviving
 use Rattle.hwp_soft.proofs.SoftRank.{soft-ranked}
 use Rattle.hwp_soft.proofs.SoftTells.{soft-lasting, soft-tells-class}
 use Rattle.hwp_cpu_command.specs.declared.job.Job.{Job}

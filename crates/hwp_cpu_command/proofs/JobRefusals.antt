@@ -46,10 +46,10 @@ use Rattle.hwp_soft.specs.declared.Soft.{Soft}
 use Rattle.hwp_soft.specs.declared.soft.SoftAt.{SoftAt}
 use Rattle.hwp_soft.specs.declared.soft.SoftAt.TheVariants as soft_at
 use Rattle.hwp_soft.specs.Softs as softs
-use Rattle.hwp_soft.specs.hwp_soft_unpoison.declared.Unpoison.{Unpoison}
-use Rattle.hwp_soft.specs.hwp_soft_unpoison.declared.unpoison.UnpoisonAt.{UnpoisonAt}
-use Rattle.hwp_soft.specs.hwp_soft_unpoison.declared.unpoison.UnpoisonAt.TheVariants as unpoison_at
-use Rattle.hwp_soft.specs.hwp_soft_unpoison.Unpoisons as unpoisons
+use Rattle.hwp_soft.specs.declared.Unpoison.{Unpoison}
+use Rattle.hwp_soft.specs.declared.unpoison.UnpoisonAt.{UnpoisonAt}
+use Rattle.hwp_soft.specs.declared.unpoison.UnpoisonAt.TheVariants as unpoison_at
+use Rattle.hwp_soft.specs.Unpoisons as unpoisons
 
 -- such a turn is no other
 other : {A : Type 0} (turn : Turn) → is_refused turn ≡ false → is_refused turn ≡ true → A

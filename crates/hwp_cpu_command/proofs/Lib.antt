@@ -13,5 +13,4 @@ pub use Rattle.hwp_cpu_copy.proofs as of_hwp_cpu_copy
 pub use Rattle.hwp_evict.proofs as of_hwp_evict
 pub use Rattle.hwp_scrub.proofs as of_hwp_scrub
 pub use Rattle.hwp_soft.proofs as of_hwp_soft
-pub use Rattle.hwp_soft.proofs.of_hwp_soft_unpoison as of_hwp_soft_unpoison
 pub use Rattle.hwp_cpu_copy.proofs.of_hwp_fault as of_hwp_fault

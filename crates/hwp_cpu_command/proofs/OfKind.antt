@@ -16,7 +16,7 @@ use Rattle.hwp_scrub.specs.declared.Log.{Log}
 use Rattle.hwp_scrub.specs.declared.Raise.{Raise}
 use Rattle.hwp_scrub.specs.declared.Scrub.{Scrub}
 use Rattle.hwp_soft.specs.declared.Soft.{Soft}
-use Rattle.hwp_soft.specs.hwp_soft_unpoison.declared.Unpoison.{Unpoison}
+use Rattle.hwp_soft.specs.declared.Unpoison.{Unpoison}
 use Rattle.hwp_cpu_control.specs.Denieds as denieds
 use Rattle.hwp_cpu_control.specs.Nesteds as nesteds
 use Rattle.hwp_cpu_control.specs.Forks as forks
@@ -30,7 +30,7 @@ use Rattle.hwp_scrub.specs.Logs as logs
 use Rattle.hwp_scrub.specs.Raises as raises
 use Rattle.hwp_scrub.specs.Scrubs as scrubs
 use Rattle.hwp_soft.specs.Softs as softs
-use Rattle.hwp_soft.specs.hwp_soft_unpoison.Unpoisons as unpoisons
+use Rattle.hwp_soft.specs.Unpoisons as unpoisons
 use Rattle.hwp_cpu_command.specs.declared.job.Job.{Job}
 use Rattle.hwp_cpu_command.specs.declared.job.Job.TheVariants as jobs
 use Rattle.hwp_cpu_command.specs.Runs.{anew}

@@ -35,8 +35,8 @@ use Rattle.hwp_scrub.specs.declared.ScrubAnswer.{ScrubAnswer}
 use Rattle.hwp_scrub.specs.declared.ScrubAnswer.TheVariants as scrub
 use Rattle.hwp_soft.specs.declared.SoftAnswer.{SoftAnswer}
 use Rattle.hwp_soft.specs.declared.SoftAnswer.TheVariants as soft
-use Rattle.hwp_soft.specs.hwp_soft_unpoison.declared.UnpoisonAnswer.{UnpoisonAnswer}
-use Rattle.hwp_soft.specs.hwp_soft_unpoison.declared.UnpoisonAnswer.TheVariants as unpoison
+use Rattle.hwp_soft.specs.declared.UnpoisonAnswer.{UnpoisonAnswer}
+use Rattle.hwp_soft.specs.declared.UnpoisonAnswer.TheVariants as unpoison
 
 abbrev pub instruction_answer : InstructionAnswer → Answer
 instruction_answer (instruction.Value word at) = answers.Value word at

@@ -24,11 +24,10 @@ use Rattle.hwp_cpu_row.specs.hwp_script_lines.declared.Command.{Command}
 use Rattle.hwp_cpu_row.specs.hwp_script_lines.declared.Command.TheVariants as commands
 use Rattle.hwp_cpu_row.specs.hwp_script_lines.declared.PrctlArgs.{PrctlArgs}
 use Rattle.hwp_cpu_row.specs.hwp_script_read.Valid.{IsAccess, IsCommandOf}
-use Rattle.hwp_cpu_row.specs.hwp_banks.Banks.{Banks}
+use Rattle.hwp_cpu_row.specs.hwp_banks.Banks.{Banks, raw_event}
 use Rattle.hwp_cpu_row.specs.hwp_law_commands.Commands.{Access, access_of, arrival_of, process_of_thread}
 use Rattle.hwp_cpu_row.specs.hwp_cpu_check.hwp_guest.declared.Admit.{Admit}
 use Rattle.hwp_cpu_row.specs.hwp_cpu_check.hwp_guest.declared.Admit.TheVariants as admissions
-use Rattle.hwp_cpu_row.specs.hwp_banks.Banks.{raw_event}
 use Rattle.hwp_cpu_row.specs.hwp_law_commands.Settings.{arguments}
 use Rattle.hwp_cpu_control.specs.declared.Denial.{Denial}
 use Rattle.hwp_cpu_control.specs.declared.Denial.TheVariants as denials
@@ -57,7 +56,7 @@ use Rattle.hwp_scrub.specs.Raises as raises
 use Rattle.hwp_scrub.specs.Fits.{AreFrames}
 use Rattle.hwp_scrub.specs.Scrubs as scrubs
 use Rattle.hwp_soft.specs.Softs as softs
-use Rattle.hwp_soft.specs.hwp_soft_unpoison.Unpoisons as unpoisons
+use Rattle.hwp_soft.specs.Unpoisons as unpoisons
 use Rattle.hwp_cpu_command.specs.declared.begin.LineAccess.{LineAccess}
 use Rattle.hwp_cpu_command.specs.declared.begin.Manner.{Manner}
 use Rattle.hwp_cpu_command.specs.declared.job.Job.{Job}

@@ -17,7 +17,7 @@ use Rattle.hwp_cpu_copy.specs.Done as copying_done
 use Rattle.hwp_scrub.specs.RaiseDone as raise_done
 use Rattle.hwp_scrub.specs.Done as scrub_done
 use Rattle.hwp_soft.specs.Done as soft_done
-use Rattle.hwp_soft.specs.hwp_soft_unpoison.Done as unpoison_done
+use Rattle.hwp_soft.specs.UnpoisonDone as unpoison_done
 use Rattle.hwp_cpu_command.specs.declared.job.Job.{Job}
 use Rattle.hwp_cpu_command.specs.declared.job.Job.TheVariants as jobs
 use Rattle.hwp_cpu_command.specs.Settings.{policies_now}

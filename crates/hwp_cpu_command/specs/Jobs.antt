@@ -52,9 +52,9 @@ use Rattle.hwp_soft.specs.declared.SoftAnswer.{SoftAnswer}
 use Rattle.hwp_soft.specs.declared.SoftAnswer.TheVariants as soft_answers
 use Rattle.hwp_soft.specs.Offline as offline
 use Rattle.hwp_soft.specs.Softs as softs
-use Rattle.hwp_soft.specs.hwp_soft_unpoison.declared.UnpoisonAnswer.{UnpoisonAnswer}
-use Rattle.hwp_soft.specs.hwp_soft_unpoison.declared.UnpoisonAnswer.TheVariants as unpoison_answers
-use Rattle.hwp_soft.specs.hwp_soft_unpoison.Unpoisons as unpoisons
+use Rattle.hwp_soft.specs.declared.UnpoisonAnswer.{UnpoisonAnswer}
+use Rattle.hwp_soft.specs.declared.UnpoisonAnswer.TheVariants as unpoison_answers
+use Rattle.hwp_soft.specs.Unpoisons as unpoisons
 use Rattle.hwp_cpu_command.specs.declared.job.Job.{Job}
 use Rattle.hwp_cpu_command.specs.declared.job.Job.TheVariants as jobs
 use Rattle.hwp_cpu_command.specs.Answers.{denial_answer, denied_answer, evict_answer, fail_answer, fork_answer, fsync_answer, instruction_answer, nested_answer, prctl_answer, raise_answer, read_stop_answer, scrub_answer, soft_answer, spoil_answer, unpoison_answer}

@@ -30,5 +30,4 @@ pub use Rattle.hwp_scrub.specs as hwp_scrub
 pub use Rattle.hwp_cpu_row.specs.hwp_severity as hwp_severity
 pub use Rattle.hwp_soft.specs as hwp_soft
 pub use Rattle.hwp_soft.specs.hwp_soft_move as hwp_soft_move
-pub use Rattle.hwp_soft.specs.hwp_soft_unpoison as hwp_soft_unpoison
 pub use Rattle.hwp_cpu_control.specs.hwp_words as hwp_words

@@ -30,8 +30,8 @@ use Rattle.hwp_scrub.specs.Logs as logs
 use Rattle.hwp_scrub.specs.Raises as raises
 use Rattle.hwp_scrub.specs.Scrubs as scrubs
 use Rattle.hwp_soft.specs.Softs as softs
-use Rattle.hwp_soft.specs.hwp_soft_unpoison.Unpoisons as unpoisons
-use Rattle.hwp_soft.specs.hwp_soft_unpoison.Unpoisons.{HasRevivalLeft}
+use Rattle.hwp_soft.specs.Unpoisons as unpoisons
+use Rattle.hwp_soft.specs.Unpoisons.{HasRevivalLeft}
 use Rattle.hwp_cpu_command.specs.declared.job.Job.{Job}
 use Rattle.hwp_cpu_command.specs.declared.job.Job.TheVariants as jobs
 use Rattle.hwp_cpu_command.specs.Begins.{BeginsAs, IsDenied}

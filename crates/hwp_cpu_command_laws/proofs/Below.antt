@@ -57,8 +57,8 @@ use Rattle.hwp_cpu_command.specs.hwp_scrub.RaiseFits as raise_fits
 use Rattle.hwp_cpu_command.proofs.of_hwp_scrub.ScrubRank.{scrub-below}
 use Rattle.hwp_cpu_command.specs.hwp_soft.Softs as softs
 use Rattle.hwp_cpu_command.proofs.of_hwp_soft.SoftRank.{soft-small}
-use Rattle.hwp_cpu_command.specs.hwp_soft_unpoison.Unpoisons as unpoisons
-use Rattle.hwp_cpu_command.proofs.of_hwp_soft_unpoison.UnpoisonCosts.{small as unpoison-small}
+use Rattle.hwp_cpu_command.specs.hwp_soft.Unpoisons as unpoisons
+use Rattle.hwp_cpu_command.proofs.of_hwp_soft.UnpoisonCosts.{small as unpoison-small}
 use Rattle.hwp_cpu_command.specs.declared.job.Job.{Job}
 use Rattle.hwp_cpu_command.specs.declared.job.Job.TheVariants as jobs
 use Rattle.hwp_cpu_command.specs.Begins.{Begins, BeginsAccess, BeginsCopy, BeginsWith, IsDenied, request_of}

@@ -107,10 +107,10 @@ use Rattle.hwp_cpu_command.specs.hwp_soft.Done as soft_done
 use Rattle.hwp_cpu_command.specs.hwp_soft.Offline as offline
 use Rattle.hwp_cpu_command.specs.hwp_soft.Softs as softs
 use Rattle.hwp_cpu_command.proofs.of_hwp_soft.SoftAdds.{soft-adds}
-use Rattle.hwp_cpu_command.specs.hwp_soft_unpoison.declared.Unpoison.{Unpoison}
-use Rattle.hwp_cpu_command.specs.hwp_soft_unpoison.Done as unpoison_done
-use Rattle.hwp_cpu_command.specs.hwp_soft_unpoison.Unpoisons as unpoisons
-use Rattle.hwp_cpu_command.proofs.of_hwp_soft_unpoison.UnpoisonAdds.{unpoison-adds}
+use Rattle.hwp_cpu_command.specs.hwp_soft.declared.Unpoison.{Unpoison}
+use Rattle.hwp_cpu_command.specs.hwp_soft.UnpoisonDone as unpoison_done
+use Rattle.hwp_cpu_command.specs.hwp_soft.Unpoisons as unpoisons
+use Rattle.hwp_cpu_command.proofs.of_hwp_soft.UnpoisonAdds.{unpoison-adds}
 use Rattle.hwp_cpu_command.specs.declared.job.Job.{Job}
 use Rattle.hwp_cpu_command.specs.declared.job.Job.TheVariants as jobs
 use Rattle.hwp_cpu_command.specs.Answers.{fail_answer}

@@ -133,12 +133,12 @@ use Rattle.hwp_cpu_command.specs.hwp_soft.declared.soft.SoftAt.{SoftAt}
 use Rattle.hwp_cpu_command.specs.hwp_soft.declared.soft.SoftAt.TheVariants as soft_at
 use Rattle.hwp_cpu_command.specs.hwp_soft.Offline as offline
 use Rattle.hwp_cpu_command.specs.hwp_soft.Softs as softs
-use Rattle.hwp_cpu_command.specs.hwp_soft_unpoison.declared.Unpoison.{Unpoison}
-use Rattle.hwp_cpu_command.specs.hwp_soft_unpoison.declared.UnpoisonAnswer.{UnpoisonAnswer}
-use Rattle.hwp_cpu_command.specs.hwp_soft_unpoison.declared.UnpoisonAnswer.TheVariants as unpoison_answers
-use Rattle.hwp_cpu_command.specs.hwp_soft_unpoison.declared.unpoison.UnpoisonAt.{UnpoisonAt}
-use Rattle.hwp_cpu_command.specs.hwp_soft_unpoison.declared.unpoison.UnpoisonAt.TheVariants as unpoison_at
-use Rattle.hwp_cpu_command.specs.hwp_soft_unpoison.Unpoisons as unpoisons
+use Rattle.hwp_cpu_command.specs.hwp_soft.declared.Unpoison.{Unpoison}
+use Rattle.hwp_cpu_command.specs.hwp_soft.declared.UnpoisonAnswer.{UnpoisonAnswer}
+use Rattle.hwp_cpu_command.specs.hwp_soft.declared.UnpoisonAnswer.TheVariants as unpoison_answers
+use Rattle.hwp_cpu_command.specs.hwp_soft.declared.unpoison.UnpoisonAt.{UnpoisonAt}
+use Rattle.hwp_cpu_command.specs.hwp_soft.declared.unpoison.UnpoisonAt.TheVariants as unpoison_at
+use Rattle.hwp_cpu_command.specs.hwp_soft.Unpoisons as unpoisons
 use Rattle.hwp_cpu_command.specs.hwp_soft_move.Seizes as seizes
 use Rattle.hwp_cpu_command.specs.declared.job.Job.{Job}
 use Rattle.hwp_cpu_command.specs.declared.job.Job.TheVariants as jobs

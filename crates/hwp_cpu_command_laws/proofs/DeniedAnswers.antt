@@ -46,8 +46,8 @@ use Rattle.hwp_cpu_command.specs.hwp_scrub.declared.ScrubAnswer.{ScrubAnswer}
 use Rattle.hwp_cpu_command.specs.hwp_scrub.declared.ScrubAnswer.TheVariants as scrub_answers
 use Rattle.hwp_cpu_command.specs.hwp_soft.declared.SoftAnswer.{SoftAnswer}
 use Rattle.hwp_cpu_command.specs.hwp_soft.declared.SoftAnswer.TheVariants as soft_answers
-use Rattle.hwp_cpu_command.specs.hwp_soft_unpoison.declared.UnpoisonAnswer.{UnpoisonAnswer}
-use Rattle.hwp_cpu_command.specs.hwp_soft_unpoison.declared.UnpoisonAnswer.TheVariants as unpoison_answers
+use Rattle.hwp_cpu_command.specs.hwp_soft.declared.UnpoisonAnswer.{UnpoisonAnswer}
+use Rattle.hwp_cpu_command.specs.hwp_soft.declared.UnpoisonAnswer.TheVariants as unpoison_answers
 use Rattle.hwp_cpu_command.specs.hwp_cpu_control.Denieds as denieds
 use Rattle.hwp_cpu_command.specs.hwp_cpu_control.Forks as forks
 use Rattle.hwp_cpu_command.specs.hwp_cpu_control.Nesteds as nesteds
@@ -62,7 +62,7 @@ use Rattle.hwp_cpu_command.specs.hwp_scrub.Logs as logs
 use Rattle.hwp_cpu_command.specs.hwp_scrub.Raises as raises
 use Rattle.hwp_cpu_command.specs.hwp_scrub.Scrubs as scrubs
 use Rattle.hwp_cpu_command.specs.hwp_soft.Softs as softs
-use Rattle.hwp_cpu_command.specs.hwp_soft_unpoison.Unpoisons as unpoisons
+use Rattle.hwp_cpu_command.specs.hwp_soft.Unpoisons as unpoisons
 use Rattle.hwp_cpu_command.specs.declared.job.Job.{Job}
 use Rattle.hwp_cpu_command.specs.declared.job.Job.TheVariants as jobs
 use Rattle.hwp_cpu_command.specs.Answers.{denial_answer, denied_answer, evict_answer, fail_answer, fork_answer, fsync_answer, instruction_answer, nested_answer, prctl_answer, raise_answer, read_stop_answer, refusal_answer, scrub_answer, soft_answer, spoil_answer, unpoison_answer}

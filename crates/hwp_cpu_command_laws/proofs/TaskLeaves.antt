@@ -45,10 +45,10 @@ use Rattle.hwp_cpu_command.specs.hwp_soft.declared.soft.SoftAt.{SoftAt}
 use Rattle.hwp_cpu_command.specs.hwp_soft.declared.soft.SoftAt.TheVariants as soft_at
 use Rattle.hwp_cpu_command.specs.hwp_soft.Softs as softs
 use Rattle.hwp_cpu_command.proofs.of_hwp_soft.SoftAdds.{relocate, take}
-use Rattle.hwp_cpu_command.specs.hwp_soft_unpoison.declared.Unpoison.{Unpoison}
-use Rattle.hwp_cpu_command.specs.hwp_soft_unpoison.declared.unpoison.UnpoisonAt.{UnpoisonAt}
-use Rattle.hwp_cpu_command.specs.hwp_soft_unpoison.declared.unpoison.UnpoisonAt.TheVariants as unpoison_at
-use Rattle.hwp_cpu_command.specs.hwp_soft_unpoison.Unpoisons as unpoisons
+use Rattle.hwp_cpu_command.specs.hwp_soft.declared.Unpoison.{Unpoison}
+use Rattle.hwp_cpu_command.specs.hwp_soft.declared.unpoison.UnpoisonAt.{UnpoisonAt}
+use Rattle.hwp_cpu_command.specs.hwp_soft.declared.unpoison.UnpoisonAt.TheVariants as unpoison_at
+use Rattle.hwp_cpu_command.specs.hwp_soft.Unpoisons as unpoisons
 use Rattle.hwp_cpu_command_laws.proofs.Quiet.{claim, seize}
 
 -- the policies set and the damage stay as they were

@@ -32,7 +32,6 @@ pub use Rattle.hwp_scrub.specs as hwp_scrub
 pub use Rattle.hwp_law_run.specs.hwp_severity as hwp_severity
 pub use Rattle.hwp_soft.specs as hwp_soft
 pub use Rattle.hwp_soft.specs.hwp_soft_move as hwp_soft_move
-pub use Rattle.hwp_soft.specs.hwp_soft_unpoison as hwp_soft_unpoison
 pub use Rattle.hwp_law_run.specs.hwp_words as hwp_words
 pub use Rattle.hwp_cpu_copy.specs.hwp_fault as hwp_fault
 pub use Rattle.hwp_cpu_copy.specs.hwp_cpu_access as hwp_cpu_access

@@ -8,5 +8,7 @@ pub mod SoftAdds
 pub mod SoftFits
 pub mod SoftRank
 pub mod SoftTells
+pub mod UnpoisonLaws
+pub mod UnpoisonCosts
+pub mod UnpoisonAdds
 pub use Rattle.hwp_claim.proofs as of_hwp_claim
-pub use Rattle.hwp_soft_unpoison.proofs as of_hwp_soft_unpoison

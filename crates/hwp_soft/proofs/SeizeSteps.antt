@@ -33,9 +33,9 @@ use Rattle.hwp_evict.specs.hwp_core.Unlocks as unlocks
 use Rattle.hwp_evict.proofs.of_hwp_core.GiveUpLaws.{page-given-up}
 use Rattle.hwp_evict.proofs.of_hwp_core.HoldEnds.{held-unholds}
 use Rattle.hwp_evict.proofs.PageStates.{is-cached, state-is}
-use Rattle.hwp_soft_unpoison.specs.hwp_claim_frame.Meets.{HoldsMet}
-use Rattle.hwp_soft_unpoison.proofs.of_hwp_claim_frame.ViewKeeps.{Account, OnlyHolds, grab-only, kept, meet-only, planned, unlock-only}
-use Rattle.hwp_soft_unpoison.proofs.of_hwp_claim_frame.FrameUnlocks.{one-taken}
+use Rattle.hwp_claim.specs.hwp_claim_frame.Meets.{HoldsMet}
+use Rattle.hwp_claim.proofs.of_hwp_claim_frame.ViewKeeps.{Account, OnlyHolds, grab-only, kept, meet-only, planned, unlock-only}
+use Rattle.hwp_claim.proofs.of_hwp_claim_frame.FrameUnlocks.{one-taken}
 use Rattle.hwp_soft_move.specs.declared.discard.Discard.{Discard}
 use Rattle.hwp_soft_move.specs.declared.discard.DiscardAt.{DiscardAt}
 use Rattle.hwp_soft_move.specs.declared.discard.DiscardAt.TheVariants as discard_at

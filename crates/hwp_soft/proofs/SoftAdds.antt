@@ -34,12 +34,12 @@ use Rattle.hwp_evict.specs.hwp_core.Releases as releases
 use Rattle.hwp_fault_fill.specs.Takes as takes
 use Rattle.hwp_evict.specs.hwp_core.Unholds as unholds
 use Rattle.hwp_evict.specs.hwp_core.Unlocks as unlocks
-use Rattle.hwp_soft_unpoison.specs.hwp_claim_frame.declared.claim.ClaimAt.{ClaimAt}
-use Rattle.hwp_soft_unpoison.specs.hwp_claim_frame.declared.claim.ClaimAt.TheVariants as claim_at
-use Rattle.hwp_soft_unpoison.specs.hwp_claim_frame.Done as claim_done
-use Rattle.hwp_soft_unpoison.specs.hwp_claim_frame.Done.{Grows, Marking, counts_owed, marked_in, marking_of, owed_in, poisoning}
-use Rattle.hwp_soft_unpoison.proofs.of_hwp_claim_frame.ClaimAdds.{count-adds, poison-adds}
-use Rattle.hwp_soft_unpoison.proofs.of_hwp_claim_frame.ViewKeeps.{OnlyHolds}
+use Rattle.hwp_claim.specs.hwp_claim_frame.declared.claim.ClaimAt.{ClaimAt}
+use Rattle.hwp_claim.specs.hwp_claim_frame.declared.claim.ClaimAt.TheVariants as claim_at
+use Rattle.hwp_claim.specs.hwp_claim_frame.Done as claim_done
+use Rattle.hwp_claim.specs.hwp_claim_frame.Done.{Grows, Marking, counts_owed, marked_in, marking_of, owed_in, poisoning}
+use Rattle.hwp_claim.proofs.of_hwp_claim_frame.ClaimAdds.{count-adds, poison-adds}
+use Rattle.hwp_claim.proofs.of_hwp_claim_frame.ViewKeeps.{OnlyHolds}
 use Rattle.hwp_claim.proofs.Quiet as quiet
 use Rattle.hwp_claim.proofs.Quiet.{IsQuiet, PlansQuiet, leaves}
 use Rattle.hwp_soft_move.specs.declared.discard.Discard.{Discard}

@@ -33,11 +33,11 @@ use Rattle.hwp_evict.specs.hwp_core.Unlocks as unlocks
 use Rattle.hwp_evict.proofs.of_hwp_core.GiveUpLaws as giving_up
 use Rattle.hwp_evict.proofs.of_hwp_core.HoldEnds.{nothing-left}
 use Rattle.hwp_evict.proofs.of_hwp_core.UnholdLaws as unholding
-use Rattle.hwp_soft_unpoison.specs.hwp_claim_frame.Claims.{HasMarked, SawPoison}
-use Rattle.hwp_soft_unpoison.specs.hwp_claim_frame.Grabs.{WasFree}
-use Rattle.hwp_soft_unpoison.specs.hwp_claim_frame.Meets.{AsTaken}
-use Rattle.hwp_soft_unpoison.proofs.of_hwp_claim_frame.ClaimLaws.{mark-stays}
-use Rattle.hwp_soft_unpoison.proofs.of_hwp_claim_frame.ViewKeeps.{Account, OnlyHolds, account_of, kept, planned, release-only}
+use Rattle.hwp_claim.specs.hwp_claim_frame.Claims.{HasMarked, SawPoison}
+use Rattle.hwp_claim.specs.hwp_claim_frame.Grabs.{WasFree}
+use Rattle.hwp_claim.specs.hwp_claim_frame.Meets.{AsTaken}
+use Rattle.hwp_claim.proofs.of_hwp_claim_frame.ClaimLaws.{mark-stays}
+use Rattle.hwp_claim.proofs.of_hwp_claim_frame.ViewKeeps.{Account, OnlyHolds, account_of, kept, planned, release-only}
 use Rattle.hwp_soft_move.specs.declared.relocate.Relocate.{Relocate}
 use Rattle.hwp_soft_move.specs.declared.relocate.Transfer.{Transfer}
 use Rattle.hwp_soft_move.specs.Discards as discards

@@ -46,18 +46,18 @@ use Rattle.hwp_evict.proofs.of_hwp_core.FreeWords.{frees-length}
 use Rattle.hwp_fault_fill.proofs.StepWords.{is-met, words_then}
 use Rattle.hwp_evict.proofs.of_hwp_core.TaskCosts.{release-falls, release-mild, release-small, unhold-class, unhold-falls, unhold-mild, unhold-small}
 use Rattle.hwp_fault_fill.proofs.TakeCosts as taking
-use Rattle.hwp_soft_unpoison.specs.hwp_claim_frame.declared.grab.Grab.{Grab}
-use Rattle.hwp_soft_unpoison.specs.hwp_claim_frame.declared.grab.GrabAnswer.{GrabAnswer}
-use Rattle.hwp_soft_unpoison.specs.hwp_claim_frame.declared.grab.GrabAnswer.TheVariants as grab_answers
-use Rattle.hwp_soft_unpoison.specs.hwp_claim_frame.declared.meet.Meet.{Meet}
-use Rattle.hwp_soft_unpoison.specs.hwp_claim_frame.declared.meet.MeetAt.{MeetAt}
-use Rattle.hwp_soft_unpoison.specs.hwp_claim_frame.declared.meet.MeetAt.TheVariants as meet_at
-use Rattle.hwp_soft_unpoison.specs.hwp_claim_frame.declared.meet.MeetAnswer.{MeetAnswer}
-use Rattle.hwp_soft_unpoison.specs.hwp_claim_frame.declared.meet.MeetAnswer.TheVariants as meet_answers
-use Rattle.hwp_soft_unpoison.specs.hwp_claim_frame.Grabs as grabs
-use Rattle.hwp_soft_unpoison.specs.hwp_claim_frame.Meets as meets
-use Rattle.hwp_soft_unpoison.proofs.of_hwp_claim_frame.PoisonLaws.{poison-owns}
-use Rattle.hwp_soft_unpoison.proofs.of_hwp_claim_frame.ClaimKeeps.{Keeps, drops-now, owned-by, retired}
+use Rattle.hwp_claim.specs.hwp_claim_frame.declared.grab.Grab.{Grab}
+use Rattle.hwp_claim.specs.hwp_claim_frame.declared.grab.GrabAnswer.{GrabAnswer}
+use Rattle.hwp_claim.specs.hwp_claim_frame.declared.grab.GrabAnswer.TheVariants as grab_answers
+use Rattle.hwp_claim.specs.hwp_claim_frame.declared.meet.Meet.{Meet}
+use Rattle.hwp_claim.specs.hwp_claim_frame.declared.meet.MeetAt.{MeetAt}
+use Rattle.hwp_claim.specs.hwp_claim_frame.declared.meet.MeetAt.TheVariants as meet_at
+use Rattle.hwp_claim.specs.hwp_claim_frame.declared.meet.MeetAnswer.{MeetAnswer}
+use Rattle.hwp_claim.specs.hwp_claim_frame.declared.meet.MeetAnswer.TheVariants as meet_answers
+use Rattle.hwp_claim.specs.hwp_claim_frame.Grabs as grabs
+use Rattle.hwp_claim.specs.hwp_claim_frame.Meets as meets
+use Rattle.hwp_claim.proofs.of_hwp_claim_frame.PoisonLaws.{poison-owns}
+use Rattle.hwp_claim.proofs.of_hwp_claim_frame.ClaimKeeps.{Keeps, drops-now, owned-by, retired}
 use Rattle.hwp_soft_move.specs.declared.discard.Discard.{Discard}
 use Rattle.hwp_soft_move.specs.declared.discard.DiscardAt.{DiscardAt}
 use Rattle.hwp_soft_move.specs.declared.discard.DiscardAt.TheVariants as discard_at

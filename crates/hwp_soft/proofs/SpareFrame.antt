@@ -46,8 +46,8 @@ use Rattle.hwp_evict.specs.hwp_core.Unholds as unholds
 use Rattle.hwp_evict.proofs.of_hwp_core.HoldEnds.{held-unholds}
 use Rattle.hwp_evict.proofs.BodyGrows.{Grown, length-grown}
 use Rattle.hwp_evict.proofs.VacateLaws.{refs-are}
-use Rattle.hwp_soft_unpoison.specs.hwp_claim_frame.Grabs.{WasFree}
-use Rattle.hwp_soft_unpoison.proofs.of_hwp_claim_frame.FrameUnlocks.{one-taken}
+use Rattle.hwp_claim.specs.hwp_claim_frame.Grabs.{WasFree}
+use Rattle.hwp_claim.proofs.of_hwp_claim_frame.FrameUnlocks.{one-taken}
 use Rattle.hwp_soft.specs.declared.soft.SoftAnswer.{SoftAnswer}
 use Rattle.hwp_soft.specs.Offline.{HoldsGood, IsCaused, IsLettingGo, locked_in, releasing, with_take}
 use Rattle.hwp_soft_move.proofs.RelocateSteps.{apart-from, saw-grown}

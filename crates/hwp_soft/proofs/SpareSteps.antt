@@ -49,9 +49,9 @@ use Rattle.hwp_fault_fill.proofs.TakeLaws as taking
 use Rattle.hwp_evict.proofs.TranslationWrites.{declared-of}
 use Rattle.hwp_evict.proofs.BodyGrows.{Grown}
 use Rattle.hwp_evict.proofs.PageStates.{is-cached, replay-is, replay-own, state-is}
-use Rattle.hwp_soft_unpoison.specs.hwp_claim_frame.Claims.{SawPoison}
-use Rattle.hwp_soft_unpoison.specs.hwp_claim_frame.Grabs.{WasFree}
-use Rattle.hwp_soft_unpoison.proofs.of_hwp_claim_frame.ClaimLaws.{has-marked, owes-count, saw-poison}
+use Rattle.hwp_claim.specs.hwp_claim_frame.Claims.{SawPoison}
+use Rattle.hwp_claim.specs.hwp_claim_frame.Grabs.{WasFree}
+use Rattle.hwp_claim.proofs.of_hwp_claim_frame.ClaimLaws.{has-marked, owes-count, saw-poison}
 use Rattle.hwp_soft_move.specs.declared.relocate.Relocate.{Relocate}
 use Rattle.hwp_soft_move.specs.declared.relocate.Transfer.{Transfer}
 use Rattle.hwp_soft_move.specs.declared.relocate.RelocateAt.TheVariants as relocate_at

@@ -4,7 +4,7 @@ use Rattle.hwp_evict.specs.hwp_geom.declared.Frame.{Frame}
 use Rattle.hwp_evict.specs.hwp_geom.declared.Who.{Who}
 use Rattle.hwp_evict.specs.hwp_core_rule.declared.Mark.{Mark}
 use Rattle.hwp_evict.specs.hwp_core_rule.declared.View.{View}
-use Rattle.hwp_soft_unpoison.specs.hwp_claim_frame.Done.{Grows, Marking, counts_owed, marking_of, poisoning}
+use Rattle.hwp_claim.specs.hwp_claim_frame.Done.{Grows, Marking, counts_owed, marking_of, poisoning}
 use Rattle.hwp_soft_move.specs.declared.discard.DiscardAt.{DiscardAt}
 use Rattle.hwp_soft_move.specs.declared.discard.DiscardAt.TheVariants as discard_at
 use Rattle.hwp_soft_move.specs.declared.relocate.RelocateAt.{RelocateAt}

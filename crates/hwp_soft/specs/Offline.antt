@@ -30,9 +30,9 @@ use Rattle.hwp_evict.specs.hwp_core.Releases as releases
 use Rattle.hwp_fault_fill.specs.Takes as takes
 use Rattle.hwp_evict.specs.hwp_core.Releases.{adopted_lock, new_lock}
 use Rattle.hwp_evict.specs.hwp_core.Unholds as unholds
-use Rattle.hwp_soft_unpoison.specs.hwp_claim_frame.Claims.{HasMarked, SawPoison}
-use Rattle.hwp_soft_unpoison.specs.hwp_claim_frame.Grabs.{WasFree}
-use Rattle.hwp_soft_unpoison.specs.hwp_claim_frame.Meets.{AsTaken, HoldsMet}
+use Rattle.hwp_claim.specs.hwp_claim_frame.Claims.{HasMarked, SawPoison}
+use Rattle.hwp_claim.specs.hwp_claim_frame.Grabs.{WasFree}
+use Rattle.hwp_claim.specs.hwp_claim_frame.Meets.{AsTaken, HoldsMet}
 use Rattle.hwp_soft_move.specs.declared.discard.Discard.{Discard}
 use Rattle.hwp_soft_move.specs.declared.relocate.Relocate.{Relocate}
 use Rattle.hwp_soft_move.specs.declared.seize.Seize.{Seize}

@@ -21,4 +21,3 @@ pub use Rattle.hwp_cpu.specs.hwp_scrub as hwp_scrub
 pub use Rattle.hwp_cpu_row.specs.hwp_severity as hwp_severity
 pub use Rattle.hwp_cpu.specs.hwp_soft as hwp_soft
 pub use Rattle.hwp_cpu.specs.hwp_soft_move as hwp_soft_move
-pub use Rattle.hwp_cpu.specs.hwp_soft_unpoison as hwp_soft_unpoison

@@ -44,7 +44,7 @@ use Rattle.hwp_top_turns.specs.hwp_soft_move.contracts.seize.SeizeAt as SeizeAt
 use Rattle.hwp_top_turns.specs.hwp_soft_move.contracts.relocate.Relocate as Relocate
 use Rattle.hwp_top_turns.specs.hwp_soft.contracts.soft.SoftAt as SoftAt
 use Rattle.hwp_top_turns.specs.hwp_soft.contracts.soft.Soft as Soft
-use Rattle.hwp_top_turns.specs.hwp_soft_unpoison.contracts.unpoison.Unpoison as Unpoison
+use Rattle.hwp_top_turns.specs.hwp_soft.contracts.unpoison.Unpoison as Unpoison
 use Rattle.hwp_top_turns.specs.hwp_cpu_command.contracts.job.Job as Job
 use Rattle.hwp_top_turns.specs.hwp_cpu.contracts.due.DueFrames as DueFrames
 use Rattle.hwp_top_turns.specs.hwp_cpu.contracts.course.Course as Course

@@ -28,7 +28,6 @@ pub use Rattle.hwp_plain.specs.hwp_script_read as hwp_script_read
 pub use Rattle.hwp_top_report.specs.hwp_scrub as hwp_scrub
 pub use Rattle.hwp_top_report.specs.hwp_soft as hwp_soft
 pub use Rattle.hwp_top_report.specs.hwp_soft_move as hwp_soft_move
-pub use Rattle.hwp_top_report.specs.hwp_soft_unpoison as hwp_soft_unpoison
 pub use Rattle.hwp_table_words.specs as hwp_table_words
 pub use Rattle.hwp_top_report.specs as hwp_top_report
 pub use Rattle.hwp_table_words.specs.hwp_words as hwp_words

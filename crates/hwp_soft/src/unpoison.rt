@@ -1,8 +1,8 @@
 ghost use Rattle.std.specs.Prelude.{◌≡◌};
-ghost use Rattle.hwp_claim_frame.specs.hwp_core_task.declared.Turn.TheVariants.{Moved};
-ghost use Rattle.hwp_soft_unpoison.specs.Unpoisons.{after_bad, after_count, after_frame, after_revive, after_stop, answer, begin, is_revivable};
+ghost use Rattle.hwp_evict.specs.hwp_core_task.declared.Turn.TheVariants.{Moved};
+ghost use Rattle.hwp_soft.specs.Unpoisons.{after_bad, after_count, after_frame, after_revive, after_stop, answer, begin, is_revivable};
 
-use hwp_claim_frame::{
+use hwp_claim::{
     Body, CounterWord, Frame, FrameWord, Layout, Mask, Ranked, Scheduled, SharedWord, Step, Task,
     Turn, Who, is_stopped,
 };
@@ -167,7 +167,7 @@ fn after_revive(seen: u64, word: u64) -> UnpoisonAt
 }
 
 impl Task for Unpoison {
-    ghost use Rattle.hwp_soft_unpoison.specs.Unpoisons as unpoisons;
+    ghost use Rattle.hwp_soft.specs.Unpoisons as unpoisons;
 
     ghost task = { unpoisons.task };
 

@@ -1,5 +1,5 @@
-use Rattle.hwp_soft_unpoison.proofs.unpoison.UnpoisonScheduled.tells.Goals as goal
-use Rattle.hwp_soft_unpoison.proofs.UnpoisonCosts.{pays, tells}
+use Rattle.hwp_soft.proofs.unpoison.UnpoisonScheduled.tells.Goals as goal
+use Rattle.hwp_soft.proofs.UnpoisonCosts.{pays, tells}
 
 pub returns-clause-class : goal.returns-clause-class
 returns-clause-class c = tells

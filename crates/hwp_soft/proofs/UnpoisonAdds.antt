@@ -1,27 +1,27 @@
 -- What a step of an `Unpoison` adds to what the view lists: the mark of its frame, and the count of that.
 use Rattle.std.proofs.Common.{◌≡◌, inl, inr, ℕ, ◌+◌, ◌-◌, ◌<◌, ◌==◌, Bool, true, false, cond, List, [], Option, Some, None, refl, ap, arith}
 use Rattle.std.proofs.lemmas.Option.{none-some}
-use Rattle.hwp_claim_frame.specs.hwp_geom.declared.Frame.{Frame}
-use Rattle.hwp_claim_frame.specs.hwp_geom.declared.Layout.{Layout}
-use Rattle.hwp_claim_frame.specs.hwp_geom.declared.Who.{Who}
-use Rattle.hwp_claim_frame.specs.hwp_page.History.{BodyValue}
-use Rattle.hwp_claim_frame.specs.hwp_words.Counters.{hardware_of}
-use Rattle.hwp_claim_frame.specs.hwp_words.Frames.{count_of, cycle_of, is_poisoned}
-use Rattle.hwp_claim_frame.specs.hwp_words.Stops.{is_stopped}
-use Rattle.hwp_claim_frame.specs.hwp_core_rule.declared.Debts.{Debts}
-use Rattle.hwp_claim_frame.specs.hwp_core_rule.declared.Step.{Step}
-use Rattle.hwp_claim_frame.specs.hwp_core_rule.declared.Step.TheVariants as steps
-use Rattle.hwp_claim_frame.specs.hwp_core_rule.declared.View.{View}
-use Rattle.hwp_claim_frame.specs.hwp_core_task.Calls.{Steps}
-use Rattle.hwp_claim_frame.proofs.of_hwp_core_task.StepLeaves.{steps-planned}
-use Rattle.hwp_claim_frame.specs.Done.{Marking, counts_owed}
-use Rattle.hwp_soft_unpoison.specs.declared.unpoison.Unpoison.{Unpoison}
-use Rattle.hwp_soft_unpoison.specs.declared.unpoison.UnpoisonAt.{UnpoisonAt}
-use Rattle.hwp_soft_unpoison.specs.declared.unpoison.UnpoisonAt.TheVariants as at
-use Rattle.hwp_soft_unpoison.specs.declared.unpoison.UnpoisonAnswer.TheVariants as answers
-use Rattle.hwp_soft_unpoison.specs.Done.{Adds, marked_at, owed_at}
-use Rattle.hwp_soft_unpoison.specs.Unpoisons.{plan, plan_at, next_at, is_revivable, Fits, FitsAt}
-use Rattle.hwp_soft_unpoison.proofs.UnpoisonLaws.{mark, missed, went}
+use Rattle.hwp_evict.specs.hwp_geom.declared.Frame.{Frame}
+use Rattle.hwp_evict.specs.hwp_geom.declared.Layout.{Layout}
+use Rattle.hwp_evict.specs.hwp_geom.declared.Who.{Who}
+use Rattle.hwp_evict.specs.hwp_page.History.{BodyValue}
+use Rattle.hwp_evict.specs.hwp_words.Counters.{hardware_of}
+use Rattle.hwp_evict.specs.hwp_words.Frames.{count_of, cycle_of, is_poisoned}
+use Rattle.hwp_evict.specs.hwp_words.Stops.{is_stopped}
+use Rattle.hwp_evict.specs.hwp_core_rule.declared.Debts.{Debts}
+use Rattle.hwp_evict.specs.hwp_core_rule.declared.Step.{Step}
+use Rattle.hwp_evict.specs.hwp_core_rule.declared.Step.TheVariants as steps
+use Rattle.hwp_evict.specs.hwp_core_rule.declared.View.{View}
+use Rattle.hwp_evict.specs.hwp_core_task.Calls.{Steps}
+use Rattle.hwp_evict.proofs.of_hwp_core_task.StepLeaves.{steps-planned}
+use Rattle.hwp_claim.specs.hwp_claim_frame.Done.{Marking, counts_owed}
+use Rattle.hwp_soft.specs.declared.unpoison.Unpoison.{Unpoison}
+use Rattle.hwp_soft.specs.declared.unpoison.UnpoisonAt.{UnpoisonAt}
+use Rattle.hwp_soft.specs.declared.unpoison.UnpoisonAt.TheVariants as at
+use Rattle.hwp_soft.specs.declared.unpoison.UnpoisonAnswer.TheVariants as answers
+use Rattle.hwp_soft.specs.UnpoisonDone.{Adds, marked_at, owed_at}
+use Rattle.hwp_soft.specs.Unpoisons.{plan, plan_at, next_at, is_revivable, Fits, FitsAt}
+use Rattle.hwp_soft.proofs.UnpoisonLaws.{mark, missed, went}
 
 -- what is marked, and what is owed of it
 abbrev done_in : Frame → UnpoisonAt → List Marking × ℕ
