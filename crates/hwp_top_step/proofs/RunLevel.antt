@@ -3,7 +3,7 @@ use Rattle.std.proofs.Common.{◌≡◌, ℕ, List, sym, subst}
 use Rattle.std.specs.Prelude.{Option}
 use Rattle.std.specs.Io.KnownBytes.{Appends}
 use Rattle.hwp_io.specs.Causes.{AppendsStrictFront}
-use Rattle.hwp_report_summary.specs.hwp_report_text.declared.Report.{Report}
+use Rattle.hwp_report.specs.hwp_report_text.declared.Report.{Report}
 use Rattle.hwp_top_turns.specs.hwp_table_words.Ends.{EndValue}
 use Rattle.hwp_top_step.specs.declared.served.Call.{Call}
 use Rattle.hwp_top_step.specs.Calls.{IsCall}

@@ -6,10 +6,10 @@ use Rattle.hwp_script.specs.hwp_script_read.declared.Script.{Script}
 use Rattle.hwp_script.specs.hwp_script_print.Round.{IsTextOf}
 use Rattle.hwp_script.specs.hwp_script_print.Text.{script_text}
 use Rattle.hwp_script.specs.Generated.{generated}
-use Rattle.hwp_report_summary.specs.hwp_report_text.declared.Report.{Report}
-use Rattle.hwp_report_summary.specs.hwp_report_text.ReportText.{report_text}
-use Rattle.hwp_report_summary.specs.Counts.{summary_of}
-use Rattle.hwp_report_summary.specs.Text.{summary_text}
+use Rattle.hwp_report.specs.hwp_report_text.declared.Report.{Report}
+use Rattle.hwp_report.specs.hwp_report_text.ReportText.{report_text}
+use Rattle.hwp_report.specs.Counts.{summary_of}
+use Rattle.hwp_report.specs.SummaryText.{summary_text}
 use Rattle.hwp_top_turns.specs.hwp_table_words.Ends.{EndValue}
 use Rattle.hwp_top_turns.specs.Caches.{IsCachedEnd}
 use Rattle.hwp_top_step.specs.declared.served.Call.{Call}

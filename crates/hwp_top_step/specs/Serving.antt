@@ -2,8 +2,8 @@
 use Rattle.std.specs.Prelude.{◌≡◌, ℕ, Bool, true, false, not, List, Option, Some, None, IsTrue}
 use Rattle.std.specs.Io.KnownBytes.{Appends}
 use Rattle.hwp_script.specs.hwp_script_read.declared.Script.{Script}
-use Rattle.hwp_report_summary.specs.hwp_report_text.declared.Report.{Report}
-use Rattle.hwp_report_summary.specs.hwp_report_text.ReportText.{report_text}
+use Rattle.hwp_report.specs.hwp_report_text.declared.Report.{Report}
+use Rattle.hwp_report.specs.hwp_report_text.ReportText.{report_text}
 use Rattle.hwp_top_turns.specs.hwp_table_words.Ends.{EndValue}
 use Rattle.hwp_top_turns.specs.Caches.{IsCachedEnd}
 use Rattle.hwp_top_step.specs.Outputs.{tlb_entries}

@@ -6,7 +6,7 @@ use Rattle.hwp_script.specs.hwp_script_read.declared.Refused.{Refused}
 use Rattle.hwp_script.specs.hwp_script_read.declared.Why.{Why}
 use Rattle.hwp_script.specs.hwp_script_read.declared.Why.TheVariants as whys
 use Rattle.hwp_script.specs.hwp_script_read.Reads.{Reads, IsRefused}
-use Rattle.hwp_report_summary.specs.hwp_report_text.declared.Report.{Report}
+use Rattle.hwp_report.specs.hwp_report_text.declared.Report.{Report}
 use Rattle.hwp_check.specs.hwp_law.Law.{IsLawful}
 use Rattle.hwp_check.specs.hwp_law.Runs.{IsOfRun}
 use Rattle.hwp_top_turns.specs.hwp_table_words.Ends.{EndValue}

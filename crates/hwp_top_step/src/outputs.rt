@@ -1,7 +1,7 @@
 //! What each call writes.
 ghost use Rattle.std.specs.Prelude.{◌≡◌, ◌≢◌, ◌<◌, IfOk, IsErrOf, None};
 ghost use Rattle.hwp_script.specs.hwp_script_read.declared.Refused.{Refused};
-ghost use Rattle.hwp_report_summary.specs.hwp_report_text.ReportText.{report_text};
+ghost use Rattle.hwp_report.specs.hwp_report_text.ReportText.{report_text};
 ghost use Rattle.hwp_top_step.specs.Outputs.{HasRun, IsGenerated, IsOutputOf, IsRefusedFor, IsSummed};
 ghost use Rattle.hwp_top_step.specs.Top.{Refuses, Reports, done_status};
 ghost use Rattle.hwp_top_turns.specs.Caches.{IsCachedEnd};
@@ -10,7 +10,7 @@ use crate::checking::checked;
 use crate::inputs::{InputFault, take_script};
 use crate::served::Call;
 use hwp_io::Source;
-use hwp_report_summary::summary;
+use hwp_report::{print_summary, summary};
 use hwp_script::generate;
 use hwp_top_turns::{Bare, Cached, Ended, Finished, Report, Text, Ways, run_in_turns};
 use std::alloc::Global;
@@ -130,7 +130,7 @@ fn summed(alloc: Global, seed: u64) -> Result<Output, InputFault>
         return Err(InputFault::OutOfMemory);
     };
     drop(script);
-    let Ok(text) = hwp_report_summary::print(alloc, seed, &summary(&run.report)) else {
+    let Ok(text) = print_summary(alloc, seed, &summary(&run.report)) else {
         drop(run);
         return Err(InputFault::OutOfMemory);
     };

@@ -1,7 +1,7 @@
 use Rattle.std.proofs.Common.{◌≡◌, ◌∙◌, ap, refl, subst}
 use Rattle.hwp_script.specs.hwp_script_read.declared.Script.{Script}
 use Rattle.hwp_script.specs.Generated.{generated}
-use Rattle.hwp_report_summary.specs.Text.{summary_text}
+use Rattle.hwp_report.specs.SummaryText.{summary_text}
 use Rattle.hwp_top_step.specs.Top.{IsReportOfRun}
 use Rattle.hwp_top_step.proofs.outputs.summed.Goals as goal
 

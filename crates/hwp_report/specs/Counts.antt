@@ -9,7 +9,7 @@ use Rattle.hwp_report_text.specs.declared.Answer.TheVariants as answers
 use Rattle.hwp_report_text.specs.declared.CpuLine.{CpuLine}
 use Rattle.hwp_report_text.specs.declared.CpuLine.TheVariants as lines
 use Rattle.hwp_report_text.specs.declared.Report.{Report}
-use Rattle.hwp_report_summary.specs.declared.counts.Summary.{Summary}
+use Rattle.hwp_report.specs.declared.counts.Summary.{Summary}
 
 -- a count as a word says it: one that no word holds is the greatest
 abbrev pub capped : ℕ → ℕ

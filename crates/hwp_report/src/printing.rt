@@ -1,13 +1,13 @@
 ghost use Rattle.std.specs.Prelude.{◌≡◌, ◌∷◌, [], ◌++◌, IfOk, OnOk, string_bytes, decimal};
 ghost use Rattle.hwp_report_text.specs.hwp_geom.Words.{line};
-ghost use Rattle.hwp_report_summary.specs.Text.{stop_words, summary_text};
+ghost use Rattle.hwp_report.specs.SummaryText.{stop_words, summary_text};
 
 use crate::counts::Summary;
 use hwp_report_text::{OutOfMemory, Text};
 use std::alloc::Global;
 
 /// The one text of the summary of the run that a seed gives.
-pub fn print(alloc: Global, seed: u64, summary: &Summary) -> Result<Text, OutOfMemory>
+pub fn print_summary(alloc: Global, seed: u64, summary: &Summary) -> Result<Text, OutOfMemory>
     ensures { IfOk result (λ text. text ≡ summary_text seed summary.now) }
 {
     let mut out = String::new(alloc);

@@ -1,6 +1,6 @@
 use Rattle.std.proofs.Common.{◌≡◌, take, sum_by}
-use Rattle.hwp_report_summary.specs.Counts.{capped, signals_in}
-use Rattle.hwp_report_summary.proofs.counting.signals.Given as goal
+use Rattle.hwp_report.specs.Counts.{capped, signals_in}
+use Rattle.hwp_report.proofs.counting.signals.Given as goal
 
 abbrev pub invariant-loop-page : goal.invariant-loop-page
 invariant-loop-page l = l.sum ≡ capped (sum_by signals_in (take l.page-index l.fn.pages))

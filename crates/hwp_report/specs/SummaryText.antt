@@ -1,7 +1,7 @@
 -- The text of a summary: eight lines of words.
 use Rattle.std.specs.Prelude.{ℕ, Bool, true, false, List, [], ◌∷◌, codes, decimal, flat_map}
 use Rattle.hwp_report_text.specs.hwp_geom.Words.{line}
-use Rattle.hwp_report_summary.specs.declared.counts.Summary.{Summary}
+use Rattle.hwp_report.specs.declared.counts.Summary.{Summary}
 
 -- `stop yes` where the machine stopped, else `stop none`
 abbrev pub stop_words : Bool → List (List ℕ)

@@ -1,6 +1,6 @@
 ghost use Rattle.std.specs.Prelude.{◌≡◌, length};
 ghost use Rattle.std.specs.List.{sum_by};
-ghost use Rattle.hwp_report_summary.specs.Counts.{answers_in, capped, is_answer, is_without_frame, signals_in, signals_of, summary_of, without_frame_in};
+ghost use Rattle.hwp_report.specs.Counts.{answers_in, capped, is_answer, is_without_frame, signals_in, signals_of, summary_of, without_frame_in};
 
 use crate::counts::Summary;
 use hwp_report_text::{Answer, CpuLine, Entry, List, Report, What};

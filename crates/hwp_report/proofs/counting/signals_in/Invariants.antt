@@ -1,6 +1,6 @@
 use Rattle.std.proofs.Common.{◌≡◌, take}
-use Rattle.hwp_report_summary.specs.Counts.{capped, signals_in}
-use Rattle.hwp_report_summary.proofs.counting.signals_in.Given as goal
+use Rattle.hwp_report.specs.Counts.{capped, signals_in}
+use Rattle.hwp_report.proofs.counting.signals_in.Given as goal
 
 abbrev pub invariant-loop-entry : goal.invariant-loop-entry
 invariant-loop-entry l = l.sum ≡ capped (signals_in (take l.entry-index l.fn.entries))
