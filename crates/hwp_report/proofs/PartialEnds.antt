@@ -23,7 +23,7 @@ use Rattle.hwp_report.specs.declared.partial.OpenFailure.{OpenFailure}
 use Rattle.hwp_report.specs.declared.partial.OpenCpu.{OpenCpu}
 use Rattle.hwp_report.specs.declared.partial.Partial.{Partial}
 use Rattle.hwp_report.specs.declared.partial.Partial.TheVariants as partials
-use Rattle.hwp_report_page_lines.specs.Fits.{EntryFits}
+use Rattle.hwp_report_lines.specs.Fits.{EntryFits}
 use Rattle.hwp_report_lines.specs.Forms.{FormFits}
 use Rattle.hwp_report.specs.Follows.{entry_of, signals_so_far, seen_so_far}
 use Rattle.hwp_report.proofs.LinesRead.{entry_forms}

@@ -2,7 +2,7 @@
 use Rattle.std.specs.Prelude.{ℕ, ◌^◌, ◌-◌, ◌<◌, ◌≤◌, List, length, All, IfSome}
 use Rattle.hwp_report_text.specs.declared.Report.{Report}
 use Rattle.hwp_report_text.specs.declared.FrameLine.{FrameLine}
-use Rattle.hwp_report_page_lines.specs.Fits.{PlaceFits, MarkFits, EntryFits}
+use Rattle.hwp_report_lines.specs.Fits.{PlaceFits, MarkFits, EntryFits}
 use Rattle.hwp_report_lines.specs.hwp_report_cpu_lines.Fits.{StopFits, CpuLineFits}
 
 -- a frame

@@ -1,6 +1,6 @@
 -- The first words of lines, each in its place among all.
 use Rattle.std.proofs.Common.{List, [], ◌∷◌, refl, arith}
-use Rattle.hwp_report_page_lines.specs.declared.Verb.TheVariants as verbs
+use Rattle.hwp_report_lines.specs.declared.verbs.Verb.TheVariants as verbs
 use Rattle.hwp_report_words.proofs.NamedValues.{IsListed}
 use Rattle.hwp_report_lines.specs.declared.heads.Head.{Head}
 use Rattle.hwp_report_lines.specs.declared.heads.Head.TheVariants as heads

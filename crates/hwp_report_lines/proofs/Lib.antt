@@ -1,3 +1,4 @@
+pub mod pages
 pub mod WordsPut
 mod LineLaws
 pub mod SameForms

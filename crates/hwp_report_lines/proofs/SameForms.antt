@@ -12,10 +12,10 @@ use Rattle.hwp_report_text.specs.declared.CpuLine.TheVariants as lines
 use Rattle.hwp_report_text.specs.declared.MarkLine.TheVariants as marks
 use Rattle.hwp_report_text.specs.ReportText.{cpu_line_words}
 use Rattle.hwp_report_words.proofs.SameWords.{tag, tag_at, word_at, same_u8, same_u16, same_u32, same_u64, same_mask, same_policy, same_code, same_situation, same_version, same_who}
-use Rattle.hwp_report_page_lines.specs.declared.Failure.{Failure}
-use Rattle.hwp_report_page_lines.specs.Fits.{FailFits, PlainFits}
-use Rattle.hwp_report_page_lines.specs.Words.{failure_words}
-use Rattle.hwp_report_page_lines.proofs.SameWords.{same_place, same_mark, same_required, same_entry}
+use Rattle.hwp_report_lines.specs.declared.failures.Failure.{Failure}
+use Rattle.hwp_report_lines.specs.Fits.{FailFits, PlainFits}
+use Rattle.hwp_report_lines.specs.Words.{failure_words}
+use Rattle.hwp_report_lines.proofs.pages.SameWords.{same_place, same_mark, same_required, same_entry}
 use Rattle.hwp_report_cpu_lines.specs.Fits.{CpuLineFits}
 use Rattle.hwp_report_cpu_lines.proofs.SameWords.{same_stop, same_cpu_line}
 use Rattle.hwp_report_lines.specs.declared.report_line.ReportLine.{ReportLine}

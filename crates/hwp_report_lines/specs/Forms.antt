@@ -5,8 +5,8 @@ use Rattle.hwp_report_text.specs.declared.MarkLine.{MarkLine}
 use Rattle.hwp_report_text.specs.Terms.{version_word}
 use Rattle.hwp_report_text.specs.ReportText.{stop_words, frame_words, mark_words, entry_words, seen_words, signal_words, cpu_line_words}
 use Rattle.hwp_report_words.specs.Reads.{IsReadAs}
-use Rattle.hwp_report_page_lines.specs.Fits.{PlaceFits, MarkFits, PlainEntryFits, FailFits, SeenFits, SignalFits}
-use Rattle.hwp_report_page_lines.specs.Words.{failure_words}
+use Rattle.hwp_report_lines.specs.Fits.{PlaceFits, MarkFits, PlainEntryFits, FailFits, SeenFits, SignalFits}
+use Rattle.hwp_report_lines.specs.Words.{failure_words}
 use Rattle.hwp_report_cpu_lines.specs.Fits.{StopFits, CpuLineFits}
 use Rattle.hwp_report_lines.specs.declared.report_line.ReportLine.{ReportLine}
 use Rattle.hwp_report_lines.specs.declared.report_line.ReportLine.TheVariants as forms

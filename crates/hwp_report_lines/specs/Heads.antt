@@ -2,8 +2,8 @@
 use Rattle.std.specs.Prelude.{ℕ, List, Option, Some, None, codes}
 use Rattle.hwp_report_text.specs.declared.MarkLine.{MarkLine}
 use Rattle.hwp_report_text.specs.declared.MarkLine.TheVariants as marks
-use Rattle.hwp_report_page_lines.specs.declared.Verb.TheVariants as verbs
-use Rattle.hwp_report_page_lines.specs.Verbs.{verb_of, verb_text}
+use Rattle.hwp_report_lines.specs.declared.verbs.Verb.TheVariants as verbs
+use Rattle.hwp_report_lines.specs.Verbs.{verb_of, verb_text}
 use Rattle.hwp_report_lines.specs.declared.report_line.ReportLine.{ReportLine}
 use Rattle.hwp_report_lines.specs.declared.report_line.ReportLine.TheVariants as forms
 use Rattle.hwp_report_lines.specs.declared.heads.Head.{Head}

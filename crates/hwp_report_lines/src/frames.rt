@@ -3,7 +3,7 @@ ghost use Rattle.hwp_report_lines.specs.Forms.{IsMarkRead, IsRestRead};
 
 use crate::heads::Head;
 use crate::report_line::ReportLine;
-use hwp_report_page_lines::{read_how, read_standing};
+use crate::standing::{read_how, read_standing};
 use hwp_report_text::MarkLine;
 use hwp_report_words::{read_number, read_u32, read_who};
 

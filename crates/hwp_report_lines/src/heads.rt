@@ -1,7 +1,7 @@
 ghost use Rattle.hwp_report_words.specs.Reads.{IsNamedBy};
 ghost use Rattle.hwp_report_lines.specs.Heads.{head_text};
 
-use hwp_report_page_lines::Verb;
+use crate::verbs::Verb;
 use hwp_report_words::{HasWord, named};
 
 /// The first word of a line, other than a processor's, whose lines begin with a number.

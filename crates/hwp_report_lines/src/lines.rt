@@ -4,11 +4,12 @@ ghost use Rattle.hwp_report_text.specs.Terms.{version_word};
 ghost use Rattle.hwp_report_words.specs.Reads.{Any, AreBelow, Below, IsReadAs, two_words};
 ghost use Rattle.hwp_report_lines.specs.Forms.{IsFormRead, IsLineRead, IsRestRead};
 
+use crate::entries::{read_failure, read_plain_entry, read_seen, read_signal};
 use crate::frames::{read_frame, read_poisoned, read_unpoisoned};
 use crate::heads::{Head, read_head};
 use crate::report_line::ReportLine;
+use crate::verbs::Verb;
 use hwp_report_cpu_lines::{read_cpu_line, read_stop};
-use hwp_report_page_lines::{Verb, read_failure, read_plain_entry, read_seen, read_signal};
 use hwp_report_text::{OutOfMemory, Version};
 use hwp_report_words::{is_text, read_number, read_version};
 use std::alloc::Global;

@@ -1,4 +1,4 @@
-use hwp_report_page_lines::Failure;
+use crate::failures::Failure;
 use hwp_report_text::{CpuLine, Entry, MarkLine, Mask, Seen, Signal, Stop, Version, Whereabouts};
 
 /// A line of a report.

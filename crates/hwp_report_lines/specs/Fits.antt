@@ -15,7 +15,7 @@ use Rattle.hwp_report_text.specs.declared.Whereabouts.TheVariants as places
 use Rattle.hwp_report_text.specs.declared.MarkLine.{MarkLine}
 use Rattle.hwp_report_text.specs.declared.MarkLine.TheVariants as marks
 use Rattle.hwp_report_words.specs.Words.{WhoFits}
-use Rattle.hwp_report_page_lines.specs.declared.failures.Failure.{Failure}
+use Rattle.hwp_report_lines.specs.declared.failures.Failure.{Failure}
 
 -- where a frame is
 abbrev pub PlaceFits : Whereabouts → Type 0

@@ -1,7 +1,7 @@
 ghost use Rattle.std.specs.Prelude.{◌≢◌, [], ◌∷◌, codes, get_or, map};
 ghost use Rattle.hwp_report_text.specs.ReportText.{how_words, place_words};
 ghost use Rattle.hwp_report_words.specs.Reads.{Any, IsReadAs};
-ghost use Rattle.hwp_report_page_lines.specs.Words.{IsPageless, MasksFit, masks_words, StandingFits, standing_words};
+ghost use Rattle.hwp_report_lines.specs.Words.{IsPageless, MasksFit, masks_words, StandingFits, standing_words};
 
 use hwp_report_text::{How, Mask, Page, Whereabouts};
 use hwp_report_words::{is_text, read_hex, read_origin, read_outcome, read_situation, read_u16};
@@ -72,7 +72,7 @@ fn read_pageless(first: &[u8], masks: &[&[u8]]) -> Option<(Whereabouts, Mask, Ma
 }
 
 /// Where a frame is, and its bad and its weak lines.
-pub fn read_standing(words: &[&[u8]]) -> Option<(Whereabouts, Mask, Mask)>
+pub(crate) fn read_standing(words: &[&[u8]]) -> Option<(Whereabouts, Mask, Mask)>
     ensures { IsReadAs StandingFits standing_words (map (λ w. w.now) words.now) result }
 {
     let [first, rest @ ..] = words else {
@@ -122,7 +122,7 @@ fn read_failed(origin: &[u8], situation: &[u8], outcome: &[u8]) -> Option<How>
 }
 
 /// How a frame came to be poisoned.
-pub fn read_how(words: &[&[u8]]) -> Option<How>
+pub(crate) fn read_how(words: &[&[u8]]) -> Option<How>
     ensures { IsReadAs Any how_words (map (λ w. w.now) words.now) result }
 {
     let [origin, situation, outcome] = words else {

@@ -16,7 +16,7 @@ use Rattle.hwp_report_text.specs.declared.Whereabouts.{Whereabouts}
 use Rattle.hwp_report_text.specs.declared.Whereabouts.TheVariants as places
 use Rattle.hwp_report_text.specs.ReportText.{place_words, how_words, mark_words, met_words, required_words, entry_words}
 use Rattle.hwp_report_words.proofs.WordsPut.{put_small, put_situation, put_outcome, put_origin, put_u8, put_u16, put_u32, put_u64, put_mask}
-use Rattle.hwp_report_page_lines.specs.Fits.{PlaceFits, MarkFits, MetFits, ThreadFits, PlainFits}
+use Rattle.hwp_report_lines.specs.Fits.{PlaceFits, MarkFits, MetFits, ThreadFits, PlainFits}
 
 pub put_state : (place : Whereabouts) → PlaceFits place → {ws : List (List ℕ)} → ArePut ws → ArePut (place_words place ++ ws)
 put_state places.Free h k = then (fixed _ _ refl) k

@@ -12,11 +12,11 @@ use Rattle.hwp_report_text.specs.declared.Whereabouts.{Whereabouts}
 use Rattle.hwp_report_text.specs.declared.Whereabouts.TheVariants as places
 use Rattle.hwp_report_text.specs.ReportText.{entry_words, met_words, place_words, required_words, verb_words}
 use Rattle.hwp_report_words.proofs.SameWords.{tag_at, word_at}
-use Rattle.hwp_report_page_lines.specs.declared.verbs.Verb.TheVariants as verbs
-use Rattle.hwp_report_page_lines.specs.Fits.{AccessFits, MetFits, PlainFits}
-use Rattle.hwp_report_page_lines.specs.Verbs.{verb_of}
-use Rattle.hwp_report_page_lines.specs.Words.{IsPageless, MasksFit, MceFits, StandingFits, access_words, masks_words, mce_words, standing_words}
-use Rattle.hwp_report_page_lines.proofs.SameWords.{hex_low}
+use Rattle.hwp_report_lines.specs.declared.verbs.Verb.TheVariants as verbs
+use Rattle.hwp_report_lines.specs.Fits.{AccessFits, MetFits, PlainFits}
+use Rattle.hwp_report_lines.specs.Verbs.{verb_of}
+use Rattle.hwp_report_lines.specs.Words.{IsPageless, MasksFit, MceFits, StandingFits, access_words, masks_words, mce_words, standing_words}
+use Rattle.hwp_report_lines.proofs.pages.SameWords.{hex_low}
 
 pub no_load : (ws : List (List ℕ)) → ((x : VSlot × ℕ × Met) → AccessFits x.0.0 x.1 x.2 → ws ≡ access_words x → ⊥)
     → (what : What) → verb_of what ≡ verbs.Load → PlainFits what → (who : Who) → verb_words (codes "load") who ws ≡ entry_words who what → ⊥

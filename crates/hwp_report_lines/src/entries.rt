@@ -2,9 +2,9 @@ ghost use Rattle.std.specs.Prelude.{◌^◌, ◌<◌, ◌≤◌, ◌≡◌, ◌�
 ghost use Rattle.hwp_report_text.specs.hwp_kill.Limits.{signal_limit};
 ghost use Rattle.hwp_report_text.specs.ReportText.{entry_words, met_words, required_words, seen_words, signal_words};
 ghost use Rattle.hwp_report_words.specs.Reads.{IsReadAs, two_words};
-ghost use Rattle.hwp_report_page_lines.specs.Fits.{FailFits, MetFits, PlainEntryFits, SeenFits, SignalFits, ThreadFits};
-ghost use Rattle.hwp_report_page_lines.specs.Verbs.{verb_of, verb_text};
-ghost use Rattle.hwp_report_page_lines.specs.Words.{AimFits, aim_words, CountsFit, failure_words, IsAccessRead, IsPlainRead, MceFits, mce_words, NeedFits, need_words};
+ghost use Rattle.hwp_report_lines.specs.Fits.{FailFits, MetFits, PlainEntryFits, SeenFits, SignalFits, ThreadFits};
+ghost use Rattle.hwp_report_lines.specs.Verbs.{verb_of, verb_text};
+ghost use Rattle.hwp_report_lines.specs.Words.{AimFits, aim_words, CountsFit, failure_words, IsAccessRead, IsPlainRead, MceFits, mce_words, NeedFits, need_words};
 
 use crate::failures::Failure;
 use crate::verbs::Verb;
@@ -199,7 +199,7 @@ fn read_need(words: &[&[u8]]) -> Option<(Option<Thread>, u64, u64)>
 }
 
 /// A memory failure, by the words behind `fail`.
-pub fn read_failure(words: &[&[u8]]) -> Option<Failure>
+pub(crate) fn read_failure(words: &[&[u8]]) -> Option<Failure>
     ensures { IsReadAs FailFits failure_words (codes "fail" ∷ map (λ w. w.now) words.now) result }
 {
     let [cpu, seq, situation, need @ ..] = words else {
@@ -224,7 +224,7 @@ pub fn read_failure(words: &[&[u8]]) -> Option<Failure>
 }
 
 /// An entry that is no memory failure, by its first word and the words behind it.
-pub fn read_plain_entry(verb: Verb, words: &[&[u8]]) -> Option<Entry>
+pub(crate) fn read_plain_entry(verb: Verb, words: &[&[u8]]) -> Option<Entry>
     ensures { MatchOption result
         ((e : Entry) → verb_of e.what ≡ verb → PlainEntryFits e → verb_text verb ∷ map (λ w. w.now) words.now ≡ entry_words e.who e.what → ⊥)
         (λ e. PlainEntryFits e × (verb_text verb ∷ map (λ w. w.now) words.now ≡ entry_words e.who e.what)) }
@@ -242,7 +242,7 @@ pub fn read_plain_entry(verb: Verb, words: &[&[u8]]) -> Option<Entry>
 }
 
 /// A policy that was read, by the words behind `seen`.
-pub fn read_seen(words: &[&[u8]]) -> Option<Seen>
+pub(crate) fn read_seen(words: &[&[u8]]) -> Option<Seen>
     ensures { IsReadAs SeenFits seen_words (codes "seen" ∷ map (λ w. w.now) words.now) result }
 {
     let [thread, policy, n] = words else {
@@ -281,7 +281,7 @@ fn read_aim(words: &[&[u8]]) -> Option<(Code, VSlot)>
 }
 
 /// A signal, by the words behind `signal`.
-pub fn read_signal(words: &[&[u8]]) -> Option<Signal>
+pub(crate) fn read_signal(words: &[&[u8]]) -> Option<Signal>
     ensures { IsReadAs SignalFits signal_words (codes "signal" ∷ map (λ w. w.now) words.now) result }
 {
     let [process, thread, aim @ ..] = words else {

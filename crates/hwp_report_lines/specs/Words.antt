@@ -15,10 +15,10 @@ use Rattle.hwp_report_text.specs.declared.Whereabouts.TheVariants as places
 use Rattle.hwp_report_text.specs.Terms.{code_word, situation_word}
 use Rattle.hwp_report_text.specs.ReportText.{entry_words, met_words, place_words, required_words, verb_words}
 use Rattle.hwp_report_words.specs.Reads.{IsReadAs}
-use Rattle.hwp_report_page_lines.specs.declared.failures.Failure.{Failure}
-use Rattle.hwp_report_page_lines.specs.declared.verbs.Verb.{Verb}
-use Rattle.hwp_report_page_lines.specs.Fits.{AccessFits, PlaceFits, PlainFits, ThreadFits}
-use Rattle.hwp_report_page_lines.specs.Verbs.{verb_of, verb_text}
+use Rattle.hwp_report_lines.specs.declared.failures.Failure.{Failure}
+use Rattle.hwp_report_lines.specs.declared.verbs.Verb.{Verb}
+use Rattle.hwp_report_lines.specs.Fits.{AccessFits, PlaceFits, PlainFits, ThreadFits}
+use Rattle.hwp_report_lines.specs.Verbs.{verb_of, verb_text}
 
 -- the words of a memory failure's line
 abbrev pub failure_words : Failure → List (List ℕ)

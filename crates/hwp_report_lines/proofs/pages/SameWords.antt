@@ -21,7 +21,7 @@ use Rattle.hwp_report_text.specs.declared.Whereabouts.TheVariants as places
 use Rattle.hwp_report_text.specs.ReportText.{place_words, how_words, mark_words, met_words, required_words, entry_words}
 use Rattle.hwp_report_words.proofs.SameWords.{tag_at, word_at, same_u8, same_u16, same_u32, same_u64, same_mask, same_line, same_origin, same_situation, same_outcome, same_who}
 use Rattle.hwp_report_words.specs.Words.{WhoFits}
-use Rattle.hwp_report_page_lines.specs.Fits.{PlaceFits, MarkFits, MetFits, ThreadFits, PlainFits}
+use Rattle.hwp_report_lines.specs.Fits.{PlaceFits, MarkFits, MetFits, ThreadFits, PlainFits}
 
 -- the place of a frame, and what stands behind it
 pub same_place : (a b : Whereabouts) (x y : List (List ℕ)) → PlaceFits a → PlaceFits b → place_words a ++ x ≡ place_words b ++ y → (a ≡ b) × (x ≡ y)

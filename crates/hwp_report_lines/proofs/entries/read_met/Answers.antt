@@ -1,6 +1,6 @@
 use Rattle.std.proofs.Common.{◌≡◌, codes, rules}
-use Rattle.hwp_report_page_lines.proofs.NoLines.{no_sigbus}
-use Rattle.hwp_report_page_lines.proofs.entries.read_met.Goals as goal
+use Rattle.hwp_report_lines.proofs.pages.NoLines.{no_sigbus}
+use Rattle.hwp_report_lines.proofs.entries.read_met.Goals as goal
 
 pub returns-in_default : goal.returns-in_default
 returns-in_default c =

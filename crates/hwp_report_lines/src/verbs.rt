@@ -1,5 +1,5 @@
 ghost use Rattle.std.specs.Prelude.{◌≡◌};
-ghost use Rattle.hwp_report_page_lines.specs.Verbs.{verb_text};
+ghost use Rattle.hwp_report_lines.specs.Verbs.{verb_text};
 
 /// The first word of an entry.
 #[derive(Clone, Copy)]

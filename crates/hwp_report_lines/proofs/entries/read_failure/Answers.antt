@@ -1,6 +1,6 @@
 use Rattle.std.proofs.Common.{◌∙◌, sym, ap, drop}
 use Rattle.hwp_report_words.proofs.Rests.{rest_of}
-use Rattle.hwp_report_page_lines.proofs.entries.read_failure.Goals as goal
+use Rattle.hwp_report_lines.proofs.entries.read_failure.Goals as goal
 
 pub returns-in_default-read_need : goal.returns-in_default-read_need
 returns-in_default-read_need c = λ x fits e.

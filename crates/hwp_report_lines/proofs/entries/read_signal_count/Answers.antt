@@ -1,6 +1,6 @@
 use Rattle.std.proofs.Common.{sym, ◌∙◌, arith}
 use Rattle.std.proofs.lemmas.Fmt.{decimal_injective}
-use Rattle.hwp_report_page_lines.proofs.entries.read_signal_count.Goals as goal
+use Rattle.hwp_report_lines.proofs.entries.read_signal_count.Goals as goal
 
 pub returns-else-count : goal.returns-else-count
 returns-else-count c = λ x small e.

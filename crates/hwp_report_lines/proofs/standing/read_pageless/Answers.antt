@@ -1,5 +1,5 @@
-use Rattle.hwp_report_page_lines.proofs.NoLines.{no_state, no_masks}
-use Rattle.hwp_report_page_lines.proofs.standing.read_pageless.Goals as goal
+use Rattle.hwp_report_lines.proofs.pages.NoLines.{no_state, no_masks}
+use Rattle.hwp_report_lines.proofs.standing.read_pageless.Goals as goal
 
 pub returns-in_default : goal.returns-in_default
 returns-in_default c = no_state c.args.first.now _ c.requires c.in_default.ensures

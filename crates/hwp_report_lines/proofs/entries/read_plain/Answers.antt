@@ -1,5 +1,5 @@
-use Rattle.hwp_report_page_lines.proofs.NoLines.{no_load, no_store, no_mce}
-use Rattle.hwp_report_page_lines.proofs.entries.read_plain.Goals as goal
+use Rattle.hwp_report_lines.proofs.pages.NoLines.{no_load, no_store, no_mce}
+use Rattle.hwp_report_lines.proofs.entries.read_plain.Goals as goal
 
 pub returns-in_default : goal.returns-in_default
 returns-in_default c = rw c.in-Load.is (no_load _ c.in_default.ensures)

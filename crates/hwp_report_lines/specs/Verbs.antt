@@ -2,8 +2,8 @@
 use Rattle.std.specs.Prelude.{ℕ, List, codes}
 use Rattle.hwp_report_text.specs.hwp_page.declared.What.{What}
 use Rattle.hwp_report_text.specs.hwp_page.declared.What.TheVariants as whats
-use Rattle.hwp_report_page_lines.specs.declared.verbs.Verb.{Verb}
-use Rattle.hwp_report_page_lines.specs.declared.verbs.Verb.TheVariants as verbs
+use Rattle.hwp_report_lines.specs.declared.verbs.Verb.{Verb}
+use Rattle.hwp_report_lines.specs.declared.verbs.Verb.TheVariants as verbs
 
 -- the first word of an entry
 abbrev pub verb_text : Verb → List ℕ
