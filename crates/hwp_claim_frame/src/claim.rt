@@ -4,7 +4,7 @@ ghost use Rattle.hwp_claim_frame.specs.declared.claim.ClaimAt.TheVariants as sta
 ghost use Rattle.hwp_claim_frame.specs.Claims.{start, begin, plan, answer, is_owned, IsBody, stopped, stop_turn, poisoned, is_done, looked, grabbed, after_grab, after_meet, after_unlock};
 
 use crate::grab::{Grab, GrabAnswer};
-use crate::meet::{Meet, MeetAnswer, is_ended};
+use crate::meet::{Meet, MeetAnswer, is_ended, let_go_of};
 use hwp_core::{
     Body, Frame, FrameWord, Layout, Page, Ranked, SharedWord, Step, Task, Turn, Unlock, Who,
     is_stopped,
@@ -324,14 +324,22 @@ impl Task for Claim {
 
     fn settle(&mut self, layout: &Layout, found: u64, body: Option<Body>) -> Turn {
         match &mut self.at {
-            ClaimAt::Stop => self.stop(found),
-            ClaimAt::Poison => self.follow(Some(poisoned(found)), Turn::Moved),
+            ClaimAt::Stop => {
+                let_go_of(body);
+                self.stop(found)
+            }
+            ClaimAt::Poison => {
+                let_go_of(body);
+                self.follow(Some(poisoned(found)), Turn::Moved)
+            }
             ClaimAt::Count { cycle } => {
                 let at = ClaimAt::Look { cycle: *cycle };
+                let_go_of(body);
                 self.follow(Some(at), Turn::Moved)
             }
             ClaimAt::Look { cycle } => {
                 let at = looked(self.who, self.frame, *cycle, found);
+                let_go_of(body);
                 self.follow(Some(at), Turn::Moved)
             }
             ClaimAt::Grab { cycle, grab } => {
@@ -351,6 +359,7 @@ impl Task for Claim {
             }
             ClaimAt::Retire { cycle } => {
                 let at = ClaimAt::Free { cycle: *cycle };
+                let_go_of(body);
                 self.follow(Some(at), Turn::Moved)
             }
             ClaimAt::GaveUp
@@ -358,7 +367,10 @@ impl Task for Claim {
             | ClaimAt::Already
             | ClaimAt::Free { .. }
             | ClaimAt::Kernel { .. }
-            | ClaimAt::Owned { .. } => Turn::Moved,
+            | ClaimAt::Owned { .. } => {
+                let_go_of(body);
+                Turn::Moved
+            }
         }
     }
 }

@@ -1,5 +1,6 @@
 ghost use Rattle.std.specs.Prelude.{◌≡◌, is_some, is_none};
 
+use crate::meet::let_go_of;
 use hwp_core::{Body, Frame, Layout, Ranked, SharedWord, Step, Task, Turn, Who};
 
 /// Takes a poisoned frame out of the free ones, so that nothing is ever put into it: the frame then has one reference, and
@@ -98,7 +99,8 @@ impl Task for Grab {
         None
     }
 
-    fn settle(&mut self, _layout: &Layout, found: u64, _body: Option<Body>) -> Turn {
+    fn settle(&mut self, _layout: &Layout, found: u64, body: Option<Body>) -> Turn {
+        let_go_of(body);
         match self.at {
             GrabAt::LoadAvailable => {
                 self.at = Grab::at_available(found);

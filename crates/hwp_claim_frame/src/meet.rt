@@ -242,7 +242,7 @@ fn free_at(cycle: Option<u32>, found: u64, got: Option<Body>) -> MeetAt
             ended: false,
         }
     } else {
-        drop(got);
+        let_go_of(got);
         MeetAt::Free
     }
 }
@@ -340,6 +340,7 @@ impl Meet {
             self.set(free_at(self.cycle, found, got));
             Turn::Moved
         } else {
+            let_go_of(got);
             Turn::Waits(found)
         }
     }
@@ -352,6 +353,7 @@ impl Meet {
             self.set(MeetAt::LockOwned { page, shelf: got });
             Turn::Moved
         } else {
+            let_go_of(got);
             Turn::Waits(found)
         }
     }
@@ -366,6 +368,9 @@ impl Meet {
         Turn::Moved
     }
 }
+
+/// Lets the body go that a step met. Each way out of a function that lets it go itself proves anew how it goes.
+pub(crate) fn let_go_of(_body: Option<Body>) {}
 
 impl Task for Meet {
     ghost use Rattle.hwp_claim_frame.specs.Meets as meets;
@@ -416,6 +421,7 @@ impl Task for Meet {
         match &mut self.at {
             MeetAt::GetRef { seen } => {
                 let seen = *seen;
+                let_go_of(body);
                 self.get_ref(seen, found)
             }
             MeetAt::LockFree => self.lock_free(found, body),
@@ -425,6 +431,7 @@ impl Task for Meet {
             }
             MeetAt::LockOwned { page, shelf } => {
                 if !is_free(found) {
+                    let_go_of(body);
                     return Turn::Waits(found);
                 }
                 let at = owned_at(*page, self.cycle, found, shelf.take(), body);
@@ -432,6 +439,7 @@ impl Task for Meet {
             }
             MeetAt::Unlock { ended, .. } | MeetAt::UnlockPage { ended, .. } => {
                 let ended = *ended;
+                let_go_of(body);
                 self.give_back(ended)
             }
             MeetAt::UnlockFrame {
@@ -441,6 +449,7 @@ impl Task for Meet {
                 ..
             } => {
                 let (page, shelf, ended) = (*page, shelf.take(), *ended);
+                let_go_of(body);
                 self.follow(Some(MeetAt::UnlockPage { page, shelf, ended }), Turn::Moved)
             }
             MeetAt::Release { release, ended } => {
@@ -448,7 +457,10 @@ impl Task for Meet {
                 let after = released(release, *ended);
                 self.follow(after, turn)
             }
-            MeetAt::Back { .. } | MeetAt::Free | MeetAt::Owned { .. } => Turn::Moved,
+            MeetAt::Back { .. } | MeetAt::Free | MeetAt::Owned { .. } => {
+                let_go_of(body);
+                Turn::Moved
+            }
         }
     }
 }
