@@ -18,9 +18,13 @@ below-more n = let next : suc n ≡ n + 1 = omega arith in ap below next
 pub map-more : {B : Type 0} (f : ℕ → B) (xs : List B) (n : ℕ) → xs ≡ map f (below n) → xs ++ f n ∷ [] ≡ map f (below (n + 1))
 map-more f xs n is = ap (λ l. l ++ f n ∷ []) is ∙ sym (map-append f (below n) (n ∷ [])) ∙ ap (map f) (below-more n)
 
--- a part more at the end
-pub joined : (w v a rest : List ℕ) → w ≡ v ++ a → w ++ rest ≡ v ++ (a ++ rest)
-joined w v a rest is = ap (λ (l : List ℕ). l ++ rest) is ∙ append_assoc v a rest
+-- a part more, and what still comes behind it
+pub added : (w v a rest all : List ℕ) → w ≡ v ++ a → v ++ (a ++ rest) ≡ all → w ++ rest ≡ all
+added w v a rest all made before = ap (λ (l : List ℕ). l ++ rest) made ∙ append_assoc v a rest ∙ before
+
+-- so many equal words more, by a count that was read
+pub filled : (w v : List ℕ) (count is word : ℕ) (rest all : List ℕ) → w ≡ v ++ replicate count word → count ≡ is → v ++ (replicate is word ++ rest) ≡ all → w ++ rest ≡ all
+filled w v count is word rest all made same before = added w v (replicate is word) rest all (made ∙ ap (λ (n : ℕ). v ++ replicate n word) same) before
 
 abbrev pub opening_shelf : ℕ → Option (Option Log)
 opening_shelf q = Some (Some (opening_log q))
