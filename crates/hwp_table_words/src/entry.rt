@@ -4,7 +4,7 @@ ghost use Rattle.hwp_table_words.specs.tlb.Words.{entry_reading, entry_word_of, 
 use hwp_core_task::{Frame, VSlot};
 
 /// The word of an entry of a translation cache (this project's rule).
-#[derive(Clone, Copy, PartialEq, Eq)]
+#[derive(Clone, Copy)]
 pub struct EntryWord {
     /// Bits 0 to 19: a translation, as its number plus 1; bits 20 to 39: the frame that it leads to, as its number plus 1.
     /// None where either is 0.
