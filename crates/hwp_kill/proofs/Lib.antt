@@ -2,6 +2,7 @@ pub mod Holding
 pub mod Membership
 pub mod NextLaws
 pub mod Order
+pub mod Places
 pub mod PolicyReads
 pub mod PolicyOwners
 pub mod Search

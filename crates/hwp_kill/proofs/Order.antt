@@ -1,13 +1,13 @@
 -- The order in which policies are read: neighbours in order are enough.
-use Rattle.std.proofs.Common.{◌≡◌, ℕ, zero, suc, ◌+◌, ◌<◌, List, Option, Some, None, ◌⊎◌, inl, inr, length, ap, ◌∙◌, arith, get_or, subst, add-zero, ◌-◌, ◌≤◌}
-use Rattle.std.specs.Prelude.{IsSomeAnd, AllPairs, slice_get}
+use Rattle.std.proofs.Common.{◌≡◌, ℕ, zero, suc, ◌+◌, ◌<◌, Bool, List, Option, Some, None, ◌⊎◌, ◌↔◌, inl, inr, length, ap, ◌∙◌, arith, get_or, subst, add-zero, ◌-◌, ◌≤◌}
+use Rattle.std.specs.Prelude.{IsSomeAnd, IsTrue, AllPairs, slice_get}
 use Rattle.hwp_geom.specs.declared.Layout.{Layout}
 use Rattle.hwp_geom.specs.declared.Proc.{Proc}
 use Rattle.hwp_geom.specs.declared.ThreadDecl.{ThreadDecl}
 use Rattle.hwp_kill.specs.declared.types.Seen.{Seen}
 use Rattle.hwp_kill.specs.Kill.{StandsBefore}
 
-abbrev Before : ThreadDecl → ThreadDecl → ℕ → ℕ → Type 0
+abbrev pub Before : ThreadDecl → ThreadDecl → ℕ → ℕ → Type 0
 Before s t a b = (s.process.0 < t.process.0) ⊎ ((s.process ≡ t.process) × (a < b))
 
 abbrev number : Proc → ℕ
@@ -32,6 +32,11 @@ then_declared (Some s) (Some t) (Some u) a b c h k = then s t u a b c h k
 StandsBefore-then : (layout : Layout) (x y z : Seen) → StandsBefore layout x y → StandsBefore layout y z → StandsBefore layout x z
 StandsBefore-then layout x y z h k =
     then_declared (slice_get layout.threads x.thread.0) (slice_get layout.threads y.thread.0) (slice_get layout.threads z.thread.0) x.thread.0 y.thread.0 z.thread.0 h k
+
+-- what says whether one entry stands before the other, where both threads are declared
+pub stands-if : (layout : Layout) (one other : Seen) {s t : ThreadDecl} {r : Bool} → slice_get layout.threads one.thread.0 ≡ Some s → slice_get layout.threads other.thread.0 ≡ Some t
+    → IsTrue r ↔ Before s t one.thread.0 other.thread.0 → IsTrue r ↔ StandsBefore layout one other
+stands-if layout one other first second tells = rw (first, second) tells
 
 -- each entry below the place `next` stands before the entry after it
 pub record InOrderTo (layout : Layout) (xs : List Seen) (next : ℕ) : Type 0 where

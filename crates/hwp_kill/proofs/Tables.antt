@@ -1,7 +1,8 @@
 -- How the kill table is worked out: the lowest translation of each process, and the signals one process after another.
-use Rattle.std.proofs.Common.{◌+◌, refl, sym, ap, subst, ◌∙◌, get_or, length-append, ◌↔◌, ◌++◌, [], ◌∷◌, inl, inr, ◌≡◌, ℕ, ◌<◌, ◌≤◌, Bool, List, Option, Some, None, length, slice_index_or, MatchOption, arith}
-use Rattle.std.specs.Prelude.{Contains, AllPairs, slice_get, IsSomeAnd}
-use Rattle.std.proofs.lemmas.Bool.{cases_lt}
+use Rattle.std.proofs.Common.{◌+◌, refl, sym, ap, subst, ◌∙◌, get_or, length-append, ◌↔◌, ◌++◌, [], ◌∷◌, inl, inr, ◌≡◌, ℕ, ◌<◌, ◌≤◌, Bool, true, false, List, Option, Some, None, length, slice_index_or, replicate, MatchOption, arith}
+use Rattle.std.specs.Prelude.{Contains, AllPairs, slice_get, slice_set, is_some, IsSomeAnd}
+use Rattle.std.proofs.lemmas.Bool.{cases_eq, cases_lt, both_ways}
+use Rattle.std.proofs.lemmas.List.{length-set, get_or-replicate, get_or-set_same, get_or-set_other}
 use Rattle.std.proofs.lemmas.List.Elements.{Contains-get_or, Contains-append_left, Contains-push, Contains-push_cases, All-get_or}
 use Rattle.std.proofs.lemmas.List.Quantifiers.{all_pairs_push}
 use Rattle.std.proofs.lemmas.Option.{same_Some, slice_get_past, slice_get-get_or}
@@ -18,6 +19,7 @@ use Rattle.hwp_kill.specs.declared.types.Code.TheVariants.{Ar, Ao}
 use Rattle.hwp_kill.specs.declared.types.Seen.{Seen}
 use Rattle.hwp_kill.specs.declared.types.Signal.{Signal}
 use Rattle.hwp_kill.specs.Limits.{slot_limit, signal_limit}
+use Rattle.hwp_kill.specs.Lowest.{IsLowestFrom}
 use Rattle.hwp_kill.specs.Kill.{IsIn, Uses, UsesLowest, IsCurrent, IsLowestEarly, IsLowestThread, IsLowestUsed, IsTold, UsesNone, Reaches, ReachesNone, IsDue, AreDue}
 
 -- no translation of the process below `at` is in use
@@ -203,3 +205,79 @@ DueBelow-next {layout = layout} {maps = maps} {n = n} lowest i thread code slot 
     let there : get_or lowest n None ≡ Some slot = rw here at some in
     let uses : UsesLowest layout maps (process_of n) slot.0 = rw there at least in
     DueBelow-one (record_of (process_of n) thread code slot) before refl (record { slot = uses; thread = reached })
+
+-- nothing is noted yet
+pub Noted-none : (layout : Layout) (maps : set.FinSet nat_cmp) → Noted layout maps 0 (replicate {A = Option VSlot} 16 None)
+Noted-none layout maps = record {
+  places = refl;
+  within = omega arith;
+  each = λ p within. rw (get_or-replicate {A = Option VSlot} 16 p None None within) (λ slot below uses. absurd (omega arith));
+}
+
+-- the search for the next translation in use passed over none of the process
+none-between : {layout : Layout} {maps : set.FinSet nat_cmp} {process : Proc} {at slot : ℕ} → UsesNoneBelow layout maps process at → IsLowestFrom maps at slot
+    → UsesNoneBelow layout maps process slot
+none-between {at = at} none low other below uses = elim (cases_lt other at) [
+  | inl earlier ↦ none other earlier uses
+  | inr here ↦ both_ways _ (low.lowest other here below) uses.in_use
+]
+
+-- what is noted of a process stays, where the translation isn't its own or a lower one is noted
+stays-below : {layout : Layout} {maps : set.FinSet nat_cmp} {at slot : ℕ} (p : Proc) (noted : Option VSlot) → IsLowestBelow layout maps at p noted → IsLowestFrom maps at slot
+    → (noted ≡ None → Uses layout maps p slot → ⊥) → IsLowestBelow layout maps (slot + 1) p noted
+stays-below {layout = layout} {maps = maps} {slot = slot} p None none low other = λ v below uses. elim (cases_lt v slot) [
+  | inl earlier ↦ none-between none low v earlier uses
+  | inr here ↦ other refl (subst (Uses layout maps p) (omega arith) uses)
+]
+stays-below p (Some v) lowest low other = lowest
+
+-- the translation that was found isn't declared
+pub Noted-undeclared : {layout : Layout} {maps : set.FinSet nat_cmp} {at : ℕ} {lowest : List (Option VSlot)} (slot : VSlot) → Noted layout maps at lowest
+    → IsLowestFrom maps at slot.0 → slot.0 < slot_limit → slice_get layout.trans slot.0 ≡ None → Noted layout maps (slot.0 + 1) lowest
+Noted-undeclared slot before low below there = record {
+  places = before.places;
+  within = omega arith;
+  each = λ p within. stays-below (process_of p) _ (before.each p within) low (λ none uses. rw there at uses.own);
+}
+
+own-is : {layout : Layout} {maps : set.FinSet nat_cmp} {process : Proc} {slot : ℕ} {t : TransDecl} → slice_get layout.trans slot ≡ Some t → Uses layout maps process slot → t.process.0 ≡ process.0
+own-is there uses = ap (λ (q : Proc). q.0) (rw there at uses.own)
+
+-- a lower translation of the process is noted already
+pub Noted-again : {layout : Layout} {maps : set.FinSet nat_cmp} {at : ℕ} {lowest : List (Option VSlot)} (slot : VSlot) (t : TransDecl) (n : ℕ) → Noted layout maps at lowest
+    → IsLowestFrom maps at slot.0 → slot.0 < slot_limit → slice_get layout.trans slot.0 ≡ Some t → n ≡ t.process.0 → is_some (get_or lowest n None) ≡ true
+    → Noted layout maps (slot.0 + 1) lowest
+Noted-again {lowest = lowest} slot t n before low below there here some = record {
+  places = before.places;
+  within = omega arith;
+  each = λ p within. stays-below (process_of p) _ (before.each p within) low (λ none uses.
+      let same : n ≡ p = here ∙ own-is there uses in
+      both_ways (is_some (get_or lowest p None)) (ap is_some none) (rw (← same) some));
+}
+
+nothing-noted : (noted : Option VSlot) → is_some noted ≡ false → noted ≡ None
+nothing-noted None none = refl
+nothing-noted (Some v) none = absurd (both_ways true none refl)
+
+-- the translation is the lowest of its process
+pub Noted-first : {layout : Layout} {maps : set.FinSet nat_cmp} {at : ℕ} {lowest : List (Option VSlot)} (slot : VSlot) (t : TransDecl) (n : ℕ) → Noted layout maps at lowest
+    → IsLowestFrom maps at slot.0 → slot.0 < slot_limit → slice_get layout.trans slot.0 ≡ Some t → n ≡ t.process.0 → is_some (get_or lowest n None) ≡ false
+    → Noted layout maps (slot.0 + 1) (slice_set lowest n (Some slot))
+Noted-first {layout = layout} {maps = maps} {at = at} {lowest = lowest} slot t n before low below there here none = record {
+  places = length-set lowest n (Some slot) ∙ before.places;
+  within = omega arith;
+  each = λ p within. elim (cases_eq p n) [
+    | inl same ↦
+        let nothing : UsesNoneBelow layout maps (process_of p) at =
+        subst (IsLowestBelow layout maps at (process_of p)) (ap (λ k. get_or lowest k None) same ∙ nothing-noted _ none) (before.each p within) in
+        let found : get_or (slice_set lowest n (Some slot)) p None ≡ Some slot =
+        ap (λ k. get_or (slice_set lowest n (Some slot)) k None) same ∙ get_or-set_same lowest n (Some slot) None (let long = before.places in omega arith) in
+        rw found (record {
+          uses = record { in_use = low.member; own = rw there (ap process_of (sym here ∙ sym same)) };
+          lowest = λ other less uses. none-between nothing low other less uses;
+        })
+    | inr other ↦
+        rw (get_or-set_other lowest n p (Some slot) None other)
+        (stays-below (process_of p) _ (before.each p within) low (λ nothing uses. other (sym (here ∙ own-is there uses))))
+  ];
+}
