@@ -36,10 +36,22 @@ pub enum MarkLine {
 }
 
 /// The line of a frame: where it is, its bad and its weak lines, and its record.
-#[derive(Drop)]
 pub struct FrameLine {
     pub place: Whereabouts,
     pub bad: Mask,
     pub weak: Mask,
     pub marks: List<MarkLine>,
+}
+
+// Proved here once, as that of a report.
+impl Drop for FrameLine {
+    fn drop(self) {
+        let FrameLine {
+            place: _,
+            bad: _,
+            weak: _,
+            marks,
+        } = self;
+        drop(marks);
+    }
 }

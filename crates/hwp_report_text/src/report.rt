@@ -28,7 +28,6 @@ pub struct Stop {
 }
 
 /// What a run is reported as.
-#[derive(Drop)]
 pub struct Report {
     /// The version of the script that was run.
     pub version: Version,
@@ -44,4 +43,23 @@ pub struct Report {
     pub pages: List<List<Entry>>,
     /// The lines of each processor.
     pub cpus: List<List<CpuLine>>,
+}
+
+// Proved here once: crates above that let a report go cite it.
+impl Drop for Report {
+    fn drop(self) {
+        let Report {
+            version: _,
+            stop: _,
+            count: _,
+            files,
+            frames,
+            pages,
+            cpus,
+        } = self;
+        drop(files);
+        drop(frames);
+        drop(pages);
+        drop(cpus);
+    }
 }

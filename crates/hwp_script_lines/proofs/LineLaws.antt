@@ -1,11 +1,11 @@
 -- From the pieces of a text to its numbered lines.
-use Rattle.std.proofs.Common.{ℕ, ◌≡◌, ◌<◌, ◌≤◌, ◌+◌, ◌-◌, ◌^◌, ◌++◌, ◌==◌, true, false, if◌then◌else◌, List, [], ◌∷◌, length, get_or, take, map, Bor, refl, sym, ap, subst, ◌∙◌, append_assoc, arith}
+use Rattle.std.proofs.Common.{ℕ, ◌≡◌, ◌<◌, ◌≤◌, ◌+◌, ◌-◌, ◌^◌, ◌++◌, ◌==◌, ◌||◌, Bool, true, false, if◌then◌else◌, List, [], ◌∷◌, length, get_or, take, map, Bor, refl, sym, ap, subst, ◌∙◌, append_assoc, arith}
 use Rattle.std.proofs.lemmas.List.{append-nil, length-map, length-take-le, take_all}
 use Rattle.std.proofs.lemmas.List.Sums.{count_by-le-length}
 use Rattle.std.proofs.lemmas.List.Splits.{length-slice_split}
 use Rattle.hwp_geom.specs.Words.{pieces}
 use Rattle.hwp_geom.specs.Pairs.{Pairs}
-use Rattle.hwp_script_lines.specs.Lines.{words_of, is_skipped, numbered_from, numbered_lines, IsRead, IsNumbered, AreLinesOf}
+use Rattle.hwp_script_lines.specs.Lines.{words_of, is_comment, is_skipped, numbered_from, numbered_lines, IsRead, IsNumbered, AreLinesOf}
 use Rattle.hwp_script_lines.specs.declared.script_line.LineRead.{LineRead}
 use Rattle.hwp_script_lines.specs.declared.script_line.Numbered.{Numbered}
 use Rattle.hwp_script_lines.proofs.PairsLaws.{Pairs-push, Pairs-unique, take-now}
@@ -94,3 +94,27 @@ numbered_unique l x y h k =
 -- a text has one reading
 pub one_reading : {bytes : List ℕ} {xs ys : List Numbered} → AreLinesOf bytes xs → AreLinesOf bytes ys → xs ≡ ys
 one_reading {bytes} {xs} {ys} h k = Pairs-unique IsNumbered numbered_unique (numbered_lines bytes) xs ys h.each k.each
+
+-- which lines are skipped, by their first byte and the count of their words
+pub skipped-remark : (line : List ℕ) → true ≡ is_comment line → is_skipped line ≡ true
+skipped-remark line e = ap (λ b. b || (length (words_of line) == 0)) (sym e)
+
+-- what is told of a slice of a line's words
+module _ (line : List ℕ) (words slice : List (Bor (List ℕ))) (here : map (λ w. w.now) words ≡ words_of line) (same : slice ≡ words) where
+  slice-is : map (λ w. w.now) slice ≡ words_of line
+  slice-is = ap (map (λ w. w.now)) same ∙ here
+
+  many : length (words_of line) ≡ length slice
+  many = sym (ap length slice-is) ∙ length-map slice (λ w. w.now)
+
+  skipped-as : (b : Bool) → b ≡ is_comment line → (none : Bool) → none ≡ (length slice == 0) → is_skipped line ≡ b || none
+  skipped-as b told none is = ap (λ n. is_comment line || (n == 0)) many ∙ ap (λ t. t || (length slice == 0)) (sym told) ∙ ap (λ t. b || t) (sym is)
+
+  pub skipped-blank : false ≡ is_comment line → true ≡ (length slice == 0) → is_skipped line ≡ true
+  skipped-blank told none = skipped-as false told true none
+
+  pub not-skipped : false ≡ is_comment line → false ≡ (length slice == 0) → is_skipped line ≡ false
+  not-skipped told some = skipped-as false told false some
+
+  pub read-as : (read : LineRead) → IsRead (map (λ w. w.now) slice) read → IsRead (words_of line) read
+  read-as read is = subst (λ ws. IsRead ws read) slice-is is

@@ -1,15 +1,18 @@
 -- The words of a page, with and without `locked` at the end.
-use Rattle.std.proofs.Common.{ℕ, ◌≡◌, ◌<◌, ◌+◌, ◌⊎◌, inl, inr, ◌++◌, zero, suc, List, [], ◌∷◌, length, get_or, codes, decimal, refl, sym, ap, subst, ◌∙◌, arith}
-use Rattle.std.proofs.lemmas.List.{length-append}
+use Rattle.std.proofs.Common.{ℕ, ◌≡◌, ◌<◌, ◌+◌, ◌⊎◌, inl, inr, ◌++◌, zero, suc, Bool, List, [], ◌∷◌, Bor, length, map, get_or, codes, decimal, refl, sym, ap, subst, ◌∙◌, arith}
+use Rattle.std.proofs.lemmas.List.{length-append, length-map}
 use Rattle.std.specs.Fmt.{digits}
 use Rattle.hwp_geom.specs.Limits.{number}
 use Rattle.hwp_geom.specs.declared.Version.{Version}
 use Rattle.hwp_geom.specs.declared.Version.TheVariants as versions
-use Rattle.hwp_script_lines.specs.Numbers.{IsNumberWord}
-use Rattle.hwp_script_lines.specs.Grammar.{HasShape, HasPageShape, HasLockedShape, HaveNumbers, page_keyword}
-use Rattle.hwp_script_lines.specs.Misfits.{IsPageMisfit, IsLockedFront, IsSentenceMisfit}
+use Rattle.hwp_script_lines.specs.Numbers.{IsNumber, IsNumberWord}
+use Rattle.hwp_script_lines.specs.Grammar.{HasShape, HasPageShape, HasLockedShape, HaveNumbers, IsSentence, handler_text, page_keyword, thread_keyword}
+use Rattle.hwp_script_lines.specs.Misfits.{ArePageWords, IsPageMisfit, IsLockedFront, IsSentenceMisfit}
+use Rattle.hwp_script_lines.specs.declared.script_line.Backing.TheVariants as backings
+use Rattle.hwp_script_lines.specs.declared.script_line.ScriptLine.TheVariants as forms
 use Rattle.hwp_script_lines.specs.declared.numbers.Misfit.{Misfit}
 use Rattle.hwp_script_lines.specs.declared.numbers.Misfit.TheVariants as misfits
+use Rattle.hwp_script_lines.proofs.PairsLaws.{two-of, four-of, five-of, now-at}
 
 -- the digits of both versions
 pub one_digit : decimal (number versions.One) ≡ codes "1"
@@ -93,3 +96,45 @@ pub locked_misfit : (ws front : List (List ℕ)) (e : Misfit) → IsLockedFront 
 locked_misfit ws front misfits.Unknown f h = λ s. h (shape_behind f s)
 locked_misfit ws front misfits.BadNumber f h = (inr (locked_shape f h.0), λ n. h.1 (front_numbers f h.0 n))
 locked_misfit ws front misfits.OverLimit f h = absurd h
+
+-- the words of a page, as they are read
+module _ (words : List (Bor (List ℕ))) (d : Bor (List ℕ)) where
+  pub no-page : (length words ≡ 2 → (get_or words 1 d).now ≡ codes "anon" → ⊥) → (length words ≡ 5 → (get_or words 1 d).now ≡ codes "file" → (get_or words 3 d).now ≡ codes "fill" → ⊥)
+      → HasPageShape (map (λ w. w.now) words) → ⊥
+  no-page two five (inl s) = let many = sym (length-map words (λ w. w.now)) ∙ s.0 in two many (sym (now-at words 1 d (omega (arith, many))) ∙ s.1)
+  no-page two five (inr s) =
+      let many = sym (length-map words (λ w. w.now)) ∙ s.0 in
+      five many (sym (now-at words 1 d (omega (arith, many))) ∙ s.1) (sym (now-at words 3 d (omega (arith, many))) ∙ s.2)
+
+  pub anon-page : (page : ℕ) → length words ≡ 2 → (get_or words 1 d).now ≡ codes "anon" → IsNumber (get_or words 0 d).now page → ArePageWords (map (λ w. w.now) words) (page, backings.Anon)
+  anon-page page many kind n = record { fits = n.fits; same = two-of words d many ∙ ap (λ w. w ∷ (get_or words 1 d).now ∷ []) n.digits ∙ ap (λ w. decimal page ∷ w ∷ []) kind }
+
+  pub no-anon-number : length words ≡ 2 → (get_or words 1 d).now ≡ codes "anon" → ((n : ℕ) → IsNumber (get_or words 0 d).now n → ⊥) → IsPageMisfit (map (λ w. w.now) words) misfits.BadNumber
+  no-anon-number many kind none =
+      (inl (length-map words (λ w. w.now) ∙ many, now-at words 1 d (omega (arith, many)) ∙ kind), λ h. none h.0.0 (subst (λ w. IsNumber w h.0.0) (now-at words 0 d (omega (arith, many))) h.0.1))
+
+  pub file-page : (page file fill : ℕ) → length words ≡ 5 → (get_or words 1 d).now ≡ codes "file" → (get_or words 3 d).now ≡ codes "fill"
+      → IsNumber (get_or words 0 d).now page → IsNumber (get_or words 2 d).now file → IsNumber (get_or words 4 d).now fill → ArePageWords (map (λ w. w.now) words) (page, backings.File file fill)
+  file-page page file fill many kind of a b e =
+      record { fits = (a.fits, b.fits, e.fits); same = five-of words d many ∙ rw (a.digits, kind, b.digits, of, e.digits) refl }
+
+  pub no-file-numbers : length words ≡ 5 → (get_or words 1 d).now ≡ codes "file" → (get_or words 3 d).now ≡ codes "fill"
+      → ((m n p : ℕ) → IsNumber (get_or words 0 d).now m → IsNumber (get_or words 2 d).now n → IsNumber (get_or words 4 d).now p → ⊥) → IsPageMisfit (map (λ w. w.now) words) misfits.BadNumber
+  no-file-numbers many kind of none = (
+    inr (length-map words (λ w. w.now) ∙ many, now-at words 1 d (omega (arith, many)) ∙ kind, now-at words 3 d (omega (arith, many)) ∙ of),
+    λ h.
+        let more = h.1 (rw length-map (omega (arith, many))) in
+        none h.0.0 more.0.0 more.1.0 (at 0 h.0.0 (omega arith) h.0.1) (at 2 more.0.0 (omega arith) more.0.1) (at 4 more.1.0 (omega arith) more.1.1),
+  )
+    where
+      at : (i n : ℕ) → i < 5 → IsNumber (get_or (map (λ w. w.now) words) i []) n → IsNumber (get_or words i d).now n
+      at i n l is = subst (λ w. IsNumber w n) (now-at words i d (omega (arith, l, many))) is
+
+  -- the words of a thread
+  pub no-handler : ((handler : Bool) → (get_or words 3 d).now ≡ handler_text handler → ⊥) → length words ≡ 4 → HasShape thread_keyword (map (λ w. w.now) words) → ⊥
+  no-handler none many h = none h.1.0 (sym (now-at words 3 d (omega (arith, many))) ∙ h.1.1)
+
+  pub thread-sentence : (thread process cpu : ℕ) (handler : Bool) → length words ≡ 4 → (get_or words 3 d).now ≡ handler_text handler
+      → IsNumber (get_or words 0 d).now thread → IsNumber (get_or words 1 d).now process → IsNumber (get_or words 2 d).now cpu → IsSentence thread_keyword (map (λ w. w.now) words) (forms.Thread thread process cpu handler)
+  thread-sentence thread process cpu handler many last a b e =
+      record { kind = refl; fits = (a.fits, b.fits, e.fits); same = four-of words d many ∙ rw (a.digits, b.digits, e.digits, last) refl }

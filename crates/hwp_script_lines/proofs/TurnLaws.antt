@@ -1,9 +1,9 @@
 -- Laws of the words of a schedule.
-use Rattle.std.proofs.Common.{ℕ, ◌≡◌, ◌≢◌, ◌<◌, ◌≤◌, ◌^◌, ◌+◌, ◌++◌, Bool, true, false, List, [], ◌∷◌, length, get_or, take, map, Bor, decimal, refl, sym, ap, subst, arith, inl, inr}
+use Rattle.std.proofs.Common.{ℕ, ◌≡◌, ◌≢◌, ◌<◌, ◌≤◌, ◌^◌, ◌+◌, ◌++◌, ◌⊎◌, Bool, true, false, true≢false, List, [], ◌∷◌, length, get_or, take, map, Bor, decimal, refl, sym, ap, subst, arith, inl, inr}
 use Rattle.std.specs.Prelude.{All}
 use Rattle.std.proofs.lemmas.Fmt.{decimal_is_IsNumeral}
 use Rattle.std.proofs.lemmas.List.{append_cancel_right, length-map, get_or-map, take_all}
-use Rattle.std.proofs.lemmas.List.Elements.{All-push, All-contains, Contains-push}
+use Rattle.std.proofs.lemmas.List.Elements.{All-from_recursion, All-push, All-contains, Contains-push}
 use Rattle.hwp_geom.specs.Pairs.{Pairs}
 use Rattle.hwp_geom.proofs.WordLaws.{digits_differ}
 use Rattle.hwp_script_lines.specs.Numbers.{IsNumber}
@@ -13,7 +13,7 @@ use Rattle.hwp_script_lines.specs.declared.command.Until.{Until}
 use Rattle.hwp_script_lines.specs.declared.command.Until.TheVariants as untils
 use Rattle.hwp_script_lines.specs.declared.script_line.ScriptLine.{ScriptLine}
 use Rattle.hwp_script_lines.specs.declared.script_line.ScriptLine.TheVariants as forms
-use Rattle.hwp_script_lines.proofs.PairsLaws.{Pairs-push, Pairs-partner, take-now, All-now}
+use Rattle.hwp_script_lines.proofs.PairsLaws.{Pairs-push, Pairs-partner, Pairs-some, take-now, All-now}
 
 -- a number has no dot at its end
 pub no_dot : (n : ℕ) → n < 2 ^ 64 → (cpu : List ℕ) → decimal n ≡ cpu ++ 46 ∷ [] → ⊥
@@ -134,3 +134,29 @@ turns-high words i turns is_bad is_over h good high all some = record {
   numbers = subst (All IsTurnWord) (take_all i (map (λ w. w.now) words) (rw length-map all)) (h.numbers good);
   none = no_schedule (map (λ w. w.now) words) (h.high high);
 }
+
+-- a word of a schedule has one piece or two
+pub few-pieces : (pieces : List (Bor (List ℕ))) → (length pieces < 1) ⊎ (3 ≤ length pieces) → HaveTurnShape (map (λ p. p.now) pieces) → ⊥
+few-pieces pieces few h = let many = length-map pieces (λ p. p.now) in counts (length pieces) _ many few h
+  where
+    counts : (m n : ℕ) → n ≡ m → (m < 1) ⊎ (3 ≤ m) → {A : Type 0} → (n ≡ 1) ⊎ ((n ≡ 2) × A) → ⊥
+    counts m n e (inl l) (inl h) = omega (arith, e, l, h)
+    counts m n e (inl l) (inr h) = let two = h.0 in omega (arith, e, l, two)
+    counts m n e (inr l) (inl h) = omega (arith, e, l, h)
+    counts m n e (inr l) (inr h) = let two = h.0 in omega (arith, e, l, two)
+
+-- before the first word, and behind the last where no word was bad or over its limit
+pub turns-first : (ws : List (List ℕ)) (turns : List Go) → turns ≡ [] → AreTurnsSoFar ws 0 turns false false
+turns-first ws turns none = record {
+  shaped = All-from_recursion HasTurnShape (take 0 ws) tt;
+  numbers = λ e. All-from_recursion IsTurnWord (take 0 ws) tt;
+  good = λ e f. subst (λ ts. Pairs IsTurn [] ts) (sym none) tt;
+  ill = λ e. absurd (true≢false (sym e));
+  high = λ e. absurd (true≢false (sym e));
+}
+
+pub turns-last : (words : List (Bor (List ℕ))) (i : ℕ) (turns : List Go) (is_bad is_over : Bool) → AreTurnsSoFar (map (λ w. w.now) words) i turns is_bad is_over
+    → is_bad ≡ false → is_over ≡ false → length words ≤ i → 0 < length words → (0 < length turns) × Pairs IsTurn (map (λ w. w.now) words) turns
+turns-last words i turns is_bad is_over h good within past some =
+    let all : Pairs IsTurn (map (λ w. w.now) words) turns = subst (λ us. Pairs IsTurn us turns) (take_all i (map (λ w. w.now) words) (rw length-map past)) (h.good good within) in
+    (Pairs-some IsTurn (map (λ w. w.now) words) turns all (rw length-map some), all)

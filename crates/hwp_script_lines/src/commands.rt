@@ -93,14 +93,29 @@ fn line_of(number: u64) -> Option<Line>
 fn access_of(thread: u64, slot: u64, line: u64) -> Option<(Thread, VSlot, Line)>
     ensures { MatchOption result (IsAccessWithin (record { 0 = thread }) (record { 0 = slot }) line → ⊥) (λ a. (a.0 ≡ record { 0 = thread }) × (a.1 ≡ record { 0 = slot }) × (a.2 ≡ line) × IsAccessWithin (record { 0 = thread }) (record { 0 = slot }) line) }
 {
-    Some((thread_of(thread)?, slot_of(slot)?, line_of(line)?))
+    let Some(thread) = thread_of(thread) else {
+        return None;
+    };
+    let Some(slot) = slot_of(slot) else {
+        return None;
+    };
+    let Some(line) = line_of(line) else {
+        return None;
+    };
+    Some((thread, slot, line))
 }
 
 /// A line of a frame.
 fn place_of(frame: u64, line: u64) -> Option<(Frame, Line)>
     ensures { MatchOption result ((frame < frame_limit) × (line < line_limit) → ⊥) (λ p. (p.0 ≡ record { 0 = frame }) × (p.1 ≡ line) × (frame < frame_limit) × (line < line_limit)) }
 {
-    Some((frame_of(frame)?, line_of(line)?))
+    let Some(frame) = frame_of(frame) else {
+        return None;
+    };
+    let Some(line) = line_of(line) else {
+        return None;
+    };
+    Some((frame, line))
 }
 
 /// Frames from the first to the last.
@@ -110,7 +125,9 @@ fn range_of(first: u64, last: u64) -> Option<(Frame, Frame)>
     if first > last {
         return None;
     }
-    let last = frame_of(last)?;
+    let Some(last) = frame_of(last) else {
+        return None;
+    };
     Some((Frame(first as u16), last))
 }
 
@@ -138,7 +155,13 @@ fn truth(number: u64) -> Option<bool>
 fn bits_of(ripv: u64, eipv: u64) -> Option<(bool, bool)>
     ensures { MatchOption result ((1 < ripv) ⊎ (1 < eipv)) (λ b. (ripv ≡ bit b.0) × (eipv ≡ bit b.1)) }
 {
-    Some((truth(ripv)?, truth(eipv)?))
+    let Some(ripv) = truth(ripv) else {
+        return None;
+    };
+    let Some(eipv) = truth(eipv) else {
+        return None;
+    };
+    Some((ripv, eipv))
 }
 
 /// The machine check of a thread that these words behind `raise user` say.
@@ -200,19 +223,27 @@ fn access_with(word: CommandWord, numbers: [u64; 6]) -> Option<Command>
     let [first, second, third, fourth, _, _] = numbers;
     match word {
         CommandWord::Load => {
-            let (thread, slot, line) = access_of(first, second, third)?;
+            let Some((thread, slot, line)) = access_of(first, second, third) else {
+                return None;
+            };
             Some(Command::Load { thread, slot, line })
         }
         CommandWord::Fetch => {
-            let (thread, slot, line) = access_of(first, second, third)?;
+            let Some((thread, slot, line)) = access_of(first, second, third) else {
+                return None;
+            };
             Some(Command::Fetch { thread, slot, line })
         }
         CommandWord::KLoad => {
-            let (thread, slot, line) = access_of(first, second, third)?;
+            let Some((thread, slot, line)) = access_of(first, second, third) else {
+                return None;
+            };
             Some(Command::KLoad { thread, slot, line })
         }
         CommandWord::Store => {
-            let (thread, slot, line) = access_of(first, second, third)?;
+            let Some((thread, slot, line)) = access_of(first, second, third) else {
+                return None;
+            };
             let word = fourth;
             Some(Command::Store {
                 thread,
@@ -297,7 +328,9 @@ fn frame_with(word: CommandWord, numbers: [u64; 6]) -> Option<Command>
 fn watch_with(threshold: u64, window: u64) -> Option<Command>
     ensures { MatchOption result (CommandFits (watch threshold window) → ⊥) (λ c. (c ≡ watch threshold window) × CommandFits (watch threshold window)) }
 {
-    let (threshold, window) = collector_of(threshold, window)?;
+    let Some((threshold, window)) = collector_of(threshold, window) else {
+        return None;
+    };
     Some(Command::Watch { threshold, window })
 }
 
@@ -305,8 +338,12 @@ fn watch_with(threshold: u64, window: u64) -> Option<Command>
 fn fork_with(thread: u64, process: u64) -> Option<Command>
     ensures { MatchOption result (CommandFits (fork thread process) → ⊥) (λ c. (c ≡ fork thread process) × CommandFits (fork thread process)) }
 {
-    let thread = thread_of(thread)?;
-    let process = process_of(process)?;
+    let Some(thread) = thread_of(thread) else {
+        return None;
+    };
+    let Some(process) = process_of(process) else {
+        return None;
+    };
     Some(Command::Fork { thread, process })
 }
 
@@ -327,7 +364,9 @@ fn command_with(word: CommandWord, numbers: [u64; 6]) -> Option<Command>
         | CommandWord::Open => page_with(word, numbers),
         CommandWord::Prctl => {
             let [first, operation, arg2, arg3, arg4, arg5] = numbers;
-            let thread = thread_of(first)?;
+            let Some(thread) = thread_of(first) else {
+                return None;
+            };
             let args = PrctlArgs {
                 operation,
                 arg2,

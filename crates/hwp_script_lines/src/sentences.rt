@@ -31,11 +31,16 @@ fn read_handler(word: &[u8]) -> Option<bool>
 fn three_of(first: &[u8], second: &[u8], third: &[u8]) -> Option<(u64, u64, u64)>
     ensures { MatchOption result ((m n p : ℕ) → IsNumber first.now m → IsNumber second.now n → IsNumber third.now p → ⊥) (λ n. IsNumber first.now n.0 × IsNumber second.now n.1 × IsNumber third.now n.2) }
 {
-    Some((
-        read_number(first)?,
-        read_number(second)?,
-        read_number(third)?,
-    ))
+    let Some(first) = read_number(first) else {
+        return None;
+    };
+    let Some(second) = read_number(second) else {
+        return None;
+    };
+    let Some(third) = read_number(third) else {
+        return None;
+    };
+    Some((first, second, third))
 }
 
 /// The thread that these words behind `thread` declare.
@@ -64,11 +69,19 @@ fn read_backing(words: &[&[u8]]) -> Result<(u64, Backing), Misfit>
     ensures { MatchResult result (ArePageWords (map (λ w. w.now) words.now)) (IsPageMisfit (map (λ w. w.now) words.now)) }
 {
     match words {
-        [page, kind] if is_text(kind, "anon") => match read_number(page) {
-            Some(page) => Ok((page, Backing::Anon)),
-            None => Err(Misfit::BadNumber),
-        },
-        [page, kind, file, of, fill] if is_text(kind, "file") && is_text(of, "fill") => {
+        [page, kind] => {
+            if !is_text(kind, "anon") {
+                return Err(Misfit::Unknown);
+            }
+            match read_number(page) {
+                Some(page) => Ok((page, Backing::Anon)),
+                None => Err(Misfit::BadNumber),
+            }
+        }
+        [page, kind, file, of, fill] => {
+            if !is_text(kind, "file") || !is_text(of, "fill") {
+                return Err(Misfit::Unknown);
+            }
             match three_of(page, file, fill) {
                 Some((page, file, fill)) => Ok((page, Backing::File { file, fill })),
                 None => Err(Misfit::BadNumber),

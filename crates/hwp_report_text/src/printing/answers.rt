@@ -2,6 +2,7 @@ ghost use Rattle.std.specs.Prelude.{◌≡◌, ◌∷◌, [], ◌++◌, OnOk, st
 ghost use Rattle.std.specs.List.{flat_map};
 ghost use Rattle.hwp_page.specs.hwp_geom.Words.{line, hex};
 ghost use Rattle.hwp_report_text.specs.ReportText.{answer_words, cpu_line_words, event_words, guest_words, offlined_words, placed};
+ghost use Rattle.hwp_report_text.specs.Sayings.{said_words};
 
 use crate::lines::{Answer, CpuLine, EventLine, GuestLine, OfflineResult, OfflinedLine};
 use crate::terms::{acted_word, guest_word};
@@ -111,43 +112,67 @@ fn put_offlined_moved(
     )
 }
 
+/// The word of an answer, with what stands behind it.
+#[derive(Clone, Copy)]
+pub(crate) enum Said {
+    Word(&'static str),
+    Number(&'static str, u64),
+    Hex(&'static str, Mask),
+    Place(&'static str, At),
+    NumberPlace(&'static str, u64, At),
+    HexPlace(&'static str, Mask, At),
+}
+
+fn said_of(answer: Answer) -> Said
+    ensures { said_words result ≡ answer_words answer }
+{
+    match answer {
+        Answer::Value { word, at } => Said::NumberPlace("value", word, at),
+        Answer::Stored(at) => Said::Place("stored", at),
+        Answer::Sigbus(at) => Said::Place("sigbus", at),
+        Answer::Gone(page) => Said::Number("gone", page.0 as u64),
+        Answer::NoFrame => Said::Word("noframe"),
+        Answer::Stopped => Said::Word("stopped"),
+        Answer::Done => Said::Word("done"),
+        Answer::DoneAt(at) => Said::Place("done", at),
+        Answer::NotResident(at) => Said::Place("notresident", at),
+        Answer::NotMapped(at) => Said::Place("notmapped", at),
+        Answer::Dirty(at) => Said::Place("dirty", at),
+        Answer::Mapped(at) => Said::Place("mapped", at),
+        Answer::Locked(at) => Said::Place("locked", at),
+        Answer::BadLines(mask, at) => Said::HexPlace("badlines", mask, at),
+        Answer::Eio(lost) => Said::Number("eio", lost),
+        Answer::Opened(lost) => Said::Number("opened", lost),
+        Answer::Is(policy) => Said::Number("is", policy),
+        Answer::Einval => Said::Word("einval"),
+        Answer::Recovered => Said::Word("recovered"),
+        Answer::Delayed => Said::Word("delayed"),
+        Answer::Ignored => Said::Word("ignored"),
+        Answer::Already => Said::Word("already"),
+        Answer::Moved(frame, at) => Said::NumberPlace("moved", frame.0 as u64, at),
+        Answer::TakenFree => Said::Word("takenfree"),
+        Answer::Kernel => Said::Word("kernel"),
+        Answer::HasBad(mask) => Said::Hex("hasbad", mask),
+        Answer::NotPoisoned => Said::Word("notpoisoned"),
+        Answer::HardwareSeen => Said::Word("hardwareseen"),
+        Answer::InUse(count) => Said::Number("inuse", count),
+        Answer::Scrubbed(events) => Said::Number("scrubbed", events),
+        Answer::Raised(events) => Said::Number("raised", events),
+        Answer::GuestStopped => Said::Word("gueststopped"),
+        Answer::GuestBad => Said::Word("guestbad"),
+    }
+}
+
 fn put_answer(out: &mut String, seq: u32, answer: Answer) -> Result<(), OutOfMemory>
     ensures { OnOk result (string_bytes out.new ≡ string_bytes out.old ++ line (decimal seq ∷ answer_words answer)) }
 {
-    match answer {
-        Answer::Value { word, at } => put_value(out, seq, word, at),
-        Answer::Stored(at) => put_place(out, seq, "stored", at),
-        Answer::Sigbus(at) => put_place(out, seq, "sigbus", at),
-        Answer::Gone(page) => put_number(out, seq, "gone", u64::from(page.0)),
-        Answer::NoFrame => put_word(out, seq, "noframe"),
-        Answer::Stopped => put_word(out, seq, "stopped"),
-        Answer::Done => put_word(out, seq, "done"),
-        Answer::DoneAt(at) => put_place(out, seq, "done", at),
-        Answer::NotResident(at) => put_place(out, seq, "notresident", at),
-        Answer::NotMapped(at) => put_place(out, seq, "notmapped", at),
-        Answer::Dirty(at) => put_place(out, seq, "dirty", at),
-        Answer::Mapped(at) => put_place(out, seq, "mapped", at),
-        Answer::Locked(at) => put_place(out, seq, "locked", at),
-        Answer::BadLines(mask, at) => put_bad_lines(out, seq, mask, at),
-        Answer::Eio(lost) => put_number(out, seq, "eio", lost),
-        Answer::Opened(lost) => put_number(out, seq, "opened", lost),
-        Answer::Is(policy) => put_number(out, seq, "is", policy),
-        Answer::Einval => put_word(out, seq, "einval"),
-        Answer::Recovered => put_word(out, seq, "recovered"),
-        Answer::Delayed => put_word(out, seq, "delayed"),
-        Answer::Ignored => put_word(out, seq, "ignored"),
-        Answer::Already => put_word(out, seq, "already"),
-        Answer::Moved(frame, at) => put_moved(out, seq, frame, at),
-        Answer::TakenFree => put_word(out, seq, "takenfree"),
-        Answer::Kernel => put_word(out, seq, "kernel"),
-        Answer::HasBad(mask) => writeln!(out, "{seq} hasbad {:x}", mask.0),
-        Answer::NotPoisoned => put_word(out, seq, "notpoisoned"),
-        Answer::HardwareSeen => put_word(out, seq, "hardwareseen"),
-        Answer::InUse(count) => put_number(out, seq, "inuse", count),
-        Answer::Scrubbed(events) => put_number(out, seq, "scrubbed", events),
-        Answer::Raised(events) => put_number(out, seq, "raised", events),
-        Answer::GuestStopped => put_word(out, seq, "gueststopped"),
-        Answer::GuestBad => put_word(out, seq, "guestbad"),
+    match said_of(answer) {
+        Said::Word(word) => put_word(out, seq, word),
+        Said::Number(word, number) => put_number(out, seq, word, number),
+        Said::Hex(word, mask) => put_hex(out, seq, word, mask),
+        Said::Place(word, at) => put_place(out, seq, word, at),
+        Said::NumberPlace(word, number, at) => put_number_place(out, seq, word, number, at),
+        Said::HexPlace(word, mask, at) => put_hex_place(out, seq, word, mask, at),
     }
 }
 
@@ -163,33 +188,44 @@ fn put_number(out: &mut String, seq: u32, word: &str, number: u64) -> Result<(),
     writeln!(out, "{seq} {word} {number}")
 }
 
+fn put_hex(out: &mut String, seq: u32, word: &str, mask: Mask) -> Result<(), OutOfMemory>
+    ensures { OnOk result (string_bytes out.new ≡ string_bytes out.old ++ line (decimal seq ∷ word.now ∷ hex mask.0 ∷ [])) }
+{
+    writeln!(out, "{seq} {word} {:x}", mask.0)
+}
+
 fn put_place(out: &mut String, seq: u32, word: &str, at: At) -> Result<(), OutOfMemory>
     ensures { OnOk result (string_bytes out.new ≡ string_bytes out.old ++ line (decimal seq ∷ placed word.now at)) }
 {
     writeln!(out, "{seq} {word} {} {}", at.page.0, at.entry)
 }
 
-fn put_value(out: &mut String, seq: u32, word: u64, at: At) -> Result<(), OutOfMemory>
+fn put_number_place(
+    out: &mut String,
+    seq: u32,
+    word: &str,
+    number: u64,
+    at: At,
+) -> Result<(), OutOfMemory>
     ensures { OnOk result (string_bytes out.new ≡ string_bytes out.old
-        ++ line (decimal seq ∷ codes "value" ∷ decimal word ∷ decimal at.page.0 ∷ decimal at.entry ∷ [])) }
+        ++ line (decimal seq ∷ word.now ∷ decimal number ∷ decimal at.page.0 ∷ decimal at.entry ∷ [])) }
 {
-    writeln!(out, "{seq} value {word} {} {}", at.page.0, at.entry)
+    writeln!(out, "{seq} {word} {number} {} {}", at.page.0, at.entry)
 }
 
-fn put_bad_lines(out: &mut String, seq: u32, mask: Mask, at: At) -> Result<(), OutOfMemory>
+fn put_hex_place(
+    out: &mut String,
+    seq: u32,
+    word: &str,
+    mask: Mask,
+    at: At,
+) -> Result<(), OutOfMemory>
     ensures { OnOk result (string_bytes out.new ≡ string_bytes out.old
-        ++ line (decimal seq ∷ codes "badlines" ∷ hex mask.0 ∷ decimal at.page.0 ∷ decimal at.entry ∷ [])) }
+        ++ line (decimal seq ∷ word.now ∷ hex mask.0 ∷ decimal at.page.0 ∷ decimal at.entry ∷ [])) }
 {
     writeln!(
         out,
-        "{seq} badlines {:x} {} {}",
+        "{seq} {word} {:x} {} {}",
         mask.0, at.page.0, at.entry
     )
-}
-
-fn put_moved(out: &mut String, seq: u32, frame: Frame, at: At) -> Result<(), OutOfMemory>
-    ensures { OnOk result (string_bytes out.new ≡ string_bytes out.old
-        ++ line (decimal seq ∷ codes "moved" ∷ decimal frame.0 ∷ decimal at.page.0 ∷ decimal at.entry ∷ [])) }
-{
-    writeln!(out, "{seq} moved {} {} {}", frame.0, at.page.0, at.entry)
 }

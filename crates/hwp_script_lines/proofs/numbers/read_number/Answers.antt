@@ -1,6 +1,8 @@
-use Rattle.std.proofs.Common.{ℕ, ◌≡◌, rules, ◌∙◌}
+use Rattle.std.proofs.Common.{ℕ, ◌≡◌, false, true≢false, decimal, sym, ap, ◌∙◌}
 use Rattle.std.specs.Prelude.{IsUtf8, List}
 use Rattle.std.proofs.lemmas.Fmt.{parse-decimal, IsAscii-decimal}
+use Rattle.std.proofs.lemmas.Bool.Decides.{Decides-eqb}
+use Rattle.std.proofs.lemmas.Slice.Eq.{slice_eq-Decides}
 use Rattle.std.proofs.lemmas.Str.{IsUtf8-from_ascii}
 use Rattle.hwp_script_lines.specs.Numbers.{IsNumber}
 use Rattle.hwp_script_lines.proofs.numbers.read_number.Goals as goal
@@ -19,4 +21,6 @@ returns-in_default-parse-clause-none c = λ n h.
 pub returns-else-eq-clause-none : goal.returns-else-eq-clause-none
 returns-else-eq-clause-none c = λ n h.
     let read = parse-decimal 64 n _ _ h.fits h.fits (c.in-Ok.ensures.cases.0 ∙ h.digits) c.parse.ensures.value.0 in
-    let text : c.format.result.now ≡ c.in-Ok.text.now = cc (h.digits, c.in-Ok.ensures.cases.0) in search rules
+    let same : c.in-Ok-parse.number ≡ n = cc (read, c.in-Ok-parse.is) in
+    let text : c.format.result.now ≡ c.in-Ok.text.now = c.format.ensures.text ∙ ap decimal same ∙ sym h.digits ∙ sym c.in-Ok.ensures.cases.0 in
+    true≢false (sym ((slice_eq-Decides Decides-eqb _ _ false c.if-eq.ensures).1 text))
