@@ -174,6 +174,9 @@ impl Fail {
     }
 }
 
+/// Lets the body go that a step met. Each way out of a function that lets it go itself proves anew how it goes.
+pub(crate) fn let_go_of(_body: Option<Body>) {}
+
 impl Task for Fail {
     ghost use Rattle.hwp_claim.specs.Fails as fails;
 
@@ -207,11 +210,19 @@ impl Task for Fail {
                     let over = FailAt::Over {
                         answer: FailAnswer::Stopped,
                     };
-                    let FailAt::Claim { claim } = mem::replace(&mut self.at, over) else {
-                        unreachable!();
-                    };
-                    let at = after_claim(self.alloc, self.who, self.frame, self.required, claim);
-                    self.set(at);
+                    match mem::replace(&mut self.at, over) {
+                        FailAt::Claim { claim } => {
+                            let at = after_claim(
+                                self.alloc,
+                                self.who,
+                                self.frame,
+                                self.required,
+                                claim,
+                            );
+                            self.set(at);
+                        }
+                        _ => unreachable!(),
+                    }
                 }
                 turn
             }
@@ -222,7 +233,10 @@ impl Task for Fail {
                 }
                 turn
             }
-            FailAt::Over { .. } => Turn::Moved,
+            FailAt::Over { .. } => {
+                let_go_of(body);
+                Turn::Moved
+            }
         }
     }
 }

@@ -1,7 +1,7 @@
 ghost use Rattle.std.specs.Prelude.{◌≡◌};
 ghost use Rattle.hwp_claim.specs.Injects.{answer, begin, loaded};
 
-use crate::fail::{Fail, FailAnswer};
+use crate::fail::{Fail, FailAnswer, let_go_of};
 use hwp_claim_frame::{
     Body, Frame, Layout, Ranked, Scheduled, SharedWord, Step, Task, Turn, Who, is_stopped,
 };
@@ -97,14 +97,14 @@ impl Task for Inject {
     fn settle(&mut self, layout: &Layout, found: u64, body: Option<Body>) -> Turn {
         match &mut self.at {
             InjectAt::LoadStop => {
-                drop(body);
+                let_go_of(body);
                 let at = loaded(self.alloc, layout, self.who, self.frame, found);
                 drop(mem::replace(&mut self.at, at));
                 Turn::Moved
             }
             InjectAt::Fail { fail } => fail.settle(layout, found, body),
             InjectAt::Stopped => {
-                drop(body);
+                let_go_of(body);
                 Turn::Moved
             }
         }
