@@ -15,7 +15,7 @@ use Rattle.hwp_script_read.specs.Sums.{Sums}
 use Rattle.hwp_script_read.specs.Collects.{IsEnded}
 use Rattle.hwp_script_read.specs.Refusals.{AreForms, IsLowestFault, IsFirst, AreRefused}
 use Rattle.hwp_script_read.specs.declared.why.Refused.{Refused}
-use Rattle.hwp_script_read.proofs.CleanLists.{AreClean-push, slice_get-append_at}
+use Rattle.hwp_script_read.proofs.CleanLists.{AreClean-none, AreClean-push, slice_get-append_at}
 
 -- the lines so far have these forms, each is clean, and this is their summary; of all lines the last is `end`
 pub record AreSoFar (lines yielded : List Numbered) (fs : List ScriptLine) (s : Summary) : Type 0 where
@@ -23,6 +23,11 @@ pub record AreSoFar (lines yielded : List Numbered) (fs : List ScriptLine) (s : 
   pub clean : AreClean fs
   pub ended : 0 < length fs → length lines ≤ length fs → IsEnded fs
   pub sums : Sums fs s
+
+-- before the first line
+pub none_yet : {lines : List Numbered} {fs : List ScriptLine} {s : Summary} → fs ≡ [] → Sums [] s → AreSoFar lines [] fs s
+none_yet {lines} {fs} {s} e sums =
+    subst (λ xs. AreSoFar lines [] xs s) (sym e) (record { each = record { same = refl }; clean = AreClean-none; ended = λ some. absurd (omega (arith, some)); sums = sums })
 
 -- the next line
 pub record IsTurn (lines yielded : List Numbered) (n : Numbered) : Type 0 where

@@ -9,6 +9,8 @@ use Rattle.hwp_script_lines.specs.hwp_geom.declared.Version.TheVariants as versi
 use Rattle.hwp_script_read.specs.Context.{version_in}
 use Rattle.hwp_script_read.specs.Reasons.{Applies, AreClean, number}
 use Rattle.hwp_script_read.specs.Collects.{Collects, IsEnded}
+use Rattle.hwp_script_read.specs.Sums.{Sums}
+use Rattle.hwp_script_read.specs.declared.context.Summary.{Summary}
 use Rattle.hwp_script_read.specs.declared.script.Script.{Script}
 use Rattle.hwp_script_read.specs.declared.why.Refused.{Refused}
 use Rattle.hwp_script_read.specs.declared.why.Why.{Why}
@@ -25,6 +27,13 @@ pub record AreScript (lines : List Numbered) (s : Script) : Type 0 where
   pub clean : AreClean forms
   pub ended : IsEnded forms
   pub collects : Collects forms s
+
+-- all lines have these forms, each is clean, the last is `end`, and this is their summary
+pub record AreGathered (lines : List Numbered) (fs : List ScriptLine) (s : Summary) : Type 0 where
+  pub each : AreForms lines fs
+  pub clean : AreClean fs
+  pub ended : IsEnded fs
+  pub sums : Sums fs s
 
 -- a line of a form that the version of the lines above it has not: `newer` says that version Two alone has it
 abbrev pub IsTooNew : Bool → List ScriptLine → Type 0

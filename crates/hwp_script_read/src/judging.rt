@@ -1,7 +1,7 @@
-ghost use Rattle.std.specs.Prelude.{◌≡◌, ◌↔◌, Bool, IsTrue, true, IfOk, IfErr};
+ghost use Rattle.std.specs.Prelude.{◌≡◌, ◌↔◌, [], Bool, IsTrue, true, IfOk, IfErr, MatchOption};
 ghost use Rattle.hwp_script_read.specs.Reasons.{IsClean};
 ghost use Rattle.hwp_script_read.specs.Sums.{Sums};
-ghost use Rattle.hwp_script_read.specs.Refusals.{AreScript, AreRefused, IsLowestFault, IsTooNew};
+ghost use Rattle.hwp_script_read.specs.Refusals.{AreGathered, AreScript, AreRefused, IsLowestFault, IsTooNew};
 
 use crate::context::Summary;
 use crate::faults::fault;
@@ -92,7 +92,37 @@ fn judge_line(
     Ok(form)
 }
 
-/// The script that lines give, or their first line at fault, in one walk.
+/// The first line at fault, in one walk that gathers the forms of the lines and their summary, where there is none.
+fn judge_lines(
+    alloc: Global,
+    lines: Vec<Numbered>,
+    forms: &mut Vec<ScriptLine>,
+    summary: &mut Summary,
+) -> Result<Option<Refused>, OutOfMemory>
+    requires empty { forms.old.items ≡ [] }
+    requires sums { Sums [] summary.old }
+    ensures { IfOk result (λ refused. MatchOption refused (AreGathered lines.items forms.new.items summary.new) (AreRefused lines.items)) }
+{
+    let count = lines.len();
+    for Numbered { line, read } in lines {
+        let last = forms.len() + 1 == count;
+        let form = match judge_line(last, summary, forms.as_slice(), read) {
+            Ok(form) => form,
+            Err(why) => return Ok(Some(Refused { line, why })),
+        };
+        summary.add(alloc, forms.as_slice(), &form)?;
+        forms.push(form)?;
+    }
+    if forms.is_empty() {
+        return Ok(Some(Refused {
+            line: 1,
+            why: Why::BadHeader,
+        }));
+    }
+    Ok(None)
+}
+
+/// The script that lines give, or their first line at fault. What a summary holds is let go at one place an exit.
 pub(crate) fn judge(
     alloc: Global,
     lines: Vec<Numbered>,
@@ -100,23 +130,17 @@ pub(crate) fn judge(
     ensures script { IfOk result (λ read. IfOk read (AreScript lines.items)) }
     ensures refused { IfOk result (λ read. IfErr read (AreRefused lines.items)) }
 {
-    let count = lines.len();
     let mut forms = Vec::new(alloc);
     let mut summary = Summary::new(alloc);
-    for Numbered { line, read } in lines {
-        let last = forms.len() + 1 == count;
-        let form = match judge_line(last, &summary, forms.as_slice(), read) {
-            Ok(form) => form,
-            Err(why) => return Ok(Err(Refused { line, why })),
-        };
-        summary.add(alloc, forms.as_slice(), &form)?;
-        forms.push(form)?;
+    match judge_lines(alloc, lines, &mut forms, &mut summary) {
+        Ok(None) => Ok(Ok(summary.into_script(forms.as_slice()))),
+        Ok(Some(refused)) => {
+            drop(summary);
+            Ok(Err(refused))
+        }
+        Err(error) => {
+            drop(summary);
+            Err(error)
+        }
     }
-    if forms.is_empty() {
-        return Ok(Err(Refused {
-            line: 1,
-            why: Why::BadHeader,
-        }));
-    }
-    Ok(Ok(summary.into_script(forms.as_slice())))
 }
