@@ -1,6 +1,7 @@
 ghost use Rattle.std.specs.Prelude.{◌≡◌, is_none};
 ghost use Rattle.hwp_evict.specs.Clears.{IsBegun, pte_of};
 
+use crate::evict::let_go_of;
 use hwp_core::{Body, Frame, HeldSlots, Layout, Page, Pte, Ranked, Step, Task, Turn, VSlot, Who};
 
 /// Writes the translations that lead to a page's frame, in rising order, so that they no longer do: empty, or with a poison
@@ -87,7 +88,8 @@ impl Task for Clear {
         None
     }
 
-    fn settle(&mut self, _layout: &Layout, _found: u64, _body: Option<Body>) -> Turn {
+    fn settle(&mut self, _layout: &Layout, _found: u64, body: Option<Body>) -> Turn {
+        let_go_of(body);
         if let Some(slot) = self.next {
             self.count += 1;
             self.next = self.slots.lowest_from(VSlot(slot.0 + 1));

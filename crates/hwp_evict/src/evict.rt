@@ -55,7 +55,6 @@ pub enum EvictAnswer {
 }
 
 /// A command by which a page, or a part of it, leaves its frame.
-#[derive(Drop)]
 pub struct Evict {
     who: Who,
     page: Page,
@@ -175,6 +174,18 @@ fn is_empty(slots: &Slots) -> bool
     slots.lowest_from(VSlot(0)).is_none()
 }
 
+// by hand, since what lets such a command go cites what is proved here; with a derive it proves anew how each part goes
+impl Drop for Evict {
+    fn drop(self) {
+        let Evict {
+            who: _,
+            page: _,
+            what: _,
+            at: _,
+        } = self;
+    }
+}
+
 impl Evict {
     /// The command takes the translation, which is one to the page, out of use.
     pub fn free_slot(who: Who, slot: VSlot, page: Page) -> Evict
@@ -279,10 +290,12 @@ impl Evict {
             EvictAt::Clear { clear, .. } => {
                 let _turn = clear.settle(layout, found, got);
                 if clear.is_over() {
-                    let EvictAt::Clear { clear, body, done } = self.take() else {
-                        unreachable!();
-                    };
-                    self.set(after_clear(self.who, self.page, clear, body, done));
+                    match self.take() {
+                        EvictAt::Clear { clear, body, done } => {
+                            self.set(after_clear(self.who, self.page, clear, body, done));
+                        }
+                        _ => unreachable!(),
+                    }
                 }
                 Turn::Moved
             }
@@ -484,6 +497,9 @@ fn freed(who: Who, page: Page, frame: Frame, body: Body, done: At) -> EvictAt
     }
 }
 
+/// Lets the body go that a step met. Each way out of a function that lets it go itself proves anew how it goes.
+pub(crate) fn let_go_of(_body: Option<Body>) {}
+
 impl Task for Evict {
     ghost use Rattle.hwp_evict.specs.Evicts as evicts;
 
@@ -519,48 +535,57 @@ impl Task for Evict {
             EvictAt::Vacate { vacate, .. } => vacate.give(),
             EvictAt::Unhold { unhold, .. } => unhold.give(),
             EvictAt::GiveUp { give_up } => give_up.give(),
-            EvictAt::LoadStop
-            | EvictAt::Hold { .. }
-            | EvictAt::LoadBad { .. }
-            | EvictAt::SetPte { .. }
-            | EvictAt::Clear { .. }
-            | EvictAt::Over { .. } => None,
+            _ => None,
         }
     }
 
     fn settle(&mut self, layout: &Layout, found: u64, body: Option<Body>) -> Turn {
         match &mut self.at {
-            EvictAt::LoadStop => self.start(found),
+            EvictAt::LoadStop => {
+                let_go_of(body);
+                self.start(found)
+            }
             EvictAt::Hold { hold } => {
                 let turn = hold.settle(layout, found, body);
                 if hold.answer().is_some() {
-                    let EvictAt::Hold { hold } = self.take() else {
-                        unreachable!();
-                    };
-                    self.set(after_hold(self.who, self.page, self.what, hold));
+                    match self.take() {
+                        EvictAt::Hold { hold } => {
+                            self.set(after_hold(self.who, self.page, self.what, hold));
+                        }
+                        _ => unreachable!(),
+                    }
                 }
                 turn
             }
             EvictAt::LoadBad { .. } => {
-                let EvictAt::LoadBad { frame, body } = self.take() else {
-                    unreachable!();
-                };
-                self.set(after_bad(self.who, self.page, self.what, frame, body, found));
-                Turn::Moved
+                let_go_of(body);
+                match self.take() {
+                    EvictAt::LoadBad { frame, body } => {
+                        self.set(after_bad(self.who, self.page, self.what, frame, body, found));
+                        Turn::Moved
+                    }
+                    _ => unreachable!(),
+                }
             }
             EvictAt::SetPte { frame, done, .. } => {
+                let_go_of(body);
                 let (frame, done) = (*frame, *done);
-                let EvictAt::SetPte { body, .. } = self.take() else {
-                    unreachable!();
-                };
-                self.set(freed(self.who, self.page, frame, body, done));
-                Turn::Moved
+                match self.take() {
+                    EvictAt::SetPte { body, .. } => {
+                        self.set(freed(self.who, self.page, frame, body, done));
+                        Turn::Moved
+                    }
+                    _ => unreachable!(),
+                }
             }
             EvictAt::Clear { .. } | EvictAt::Vacate { .. } | EvictAt::Unhold { .. } => {
                 self.leave(layout, found, body)
             }
             EvictAt::GiveUp { give_up } => give_up.settle(layout, found, body),
-            EvictAt::Over { .. } => Turn::Moved,
+            EvictAt::Over { .. } => {
+                let_go_of(body);
+                Turn::Moved
+            }
         }
     }
 }

@@ -1,6 +1,7 @@
 ghost use Rattle.std.specs.Prelude.{◌≡◌, is_some, is_none};
 ghost use Rattle.hwp_evict.specs.Fsyncs.{begin, plan, answer, number, after_stop, after_report, reported};
 
+use crate::evict::let_go_of;
 use hwp_core::{
     Body, FileNo, Layout, Ranked, Scheduled, SharedWord, Step, Task, Turn, Who, is_stopped,
 };
@@ -139,7 +140,8 @@ impl Task for Fsync {
         None
     }
 
-    fn settle(&mut self, _layout: &Layout, found: u64, _body: Option<Body>) -> Turn {
+    fn settle(&mut self, _layout: &Layout, found: u64, body: Option<Body>) -> Turn {
+        let_go_of(body);
         match self.at {
             FsyncAt::LoadStop => {
                 self.at = Fsync::after_stop(self.handle, found);

@@ -1,6 +1,7 @@
 ghost use Rattle.std.specs.Prelude.{◌≡◌, is_none};
 ghost use Rattle.hwp_evict.specs.Vacates.{begin, plan};
 
+use crate::evict::let_go_of;
 use hwp_core::{Body, Frame, Layout, Page, Ranked, Release, Step, Task, Turn, Who};
 use std::cmp::min;
 
@@ -86,25 +87,24 @@ impl Task for Vacate {
     fn give(&mut self) -> Option<Body> {
         match self.at {
             VacateAt::UnlockPage => self.body.take(),
-            VacateAt::SetCache
-            | VacateAt::SetOwner
-            | VacateAt::UnlockFrame
-            | VacateAt::Release { .. }
-            | VacateAt::Over => None,
+            _ => None,
         }
     }
 
     fn settle(&mut self, layout: &Layout, found: u64, body: Option<Body>) -> Turn {
         match &mut self.at {
             VacateAt::SetCache => {
+                let_go_of(body);
                 self.at = VacateAt::SetOwner;
                 Turn::Moved
             }
             VacateAt::SetOwner => {
+                let_go_of(body);
                 self.at = VacateAt::UnlockFrame;
                 Turn::Moved
             }
             VacateAt::UnlockFrame => {
+                let_go_of(body);
                 self.at = VacateAt::Release {
                     release: Release::new(self.who, self.frame, self.count),
                 };
@@ -118,10 +118,14 @@ impl Task for Vacate {
                 turn
             }
             VacateAt::UnlockPage => {
+                let_go_of(body);
                 self.at = VacateAt::Over;
                 Turn::Moved
             }
-            VacateAt::Over => Turn::Moved,
+            VacateAt::Over => {
+                let_go_of(body);
+                Turn::Moved
+            }
         }
     }
 }
