@@ -21,10 +21,9 @@ returns-in_default-2 c = rw length-map (λ e. omega (arith, e, c.in_default.len_
 
 pub returns-in-Some : goal.returns-in-Some
 returns-in-Some c =
-    let n = c.in-Some.values in
-    let d = record { ref_ptr = (0, 0); now = [] } in record {
+    let n = c.in-Some.values in record {
       three = rw length-map (omega arith);
-      status = subst (λ w. IsRegister w n.0) (sym (now-at c.args.words.now 0 d (omega arith))) c.in-Some.ensures.0;
-      addr = subst (λ w. IsRegister w n.1) (sym (now-at c.args.words.now 1 d (omega arith))) c.in-Some.ensures.1;
-      misc = subst (λ w. IsRegister w n.2) (sym (now-at c.args.words.now 2 d (omega arith))) c.in-Some.ensures.2;
+      status = subst (λ w. IsRegister w n.0) (sym (now-at c.args.words.now 0 (record { ref_ptr = (0, 0); now = [] }) (omega arith))) c.in-Some.ensures.0;
+      addr = subst (λ w. IsRegister w n.1) (sym (now-at c.args.words.now 1 (record { ref_ptr = (0, 0); now = [] }) (omega arith))) c.in-Some.ensures.1;
+      misc = subst (λ w. IsRegister w n.2) (sym (now-at c.args.words.now 2 (record { ref_ptr = (0, 0); now = [] }) (omega arith))) c.in-Some.ensures.2;
     }
