@@ -223,9 +223,5 @@ fn put_hex_place(
     ensures { OnOk result (string_bytes out.new ≡ string_bytes out.old
         ++ line (decimal seq ∷ word.now ∷ hex mask.0 ∷ decimal at.page.0 ∷ decimal at.entry ∷ [])) }
 {
-    writeln!(
-        out,
-        "{seq} {word} {:x} {} {}",
-        mask.0, at.page.0, at.entry
-    )
+    writeln!(out, "{seq} {word} {:x} {} {}", mask.0, at.page.0, at.entry)
 }
