@@ -1,3 +1,4 @@
+pub mod PairsWalk
 pub mod WordLaws
 pub mod ContextLaws
 pub mod CleanLaws

@@ -1,4 +1,4 @@
-ghost use Rattle.std.specs.Prelude.{◌≡◌, ◌&&◌, ◌==◌, false, count_by, slice_get};
+ghost use Rattle.std.specs.Prelude.{◌≡◌, ◌&&◌, ◌||◌, ◌==◌, false, count_by, slice_get};
 ghost use Rattle.std.specs.List.{list_any};
 ghost use Rattle.std.specs.Option.{option_map_or};
 ghost use Rattle.hwp_script_lines.specs.hwp_geom.Layout.{has_twin, is_slot, is_twin};
@@ -108,13 +108,25 @@ fn is_cow(process: Proc, slot: TransDecl, twin: Option<VSlot>) -> bool
     slot.process.0 == process.0 && twin.is_some()
 }
 
+/// Whether it is a translation of the process to the page, and has a twin.
+fn freezes_by(process: Proc, page: Page, slot: TransDecl, twin: Option<VSlot>) -> bool
+    ensures { result ≡ (is_cow process.0 (slot, twin) && (slot.page.0 == page.0)) }
+{
+    is_cow(process, slot, twin) && slot.page.0 == page.0
+}
+
 /// Whether a fork of the process freezes the page: a translation of the process that has a twin leads to it.
 fn freezes(summary: &Summary, process: Proc, page: Page) -> bool
     ensures { result ≡ freezes (names_of summary.now) process.0 page.0 }
 {
     let trans = summary.trans.as_slice();
-    trans.iter().zip(summary.twins.as_slice()).any(|(slot, twin)| is_cow(process, *slot, *twin)
-        && slot.page.0 == page.0)
+    let twins = summary.twins.as_slice();
+    for number in 0..trans.len().min(twins.len()) {
+        if freezes_by(process, page, trans[number], twins[number]) {
+            return true;
+        }
+    }
+    false
 }
 
 /// Whether the thread is one of the process.
@@ -193,10 +205,13 @@ fn has_odd(summary: &Summary, parent: Proc, child: Proc, page: Page) -> bool
     ensures { result ≡ list_any (is_odd parent.0 child.0 page.0) (slots (names_of summary.now)) }
 {
     let trans = summary.trans.as_slice();
-    trans
-        .iter()
-        .zip(summary.twins.as_slice())
-        .any(|(slot, twin)| is_odd(parent, child, page, *slot, *twin))
+    let twins = summary.twins.as_slice();
+    for number in 0..trans.len().min(twins.len()) {
+        if is_odd(parent, child, page, trans[number], twins[number]) {
+            return true;
+        }
+    }
+    false
 }
 
 /// Whether the page is not one that parent and child alone share, each by one translation that has a twin.
@@ -215,16 +230,33 @@ fn was_frozen(summary: &Summary, before: &[Command], page: Page) -> bool
     before.iter().any(|command| froze(summary, page, command))
 }
 
+/// Whether a fork of the parent freezes the translation's page, and it is unfit, or was frozen by one of the commands.
+fn cannot_share_by(
+    summary: &Summary,
+    before: &[Command],
+    parent: Proc,
+    child: Proc,
+    slot: TransDecl,
+    twin: Option<VSlot>,
+) -> bool
+    ensures { result ≡ (is_cow parent.0 (slot, twin) && (is_unfit (names_of summary.now) parent.0 child.0 slot.page.0 || list_any (froze (names_of summary.now) slot.page.0) before.now)) }
+{
+    is_cow(parent, slot, twin)
+        && (is_unfit(summary, parent, child, slot.page) || was_frozen(summary, before, slot.page))
+}
+
 /// Whether a page that a fork of the parent freezes is unfit, or was frozen by one of the commands.
 fn cannot_share(summary: &Summary, before: &[Command], parent: Proc, child: Proc) -> bool
     ensures { result ≡ cannot_share (names_of summary.now) before.now parent.0 child.0 }
 {
     let trans = summary.trans.as_slice();
-    trans.iter().zip(summary.twins.as_slice()).any(|(slot, twin)| {
-        is_cow(parent, *slot, *twin)
-            && (is_unfit(summary, parent, child, slot.page)
-                || was_frozen(summary, before, slot.page))
-    })
+    let twins = summary.twins.as_slice();
+    for number in 0..trans.len().min(twins.len()) {
+        if cannot_share_by(summary, before, parent, child, trans[number], twins[number]) {
+            return true;
+        }
+    }
+    false
 }
 
 /// Whether a thread of one of the two processes runs on another processor.
