@@ -1,4 +1,4 @@
--- Whether one of the pairs of two lists is as looked for, by a walk along both.
+-- Whether one of a list, or one of the pairs of two lists, is as looked for, by a walk along it.
 use Rattle.std.proofs.Common.{ℕ, ◌≡◌, ◌<◌, ◌≤◌, ◌+◌, ◌||◌, Bool, true, false, List, [], ◌∷◌, length, min, get_or, take, zero, suc, refl, sym, ap, ◌∙◌, arith}
 use Rattle.std.specs.Prelude.{zip}
 use Rattle.std.specs.List.{list_any}
@@ -14,6 +14,26 @@ any-at : {X : Type 0} (f : X → Bool) (xs : List X) (i : ℕ) (d : X) → i < l
 any-at f [] i d l e = absurd (omega arith)
 any-at f (x ∷ xs) zero d l e = ap (λ b. b || list_any f xs) e
 any-at f (x ∷ xs) (suc i) d l e = or-last (f x) (list_any f xs) (any-at f xs i d (omega arith) e)
+
+-- none of the first i
+pub record IsNoOne {X : Type 0} (f : X → Bool) (xs : List X) (i : ℕ) : Type 0 where
+  pub none : list_any f (take i xs) ≡ false
+
+pub one-first : {X : Type 0} (f : X → Bool) (xs : List X) → IsNoOne f xs 0
+one-first f xs = record { none = refl }
+
+-- of a slice of the list
+module _ {X : Type 0} (f : X → Bool) (xs ts : List X) (t : ts ≡ xs) (i : ℕ) where
+  pub one-more : (d : X) → i < length ts → IsNoOne f xs i → false ≡ f (get_or ts i d) → IsNoOne f xs (i + 1)
+  one-more d l h e = record {
+    none = list_any_more f xs i d (rw t at l) ∙ ap (λ b. b || f (get_or xs i d)) h.none ∙ sym (rw t at e);
+  }
+
+  pub one-found : (d : X) → i < length ts → true ≡ f (get_or ts i d) → true ≡ list_any f xs
+  one-found d l e = any-at f xs i d (rw t at l) (rw t at e)
+
+  pub no-one : length ts ≤ i → IsNoOne f xs i → false ≡ list_any f xs
+  no-one l h = let past : length xs ≤ i = rw t at l in sym h.none ∙ ap (list_any f) (take_all i xs past)
 
 -- none of the first i pairs
 pub record IsNoPair {A B : Type 0} (f : A × B → Bool) (ks : List A) (vs : List B) (i : ℕ) : Type 0 where

@@ -227,7 +227,12 @@ fn is_unfit(summary: &Summary, parent: Proc, child: Proc, page: Page) -> bool
 fn was_frozen(summary: &Summary, before: &[Command], page: Page) -> bool
     ensures { result ≡ list_any (froze (names_of summary.now) page.0) before.now }
 {
-    before.iter().any(|command| froze(summary, page, command))
+    for command in before {
+        if froze(summary, page, command) {
+            return true;
+        }
+    }
+    false
 }
 
 /// Whether a fork of the parent freezes the translation's page, and it is unfit, or was frozen by one of the commands.
@@ -286,9 +291,12 @@ fn is_wrong_child(
 fn is_used(summary: &Summary, before: &[Command], process: Proc) -> bool
     ensures { result ≡ list_any (is_used_by (names_of summary.now) process.0) before.now }
 {
-    before
-        .iter()
-        .any(|command| is_used_by(summary, process, command))
+    for command in before {
+        if is_used_by(summary, process, command) {
+            return true;
+        }
+    }
+    false
 }
 
 /// Whether a thread of one of the two processes runs on another processor.
@@ -296,9 +304,12 @@ fn are_away(summary: &Summary, cpu: u64, parent: Proc, child: Proc) -> bool
     ensures { result ≡ list_any (is_away cpu parent.0 child.0) summary.now.threads }
 {
     let threads = summary.threads.as_slice();
-    threads
-        .iter()
-        .any(|thread| is_away(cpu, parent, child, *thread))
+    for thread in threads {
+        if is_away(cpu, parent, child, *thread) {
+            return true;
+        }
+    }
+    false
 }
 
 /// Whether a command is a fork that may not stand behind these commands of the processor's list.
@@ -345,7 +356,12 @@ fn is_fork_of(process: Proc, command: &Command) -> bool
 fn were_forked(above: &[ScriptLine], process: Proc) -> bool
     ensures { result ≡ list_any (forks process.0) above.now }
 {
-    above.iter().any(|line| forks(process, line))
+    for line in above {
+        if forks(process, line) {
+            return true;
+        }
+    }
+    false
 }
 
 /// Whether one of the lines forked the process that the command forks.

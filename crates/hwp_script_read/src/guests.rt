@@ -32,9 +32,12 @@ fn is_apart(process: u64, thread: ThreadDecl, other: ThreadDecl) -> bool
 fn is_parted(threads: &[ThreadDecl], process: u64, thread: ThreadDecl) -> bool
     ensures { result ≡ list_any (is_apart process thread) threads.now }
 {
-    threads
-        .iter()
-        .any(|other| is_apart(process, thread, *other))
+    for other in threads {
+        if is_apart(process, thread, *other) {
+            return true;
+        }
+    }
+    false
 }
 
 /// Whether a thread is one of the process, and keeps it from being a guest with these threads.
@@ -48,9 +51,12 @@ fn bars_guest(threads: &[ThreadDecl], process: u64, thread: ThreadDecl) -> bool
 fn cannot_be_guest(threads: &[ThreadDecl], process: u64) -> bool
     ensures { result ≡ cannot_be_guest threads.now process }
 {
-    threads
-        .iter()
-        .any(|thread| bars_guest(threads, process, *thread))
+    for thread in threads {
+        if bars_guest(threads, process, *thread) {
+            return true;
+        }
+    }
+    false
 }
 
 /// The lowest reason that applies to a line that makes a process a guest, below these lines, if any does.
