@@ -14,7 +14,6 @@ use std::mem;
 
 /// A thread reads or writes a line of a page through a translation; where the translation leads to no frame, the page is
 /// brought in (this project's rule).
-#[derive(Drop)]
 pub struct Access {
     request: Request,
     at: AccessAt,
@@ -84,6 +83,13 @@ enum AccessAt {
     Over {
         answer: AccessAnswer,
     },
+}
+
+// by hand, since what lets an access go cites what is proved here; with a derive it proves anew how each part goes
+impl Drop for Access {
+    fn drop(self) {
+        let Access { request: _, at: _ } = self;
+    }
 }
 
 impl Access {
@@ -282,12 +288,13 @@ impl Access {
         ensures at { self.new ≡ record self.old { at = let_go_at self.old.request self.old.at found } }
         ensures turn { result ≡ Moved }
     {
-        let before = mem::replace(&mut self.at, AccessAt::LoadStop);
-        let AccessAt::LoadBad { frame, body: held } = before else {
-            unreachable!()
-        };
-        let at = self.request.let_go(frame, held, found);
-        self.go(at, got)
+        match mem::replace(&mut self.at, AccessAt::LoadStop) {
+            AccessAt::LoadBad { frame, body } => {
+                let at = self.request.let_go(frame, body, found);
+                self.go(at, got)
+            }
+            _ => unreachable!(),
+        }
     }
 
     /// Goes on where the part whose step this turn was is over.
@@ -470,8 +477,9 @@ ghost use Rattle.std.specs.Prelude.{unwrap_or};
 ghost use Rattle.hwp_core.specs.hwp_core_task.declared.Turn.TheVariants.{Moved};
 ghost use Rattle.hwp_fault.specs.Accesses.{LocksFrame, is_bad, leads_to};
 
-/// The turn of a step that moved; the body that it met is let go.
-fn moved(_got: Option<Body>) -> Turn
+/// The turn of a step that moved; the body that it met is let go. Each way out of a function that lets it go itself proves anew how
+/// it goes.
+pub(crate) fn moved(_got: Option<Body>) -> Turn
     ensures { result ≡ Moved }
 {
     Turn::Moved
@@ -544,14 +552,7 @@ impl Task for Access {
             AccessAt::Unlock { unlock, .. } => unlock.give(),
             AccessAt::Fault { fault } => fault.give(),
             AccessAt::GiveUp { give_up } => give_up.give(),
-            AccessAt::LoadStop
-            | AccessAt::LoadProcess
-            | AccessAt::LoadTranslation
-            | AccessAt::Pin { .. }
-            | AccessAt::LockFrame { .. }
-            | AccessAt::LoadAgain { .. }
-            | AccessAt::LoadBad { .. }
-            | AccessAt::Over { .. } => None,
+            _ => None,
         }
     }
 

@@ -1,6 +1,7 @@
 ghost use Rattle.std.specs.Prelude.{◌≡◌, is_none};
 ghost use Rattle.hwp_fault.specs.declared.fault.FaultAt.TheVariants as states;
 
+use crate::access::moved;
 use crate::map_in::MapIn;
 use crate::touch::Touch;
 use hwp_core::{GiveUp, Hold, Pte, Ranked, SharedWord, Step, Task, Turn, Unhold};
@@ -12,7 +13,6 @@ use std::snapshot::Snapshot;
 /// Brings a page into a frame, where it is in none, and a translation of it into use (Linux handle_mm_fault). Where the
 /// translation has a poison entry or the page's content is lost, the access is answered by SIGBUS (Linux hwpoison.rst), which
 /// ends a process whose thread has no handler. Where memory for an entry is refused the command is given up.
-#[derive(Drop)]
 pub struct Fault {
     who: Who,
     page: Page,
@@ -62,6 +62,19 @@ pub enum FaultAnswer {
     NoFrame { at: At },
     /// The access was answered by SIGBUS: the entry at the place.
     Sigbus { at: At },
+}
+
+// by hand, since what lets a page fault go cites what is proved here; with a derive it proves anew how each part goes
+impl Drop for Fault {
+    fn drop(self) {
+        let Fault {
+            who: _,
+            page: _,
+            slot: _,
+            touch: _,
+            at: _,
+        } = self;
+    }
 }
 
 impl Fault {
@@ -344,9 +357,8 @@ impl Fault {
                 turn
             }
             FaultAt::LoadPte { .. } | FaultAt::Kill { .. } => {
-                drop(got);
                 self.go_on(layout, found);
-                Turn::Moved
+                moved(got)
             }
             FaultAt::Fill { fill } => {
                 let turn = fill.settle(layout, found, got);
@@ -372,7 +384,7 @@ impl Fault {
                 let next = Fault::after_give_up(give_up);
                 self.follow(next, turn)
             }
-            FaultAt::Over { .. } => Turn::Moved,
+            FaultAt::Over { .. } => moved(got),
         }
     }
 }
@@ -409,12 +421,7 @@ impl Task for Fault {
         match &mut self.at {
             FaultAt::Unhold { unhold, .. } => unhold.give(),
             FaultAt::GiveUp { give_up } => give_up.give(),
-            FaultAt::Hold { .. }
-            | FaultAt::LoadPte { .. }
-            | FaultAt::Kill { .. }
-            | FaultAt::Fill { .. }
-            | FaultAt::MapIn { .. }
-            | FaultAt::Over { .. } => None,
+            _ => None,
         }
     }
 

@@ -1,6 +1,7 @@
 ghost use Rattle.std.specs.Prelude.{◌≡◌};
 ghost use Rattle.hwp_fault.specs.MapIns.{HasRoomFor, mapped};
 
+use crate::access::moved;
 use hwp_core::{Pte, Ranked, Refer, Step, Task, Turn};
 use hwp_page::{Body, Entry, Frame, Layout, Page, VSlot, What, Who};
 
@@ -109,15 +110,11 @@ impl Task for MapIn {
                 turn
             }
             MapInAt::SetPte => {
-                drop(body);
                 map(self.who, self.slot, &mut self.body);
                 self.at = MapInAt::Over;
-                Turn::Moved
+                moved(body)
             }
-            MapInAt::Over => {
-                drop(body);
-                Turn::Moved
-            }
+            MapInAt::Over => moved(body),
         }
     }
 }
