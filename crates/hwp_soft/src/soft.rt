@@ -34,7 +34,6 @@ pub enum SoftAnswer {
 
 /// Takes a frame out of use while its content is still good: a page in it moves to another frame, and a free frame is taken out of
 /// the free ones (Linux soft_offline_page).
-#[derive(Drop)]
 pub struct Soft {
     who: Who,
     frame: Frame,
@@ -90,6 +89,17 @@ enum SoftAt {
     },
 }
 
+// by hand, since what lets a soft offline go cites what is proved here; with a derive it proves anew how each part goes
+impl Drop for Soft {
+    fn drop(self) {
+        let Soft {
+            who: _,
+            frame: _,
+            at: _,
+        } = self;
+    }
+}
+
 impl Soft {
     /// The command takes this frame out of use.
     pub fn new(who: Who, frame: Frame) -> Soft
@@ -135,11 +145,12 @@ impl Soft {
         drop(mem::replace(&mut self.at, at));
     }
 
-    /// The step moved the command there.
-    fn move_to(&mut self, at: SoftAt) -> Turn
+    /// The step moved the command there; the body that it met is let go.
+    fn move_to(&mut self, at: SoftAt, got: Option<Body>) -> Turn
         ensures there { self.new ≡ record self.old { at = at } }
         ensures moved { result ≡ Moved }
     {
+        let_go_of(got);
         self.set(at);
         Turn::Moved
     }
@@ -223,7 +234,7 @@ impl Soft {
         match &mut self.at {
             SoftAt::LoadBad { .. } => {
                 let (page, body) = self.take_page();
-                self.move_to(after_bad(self.who, self.frame, page, body, found))
+                self.move_to(after_bad(self.who, self.frame, page, body, found), got)
             }
             SoftAt::Take { take, .. } => {
                 let turn = take.settle(layout, found, got);
@@ -236,12 +247,15 @@ impl Soft {
             SoftAt::Poison { to, .. } => {
                 let to = *to;
                 let (page, body) = self.take_movable();
-                self.move_to(after_poison(self.who, self.frame, page, body, to, found))
+                self.move_to(
+                    after_poison(self.who, self.frame, page, body, to, found),
+                    got,
+                )
             }
             SoftAt::UnlockSpare { to, .. } => {
                 let to = *to;
                 let (page, body) = self.take_page();
-                self.move_to(release_spare(self.who, page, body, to))
+                self.move_to(release_spare(self.who, page, body, to), got)
             }
             SoftAt::ReleaseSpare { release, .. } => {
                 let _turn = release.settle(layout, found, got);
@@ -420,6 +434,9 @@ fn ended(at: &SoftAt, turn: Turn) -> Turn
     }
 }
 
+/// Lets the body go that a step met. Each way out of a function that lets it go itself proves anew how it goes.
+fn let_go_of(_body: Option<Body>) {}
+
 impl Task for Soft {
     ghost use Rattle.hwp_soft.specs.Offline as offline;
 
@@ -460,28 +477,27 @@ impl Task for Soft {
             SoftAt::Relocate { relocate, .. } => relocate.give(),
             SoftAt::Unhold { unhold, .. } => unhold.give(),
             SoftAt::GiveUp { give_up } => give_up.give(),
-            SoftAt::LoadStop
-            | SoftAt::LoadBad { .. }
-            | SoftAt::Take { .. }
-            | SoftAt::Poison { .. }
-            | SoftAt::UnlockSpare { .. }
-            | SoftAt::ReleaseSpare { .. }
-            | SoftAt::Over { .. } => None,
+            _ => None,
         }
     }
 
     fn settle(&mut self, layout: &Layout, found: u64, body: Option<Body>) -> Turn {
         match &mut self.at {
-            SoftAt::LoadStop => self.step_to(after_stop(self.who, self.frame, found), Turn::Moved),
+            SoftAt::LoadStop => {
+                let_go_of(body);
+                self.step_to(after_stop(self.who, self.frame, found), Turn::Moved)
+            }
             SoftAt::Seize { seize } => {
                 let turn = seize.settle(layout, found, body);
                 if seize.answer().is_none() {
                     return turn;
                 }
-                let SoftAt::Seize { seize } = mem::replace(&mut self.at, SoftAt::LoadStop) else {
-                    unreachable!()
-                };
-                self.step_to(after_seize(self.who, self.frame, seize), turn)
+                match mem::replace(&mut self.at, SoftAt::LoadStop) {
+                    SoftAt::Seize { seize } => {
+                        self.step_to(after_seize(self.who, self.frame, seize), turn)
+                    }
+                    _ => unreachable!(),
+                }
             }
             SoftAt::Discard { discard } => {
                 let turn = discard.settle(layout, found, body);
@@ -507,7 +523,10 @@ impl Task for Soft {
                 self.end_with(over, answer, turn)
             }
             SoftAt::GiveUp { give_up } => give_up.settle(layout, found, body),
-            SoftAt::Over { .. } => Turn::Moved,
+            SoftAt::Over { .. } => {
+                let_go_of(body);
+                Turn::Moved
+            }
         }
     }
 }
