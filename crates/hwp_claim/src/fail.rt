@@ -13,7 +13,6 @@ use std::mem;
 
 /// A memory failure of a frame: it poisons the frame, takes it from those that use it, acts on the page that is in it, and
 /// puts it out of use (Linux memory_failure).
-#[derive(Drop)]
 pub struct Fail {
     alloc: Global,
     who: Who,
@@ -51,6 +50,21 @@ pub enum FailAnswer {
     Already,
     /// The failure came to its result, and found this.
     Done(Found),
+}
+
+// by hand, since what lets a failure go cites what is proved here; with a derive it proves anew how each part goes
+impl Drop for Fail {
+    fn drop(self) {
+        let Fail {
+            alloc: _,
+            who: _,
+            frame: _,
+            required: _,
+            hardware: _,
+            at,
+        } = self;
+        drop(at);
+    }
 }
 
 impl Fail {

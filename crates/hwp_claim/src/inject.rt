@@ -9,7 +9,6 @@ use std::alloc::Global;
 use std::mem;
 
 /// A command by which a frame fails, as software asked (after Linux hwpoison-inject; this project's rule).
-#[derive(Drop)]
 pub struct Inject {
     alloc: Global,
     who: Who,
@@ -22,6 +21,18 @@ enum InjectAt {
     LoadStop,
     Fail { fail: Fail },
     Stopped,
+}
+
+// by hand, since what lets such a command go cites what is proved here; with a derive it proves anew how each part goes
+impl Drop for Inject {
+    fn drop(self) {
+        let Inject {
+            alloc: _,
+            who: _,
+            frame: _,
+            at: _,
+        } = self;
+    }
 }
 
 impl Inject {
