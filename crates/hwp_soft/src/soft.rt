@@ -95,8 +95,9 @@ impl Drop for Soft {
         let Soft {
             who: _,
             frame: _,
-            at: _,
+            at,
         } = self;
+        drop(at);
     }
 }
 
