@@ -1,3 +1,4 @@
+mod Exits
 pub mod Gaps
 pub mod Chosen
 pub mod Seats

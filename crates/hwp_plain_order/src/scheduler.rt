@@ -1,8 +1,8 @@
-ghost use Rattle.std.specs.Prelude.{◌≡◌, ◌≢◌, None, ℕ, ◌<◌, ◌≤◌, ◌↔◌, List, length, map, take, All, IfOk, OnOk, OnErr, IsTrue};
+ghost use Rattle.std.specs.Prelude.{◌≡◌, ◌≢◌, Some, None, ℕ, ◌<◌, ◌≤◌, ◌↔◌, List, length, map, take, All, IfOk, OnOk, OnErr, IsTrue};
 ghost use Rattle.hwp_script_read.specs.hwp_geom.Limits.{cpu_limit};
 ghost use Rattle.hwp_script_read.specs.declared.Go.{Go as GoOf};
 ghost use Rattle.hwp_core_task.specs.Classes.{IsScheduled};
-ghost use Rattle.hwp_plain_order.specs.Order.{running, IsNoMemory, EndsWord, Word, Finishing, InOrder, Grows, IsRefused, AreOver};
+ghost use Rattle.hwp_plain_order.specs.Order.{running, IsNoMemory, EndsCommand, EndsWord, Word, Finishing, InOrder, Grows, IsRefused, AreOver};
 ghost use Rattle.hwp_plain_order.specs.Ready.{IsCrew, InPlay, Ready, TurnOrNone, TurnOrOver, IsFinished, IsNext};
 
 use hwp_core_task::{Board, Scheduled, Turn};
@@ -42,15 +42,30 @@ fn choose(levels: &[u8]) -> Option<usize>
     chosen
 }
 
+/// Whether the turn ends a command, or waits.
+#[inline(always)]
+fn ends(turn: Turn) -> bool
+    ensures { IsTrue result ↔ EndsCommand turn }
+{
+    matches!(turn, Turn::Answered | Turn::Waits(_))
+}
+
+/// Whether the step was of this kind.
+#[inline(always)]
+fn is_of(kind: Option<Kind>, wanted: Kind) -> bool
+    ensures { IsTrue result ↔ (kind ≡ Some wanted) }
+{
+    kind == Some(wanted)
+}
+
 /// Whether a word of the schedule ends with this turn.
 fn is_end(until: Until, turn: Turn, kind: Option<Kind>) -> bool
     ensures { IsTrue result ↔ EndsWord until (turn, kind) }
 {
-    let ends = matches!(turn, Turn::Answered | Turn::Waits(_));
     match until {
         Until::One => true,
-        Until::Command => ends,
-        Until::After(wanted) => ends || kind == Some(wanted),
+        Until::Command => ends(turn),
+        Until::After(wanted) => ends(turn) || is_of(kind, wanted),
     }
 }
 
