@@ -1,5 +1,6 @@
 mod NearLaws
 mod RunLaws
+mod NearSteps
 mod WindowLaws
 mod PastLaws
 mod ResultLaws

@@ -9,7 +9,6 @@ use std::alloc::Global;
 const TOP: u32 = 4_294_967_295;
 
 /// What is kept of a frame's record for the commands of one processor.
-#[derive(Drop)]
 pub struct Nears {
     /// From each mark on, the lowest command of the processor that made one.
     pub lows: Vec<u32>,
@@ -17,6 +16,17 @@ pub struct Nears {
     pub highs: Vec<u32>,
     /// From each mark on, how many say what it says.
     pub runs: Vec<usize>,
+}
+
+// Proved here once: crates above that let one go cite it.
+impl Drop for Nears {
+    fn drop(self) {
+        let Nears {
+            lows: _lows,
+            highs: _highs,
+            runs: _runs,
+        } = self;
+    }
 }
 
 /// What is kept of the records of all frames for the commands of one processor.
