@@ -1,3 +1,4 @@
+mod Lookups
 mod CowSteps
 mod PairLaws
 mod AnswerLaws
