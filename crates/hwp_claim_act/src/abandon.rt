@@ -171,13 +171,7 @@ impl Task for Abandon {
     fn give(&mut self) -> Option<Body> {
         match self.at {
             AbandonAt::UnlockPage => mem::replace(&mut self.body, None),
-            AbandonAt::SetCache
-            | AbandonAt::SetOwner
-            | AbandonAt::Lose { .. }
-            | AbandonAt::Kill { .. }
-            | AbandonAt::PutRef
-            | AbandonAt::Retire
-            | AbandonAt::Over => None,
+            _ => None,
         }
     }
 

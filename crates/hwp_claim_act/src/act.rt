@@ -108,21 +108,22 @@ impl Act {
         let _turn = clear.settle(layout, found, got);
         if clear.is_over() {
             let count = clear.count();
-            let ActAt::Clear {
-                losses,
-                failed,
-                body,
-                ..
-            } = self.take()
-            else {
-                unreachable!();
-            };
-            let entered = Entered {
-                body,
-                losses,
-                failed,
-            };
-            self.set(abandoned(self.who, self.page, self.frame, count, entered));
+            match self.take() {
+                ActAt::Clear {
+                    losses,
+                    failed,
+                    body,
+                    ..
+                } => {
+                    let entered = Entered {
+                        body,
+                        losses,
+                        failed,
+                    };
+                    self.set(abandoned(self.who, self.page, self.frame, count, entered));
+                }
+                _ => unreachable!(),
+            }
         }
     }
 }
@@ -278,7 +279,7 @@ impl Task for Act {
         match &mut self.at {
             ActAt::Abandon { abandon } => abandon.give(),
             ActAt::GiveUp { give_up } => give_up.give(),
-            ActAt::Read { .. } | ActAt::Clear { .. } | ActAt::Over { .. } => None,
+            _ => None,
         }
     }
 
@@ -287,10 +288,12 @@ impl Task for Act {
             ActAt::Read { read } => {
                 let _turn = read.settle(layout, found, body);
                 if read.is_over() {
-                    let ActAt::Read { read } = self.take() else {
-                        unreachable!();
-                    };
-                    self.set(after_read(self.who, self.page, self.frame, read));
+                    match self.take() {
+                        ActAt::Read { read } => {
+                            self.set(after_read(self.who, self.page, self.frame, read));
+                        }
+                        _ => unreachable!(),
+                    }
                 }
                 Turn::Moved
             }
