@@ -1,6 +1,7 @@
 -- The highest and the lowest command numbers of a processor in entries.
-use Rattle.std.proofs.Common.{◌≡◌, inl, inr, ℕ, zero, suc, ◌+◌, ◌-◌, ◌<◌, ◌≤◌, ◌==◌, max, min, cond, Bool, true, false, List, [], ◌∷◌, ◌++◌, Some, fold, length, drop, take, slice_get, refl, sym, ap, ◌∙◌, subst, arith}
+use Rattle.std.proofs.Common.{◌≡◌, inl, inr, ℕ, zero, suc, ◌+◌, ◌-◌, ◌<◌, ◌≤◌, ◌==◌, max, min, cond, Bool, true, false, List, [], ◌∷◌, ◌++◌, Some, fold, length, drop, take, slice_get, get_or, append_assoc, refl, sym, ap, ◌∙◌, subst, arith}
 use Rattle.std.proofs.lemmas.Bool.{cases_eq, eq-eqb, false_from_ne_true, eqb-true}
+use Rattle.std.proofs.lemmas.List.{drop_all, drop_more}
 use Rattle.std.proofs.lemmas.Option.{none-some, same_Some}
 use Rattle.hwp_law.specs.hwp_geom.declared.Cpu.{Cpu}
 use Rattle.hwp_law.specs.hwp_page.declared.Entry.{Entry}
@@ -108,3 +109,17 @@ module _ (cpu : Cpu) where
       | inr last ↦ let at : n ≡ length es - back = let l : k ≡ length list = last.0 in omega (arith, l, many, sum) in sym last.1 ∙ is ∙ ap (λ (m : ℕ). start_of cpu (drop m es)) (sym at)
     ];
   }
+
+-- the highest numbers as a loop over the entries makes them, an entry at a time
+module _ (cpu : Cpu) (entries : List Entry) where
+  pub ends-next : (i end end' : ℕ) (d : Entry) (old new whole : List ℕ) → i < length entries → end' ≡ came_to cpu end (get_or entries i d) → new ≡ old ++ end ∷ [] → old ++ ends_from cpu end (drop i entries) ≡ whole
+      → new ++ ends_from cpu end' (drop (i + 1) entries) ≡ whole
+  ends-next i end end' d old new whole within end_is grows was =
+      ap (λ (l : List ℕ). l ++ ends_from cpu end' (drop (i + 1) entries)) grows
+      ∙ append_assoc old (end ∷ []) (ends_from cpu end' (drop (i + 1) entries))
+      ∙ ap (λ (n : ℕ). old ++ end ∷ ends_from cpu n (drop (i + 1) entries)) end_is
+      ∙ sym (ap (λ (l : List Entry). old ++ ends_from cpu end l) (drop_more entries i d within))
+      ∙ was
+
+  pub ends-all : (i end : ℕ) (old new whole : List ℕ) → length entries ≤ i → new ≡ old ++ end ∷ [] → old ++ ends_from cpu end (drop i entries) ≡ whole → new ≡ whole
+  ends-all i end old new whole past grows was = grows ∙ sym (ap (λ (l : List Entry). old ++ ends_from cpu end l) (drop_all i entries past)) ∙ was

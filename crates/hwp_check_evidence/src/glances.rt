@@ -27,11 +27,20 @@ pub struct Glance {
 }
 
 /// A page's states at all places of its history, as far as answers tell of them.
-#[derive(Drop)]
 pub struct PageGlances {
     pub glances: Repeats<Glance>,
     /// The translations in use behind each so many entries.
     pub maps: Vec<Slots>,
+}
+
+// Proved here once: crates above that let one go cite it.
+impl Drop for PageGlances {
+    fn drop(self) {
+        let PageGlances {
+            glances: _glances,
+            maps: _maps,
+        } = self;
+    }
 }
 
 /// Whether a translation is in the set.

@@ -27,3 +27,9 @@ returns-clause-starts c =
     let end = c.loop-back.auto.back-end in
     subst (AreStarts c.args.cpu c.args.entries.now) (sym c.in_ok-push-2.ensures)
     (starts-more c.args.cpu c.args.entries.now c.loop-back.list c.loop-back.back c.loop-back.start c.loop-back.invariant.0 (omega (arith, end)) c.loop-back.invariant.1 c.loop-back.invariant.2)
+
+pub returns-clause-many : goal.returns-clause-many
+returns-clause-many c =
+    let past = c.loop-back-test.false in
+    let end = c.loop-back.auto.back-end in
+    ap length c.in_ok-push-2.ensures ∙ length_push c.loop-back.list c.loop-back.start ∙ ap (λ (m : ℕ). m + 1) (c.loop-back.invariant.0 ∙ (let all : c.loop-back.back ≡ length c.args.entries.now = omega (arith, past, end) in all))
