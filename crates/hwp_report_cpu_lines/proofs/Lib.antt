@@ -1,4 +1,5 @@
 pub mod WordsPut
 pub mod SameWords
 mod NoLines
+mod WordLists
 mod AnswerWords

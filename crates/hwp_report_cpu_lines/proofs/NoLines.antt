@@ -7,11 +7,13 @@ use Rattle.hwp_report_text.specs.declared.Answer.{Answer}
 use Rattle.hwp_report_text.specs.declared.Answer.TheVariants as answers
 use Rattle.hwp_report_text.specs.declared.CpuLine.{CpuLine}
 use Rattle.hwp_report_text.specs.declared.CpuLine.TheVariants as lines
+use Rattle.hwp_report_text.specs.declared.EventLine.{EventLine}
+use Rattle.hwp_report_text.specs.declared.GuestLine.{GuestLine}
 use Rattle.hwp_report_text.specs.declared.OfflineResult.{OfflineResult}
 use Rattle.hwp_report_text.specs.declared.StopCause.{StopCause}
 use Rattle.hwp_report_text.specs.declared.StopCause.TheVariants as causes
 use Rattle.hwp_report_text.specs.Offlines.{offline_answer}
-use Rattle.hwp_report_text.specs.ReportText.{answer_words, cause_words, cpu_line_words}
+use Rattle.hwp_report_text.specs.ReportText.{answer_words, cause_words, cpu_line_words, event_words, guest_words}
 use Rattle.hwp_report_text.specs.hwp_severity.declared.McgBits.{McgBits}
 use Rattle.hwp_report_words.specs.Words.{AtFits, at_words}
 use Rattle.hwp_report_words.proofs.SameWords.{tag, tag_at, word_at}
@@ -24,7 +26,7 @@ use Rattle.hwp_report_cpu_lines.specs.declared.replies.Short.TheVariants as shor
 use Rattle.hwp_report_cpu_lines.specs.declared.replies.Valued.{Valued}
 use Rattle.hwp_report_cpu_lines.specs.declared.replies.Valued.TheVariants as valued
 use Rattle.hwp_report_cpu_lines.specs.Answers.{counted_text, placed_text, short_text, valued_text}
-use Rattle.hwp_report_cpu_lines.specs.Fits.{AnswerFits, CauseFits, CpuLineFits}
+use Rattle.hwp_report_cpu_lines.specs.Fits.{AnswerFits, CauseFits, CpuLineFits, EventFits, GuestFits}
 use Rattle.hwp_report_cpu_lines.specs.Words.{EndFits, GuestEndFits, bits_words, end_words, guest_end_words}
 use Rattle.hwp_report_cpu_lines.proofs.SameWords.{same_answer}
 
@@ -38,6 +40,13 @@ pub no_event : (seq : ℕ) (ws : List (List ℕ)) → ((end : ℕ × ℕ × Acte
 no_event seq ws none (lines.Event event) fits e = none (event.misc, event.row, event.acted) (fits.1.3, fits.1.4) (ap (drop 5) e)
 no_event seq ws none (lines.Answer seq2 answer) fits e = no_event_answer answer (word_at 1 e)
 no_event seq ws none line fits e = absurd (omega (arith, ap (tag_at 1) e))
+
+-- the words behind `event` and behind `guest`, where they are of none
+pub no_event_words : (seq : ℕ) (ws : List (List ℕ)) → ((event : EventLine) → EventFits event → ws ≡ drop 2 (event_words event) → ⊥)
+    → (line : CpuLine) → CpuLineFits line → decimal seq ∷ codes "event" ∷ ws ≡ cpu_line_words line → ⊥
+no_event_words seq ws none (lines.Event event) fits e = none event fits.1 (ap (drop 2) e)
+no_event_words seq ws none (lines.Answer seq2 answer) fits e = no_event_answer answer (word_at 1 e)
+no_event_words seq ws none line fits e = absurd (omega (arith, ap (tag_at 1) e))
 
 -- the line of a frame that is taken out of use
 no_offlined_answer : (answer : Answer) → codes "offlined" ≡ get_or (answer_words answer) 0 [] → ⊥
@@ -60,6 +69,12 @@ pub no_guest : (seq : ℕ) (ws : List (List ℕ)) → ((end : ℕ × ℕ × Bool
 no_guest seq ws none (lines.Guest guest) fits e = none (guest.misc, guest.row, guest.stops) (fits.1.3, fits.1.4) (ap (drop 5) e)
 no_guest seq ws none (lines.Answer seq2 answer) fits e = no_guest_answer answer (word_at 1 e)
 no_guest seq ws none line fits e = absurd (omega (arith, ap (tag_at 1) e))
+
+pub no_guest_words : (seq : ℕ) (ws : List (List ℕ)) → ((guest : GuestLine) → GuestFits guest → ws ≡ drop 2 (guest_words guest) → ⊥)
+    → (line : CpuLine) → CpuLineFits line → decimal seq ∷ codes "guest" ∷ ws ≡ cpu_line_words line → ⊥
+no_guest_words seq ws none (lines.Guest guest) fits e = none guest fits.1 (ap (drop 2) e)
+no_guest_words seq ws none (lines.Answer seq2 answer) fits e = no_guest_answer answer (word_at 1 e)
+no_guest_words seq ws none line fits e = absurd (omega (arith, ap (tag_at 1) e))
 
 -- an answer
 pub no_answer : (seq : ℕ) (ws : List (List ℕ)) → (get_or ws 0 [] ≡ codes "event" → ⊥) → (get_or ws 0 [] ≡ codes "offlined" → ⊥) → (get_or ws 0 [] ≡ codes "guest" → ⊥)

@@ -101,11 +101,22 @@ pub fn read_stop(words: &[&[u8]]) -> Option<Option<Stop>>
     ensures { IsReadAs (λ stop. IfSome stop StopFits) stop_words (codes "stop" ∷ map (λ w. w.now) words.now) result }
 {
     match words {
-        [b"none"] => Some(None),
-        [cpu, seq, cause @ ..] => Some(Some(Stop {
-            who: read_who(cpu, seq)?,
-            cause: read_stop_cause(cause)?,
-        })),
-        _ => None,
+        [word] => {
+            if is_text(word, "none") {
+                Some(None)
+            } else {
+                None
+            }
+        }
+        [cpu, seq, cause @ ..] => {
+            let Some(who) = read_who(cpu, seq) else {
+                return None;
+            };
+            let Some(cause) = read_stop_cause(cause) else {
+                return None;
+            };
+            Some(Some(Stop { who, cause }))
+        }
+        [] => None,
     }
 }

@@ -1,7 +1,22 @@
-use Rattle.std.proofs.Common.{◌∙◌, sym}
+use Rattle.std.proofs.Common.{◌≡◌, ℕ, List, [], length, get_or, map, Bor, sym, ap, ◌∙◌, arith}
+use Rattle.std.proofs.lemmas.List.{length-map}
 use Rattle.hwp_report_words.proofs.Rests.{rest_of}
-use Rattle.hwp_report_cpu_lines.proofs.NoLines.{no_guest}
+use Rattle.hwp_report_cpu_lines.proofs.NoLines.{no_guest, no_guest_words}
+use Rattle.hwp_report_cpu_lines.proofs.WordLists.{now-at}
 use Rattle.hwp_report_cpu_lines.proofs.guests.read_guest.Goals as goal
 
 pub returns-in_default-read_guest_end : goal.returns-in_default-read_guest_end
 returns-in_default-read_guest_end c = no_guest c.args.seq _ (λ end fits e. c.in_default-read_guest_end.ensures end fits (sym (rest_of (λ w. w.now) c.args.words.now 3) ∙ e))
+
+pub returns-in_default : goal.returns-in_default
+returns-in_default c =
+    no_guest_words c.args.seq _ (λ guest fits e. let many = sym (length-map c.args.words.now (λ w. w.now)) ∙ ap length e in omega (arith, many, c.in_default.len_below))
+
+pub returns-in_default-read_u8 : goal.returns-in_default-read_u8
+returns-in_default-read_u8 c = no_guest_words c.args.seq _ (λ guest fits e. c.in_default-read_u8.ensures guest.bank fits.0 (sym (now-at c.args.words.now 0 (record { ref_ptr = (0, 0); now = [] }) (omega arith)) ∙ ap (λ ws. get_or ws 0 []) e))
+
+pub returns-in_default-read_hex : goal.returns-in_default-read_hex
+returns-in_default-read_hex c = no_guest_words c.args.seq _ (λ guest fits e. c.in_default-read_hex.ensures guest.status fits.1 (sym (now-at c.args.words.now 1 (record { ref_ptr = (0, 0); now = [] }) (omega arith)) ∙ ap (λ ws. get_or ws 1 []) e))
+
+pub returns-in_default-read_hex-2 : goal.returns-in_default-read_hex-2
+returns-in_default-read_hex-2 c = no_guest_words c.args.seq _ (λ guest fits e. c.in_default-read_hex-2.ensures guest.addr fits.2 (sym (now-at c.args.words.now 2 (record { ref_ptr = (0, 0); now = [] }) (omega arith)) ∙ ap (λ ws. get_or ws 2 []) e))
