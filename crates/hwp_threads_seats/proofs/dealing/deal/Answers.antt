@@ -1,6 +1,7 @@
-use Rattle.std.proofs.Common.{◌≡◌, ◌+◌, ◌<◌, [], length, sym, ap, ◌∙◌, subst, arith}
+use Rattle.std.proofs.Common.{◌≡◌, ◌+◌, ◌<◌, [], ◌∷◌, length, refl, sym, ap, ◌∙◌, subst, arith}
+use Rattle.std.proofs.lemmas.Result.{IfOk-from_err}
 use Rattle.hwp_table_words.specs.Known.{idling}
-use Rattle.hwp_table_words.specs.Seats.{value_of}
+use Rattle.hwp_table_words.specs.Seats.{cpu_of, mine_of, slots_of, value_of}
 use Rattle.hwp_table_words.specs.Stands.{Me}
 use Rattle.hwp_threads_seats.specs.Dealing.{CanDeal, seat_at, seat_known}
 use Rattle.hwp_threads_seats.proofs.Pieces.{deal-more, taken-first}
@@ -23,3 +24,33 @@ loop-cpu-preserved g c =
       so_far = deal-more c.args.sheet.now.table_id c.args.layout.now c.loop-cpu.workers.items c.push.new.self.items c.new-in-loop-cpu.result c.new.result c.new-seat.result c.loop-cpu.cpu c.remove-task.result c.loop-cpu.tasks.items c.remove-task.new.self.items _
           first seat c.new.ensures c.new-in-loop-cpu.ensures c.in_ok-push.ensures.items i.so_far;
     }
+
+pub new-seat-requires-clause-table : goal.new-seat-requires-clause-table
+new-seat-requires-clause-table g c = c.requires.table
+
+pub new-seat-requires-clause-same : goal.new-seat-requires-clause-same
+new-seat-requires-clause-same g c = c.split-own.ensures.same.1 ∙ c.loop-cpu.invariant.same
+
+pub new-seat-requires-clause-one : goal.new-seat-requires-clause-one
+new-seat-requires-clause-one g c =
+    let less : c.loop-cpu.cpu < c.args.layout.now.cpus = omega (arith, c.loop-cpu-test.true) in
+    let own : c.split-own.result.me ≡ (idling (seat_known c.loop-cpu.cpu), []) = c.split-own.ensures.new ∙ (λ j. (idling (c.loop-cpu.invariant.can.each c.loop-cpu.cpu (omega arith) less j), [])) in
+    subst (λ (m : Me). m.0.known.mines ≡ (cpu_of m.0.known.mines, mine_of m.0.known.mines) ∷ []) (sym own) refl
+
+pub new-seat-requires-clause-bare : goal.new-seat-requires-clause-bare
+new-seat-requires-clause-bare g c =
+    let less : c.loop-cpu.cpu < c.args.layout.now.cpus = omega (arith, c.loop-cpu-test.true) in
+    let own : c.split-own.result.me ≡ (idling (seat_known c.loop-cpu.cpu), []) = c.split-own.ensures.new ∙ (λ j. (idling (c.loop-cpu.invariant.can.each c.loop-cpu.cpu (omega arith) less j), [])) in
+    subst (λ (m : Me). (m.1 ≡ []) × (slots_of c.args.layout.now (mine_of m.0.known.mines) ≡ [])) (sym own) (refl, refl)
+
+pub new-seat-requires-clause-idle : goal.new-seat-requires-clause-idle
+new-seat-requires-clause-idle g c = ap (λ (m : Me). m.0.caching) c.split-own.ensures.new
+
+pub returns-in_err-push-clause-left : goal.returns-in_err-push-clause-left
+returns-in_err-push-clause-left g c = IfOk-from_err c.from_residual.result _ c.from_residual.ensures.0
+
+pub returns-in_err-push-clause-workers : goal.returns-in_err-push-clause-workers
+returns-in_err-push-clause-workers g c = IfOk-from_err c.from_residual.result _ c.from_residual.ensures.0
+
+pub returns-clause-left : goal.returns-clause-left
+returns-clause-left g c = record { same = c.loop-cpu.invariant.same; slots = c.loop-cpu.invariant.slots; unused = c.loop-cpu.invariant.can.unused }

@@ -1,5 +1,6 @@
 use Rattle.std.proofs.Common.{◌<◌, length, sym, ◌∙◌, subst, arith}
 use Rattle.std.proofs.lemmas.Bool.{eqb-true}
+use Rattle.std.proofs.lemmas.Result.{IfOk-from_err}
 use Rattle.hwp_threads_seats.proofs.Pieces.{none-here, taken-first}
 use Rattle.hwp_threads_seats.proofs.SeatJoins.{SoFar, taking-ends, taking-more}
 use Rattle.hwp_threads_seats.proofs.gathering.gather.Goals as goal
@@ -16,3 +17,9 @@ loop-workers-preserved g c =
 pub returns : goal.returns
 returns g c = taking-ends c.args.sheet.now.table_id c.args.pass.me.0.known c.args.workers.items c.loop-workers.workers.items c.loop-workers.pass.table_id c.loop-workers.pass.me c.loop-workers.tasks.items
     (none-here c.loop-workers.workers.items (let o = c.loop-workers.workers.ok in omega (arith, o, eqb-true c.loop-workers.workers.len 0 (sym c.is_empty.ensures ∙ c.loop-workers-test.false)))) c.loop-workers.invariant
+
+pub returns-in_err-bring : goal.returns-in_err-bring
+returns-in_err-bring g c = IfOk-from_err c.from_residual.result _ c.from_residual.ensures.0
+
+pub returns-in_err-push : goal.returns-in_err-push
+returns-in_err-push g c = IfOk-from_err c.from_residual-in_err-push.result _ c.from_residual-in_err-push.ensures.0
