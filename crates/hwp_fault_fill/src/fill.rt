@@ -82,6 +82,9 @@ fn bring(who: Who, body: &mut Body)
     });
 }
 
+/// Lets the body go that a step met. Each way out of a function that lets it go itself proves anew how it goes.
+pub(crate) fn let_go_of(_body: Option<Body>) {}
+
 impl Task for Fill {
     ghost use Rattle.hwp_fault_fill.specs.Fills as fills;
 
@@ -125,6 +128,7 @@ impl Task for Fill {
             }
             FillAt::SetOwner { frame } => {
                 let refer = Refer::new(self.who, *frame, 1);
+                let_go_of(body);
                 self.at = FillAt::Refer { refer };
                 Turn::Moved
             }
@@ -138,11 +142,15 @@ impl Task for Fill {
             }
             FillAt::SetCache { frame } => {
                 let frame = Some(*frame);
+                let_go_of(body);
                 bring(self.who, &mut self.body);
                 self.at = FillAt::Over { frame };
                 Turn::Moved
             }
-            FillAt::Over { .. } => Turn::Moved,
+            FillAt::Over { .. } => {
+                let_go_of(body);
+                Turn::Moved
+            }
         }
     }
 }

@@ -1,5 +1,6 @@
 ghost use Rattle.std.specs.Prelude.{◌≡◌, ◌^◌, ◌<◌, is_some, is_none};
 
+use crate::fill::let_go_of;
 use hwp_core::{
     Body, Frame, FrameWord, FreeWord, Layout, Ranked, SharedWord, Step, Task, Turn, Who,
 };
@@ -143,7 +144,8 @@ impl Task for Take {
         None
     }
 
-    fn settle(&mut self, layout: &Layout, found: u64, _body: Option<Body>) -> Turn {
+    fn settle(&mut self, layout: &Layout, found: u64, body: Option<Body>) -> Turn {
+        let_go_of(body);
         match self.at {
             TakeAt::LoadAvailable => {
                 self.at = Take::at_available(found);
