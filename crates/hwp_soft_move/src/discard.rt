@@ -1,6 +1,7 @@
 ghost use Rattle.std.specs.Prelude.{◌≡◌, Option, is_none};
 ghost use Rattle.hwp_soft_move.specs.Discards.{begin, plan, answer, poisoned};
 
+use crate::relocate::let_go_of;
 use hwp_claim_frame::{Body, Frame, FrameWord, Layout, Ranked, Step, Task, Turn, Unlock, Who};
 
 /// Puts a locked frame in which no page is out of use: poisons it, counts that, and retires it (Linux page_handle_poison).
@@ -106,10 +107,7 @@ impl Task for Discard {
     fn give(&mut self) -> Option<Body> {
         match &mut self.at {
             DiscardAt::Unlock { unlock } => unlock.give(),
-            DiscardAt::Poison { .. }
-            | DiscardAt::Count { .. }
-            | DiscardAt::Retire { .. }
-            | DiscardAt::Over { .. } => None,
+            _ => None,
         }
     }
 
@@ -117,16 +115,19 @@ impl Task for Discard {
         match &mut self.at {
             DiscardAt::Poison { used } => {
                 let at = poisoned(self.who, self.frame, *used, found);
+                let_go_of(body);
                 self.set(at);
                 Turn::Moved
             }
             DiscardAt::Count { cycle } => {
                 let cycle = Some(*cycle);
+                let_go_of(body);
                 self.set(DiscardAt::Retire { cycle });
                 Turn::Moved
             }
             DiscardAt::Retire { cycle } => {
                 let cycle = *cycle;
+                let_go_of(body);
                 self.set(DiscardAt::Over { cycle });
                 Turn::Moved
             }
@@ -137,7 +138,10 @@ impl Task for Discard {
                 }
                 Turn::Moved
             }
-            DiscardAt::Over { .. } => Turn::Moved,
+            DiscardAt::Over { .. } => {
+                let_go_of(body);
+                Turn::Moved
+            }
         }
     }
 }

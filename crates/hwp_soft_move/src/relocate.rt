@@ -133,11 +133,12 @@ impl Relocate {
         self.at = at;
     }
 
-    /// The step moved the command there.
-    fn move_to(&mut self, at: RelocateAt) -> Turn
+    /// The step moved the command there; the body that it met is let go.
+    fn move_to(&mut self, at: RelocateAt, got: Option<Body>) -> Turn
         ensures there { self.new ≡ record self.old { at = at } }
         ensures moved { result ≡ Moved }
     {
+        let_go_of(got);
         self.set(at);
         Turn::Moved
     }
@@ -153,6 +154,9 @@ fn after_remap(remap: Remap) -> RelocateAt
         RelocateAt::Remap { remap }
     }
 }
+
+/// Lets the body go that a step met. Each way out of a function that lets it go itself proves anew how it goes.
+pub(crate) fn let_go_of(_body: Option<Body>) {}
 
 impl Task for Relocate {
     ghost use Rattle.hwp_soft_move.specs.Relocating as relocating;
@@ -203,24 +207,14 @@ impl Task for Relocate {
     fn give(&mut self) -> Option<Body> {
         match &self.at {
             RelocateAt::UnlockFrame => self.body.take(),
-            RelocateAt::Count
-            | RelocateAt::SetOwner
-            | RelocateAt::Refer { .. }
-            | RelocateAt::Remap { .. }
-            | RelocateAt::SetCache
-            | RelocateAt::ClearOwner
-            | RelocateAt::Release { .. }
-            | RelocateAt::PutRef
-            | RelocateAt::Retire
-            | RelocateAt::UnlockPage
-            | RelocateAt::Over => None,
+            _ => None,
         }
     }
 
     fn settle(&mut self, layout: &Layout, found: u64, body: Option<Body>) -> Turn {
         match &mut self.at {
-            RelocateAt::Count => self.move_to(RelocateAt::SetOwner),
-            RelocateAt::SetOwner => self.move_to(self.start_refer()),
+            RelocateAt::Count => self.move_to(RelocateAt::SetOwner, body),
+            RelocateAt::SetOwner => self.move_to(self.start_refer(), body),
             RelocateAt::Refer { refer } => {
                 let turn = refer.settle(layout, found, body);
                 if refer.is_over() {
@@ -235,11 +229,11 @@ impl Task for Relocate {
                 }
                 Turn::Moved
             }
-            RelocateAt::SetCache => self.move_to(RelocateAt::ClearOwner),
-            RelocateAt::ClearOwner => self.move_to(RelocateAt::UnlockFrame),
+            RelocateAt::SetCache => self.move_to(RelocateAt::ClearOwner, body),
+            RelocateAt::ClearOwner => self.move_to(RelocateAt::UnlockFrame, body),
             RelocateAt::UnlockFrame => {
                 let release = Release::new(self.transfer.who, self.transfer.to, 1);
-                self.move_to(RelocateAt::Release { release })
+                self.move_to(RelocateAt::Release { release }, body)
             }
             RelocateAt::Release { release } => {
                 let _turn = release.settle(layout, found, body);
@@ -248,9 +242,9 @@ impl Task for Relocate {
                 }
                 Turn::Moved
             }
-            RelocateAt::PutRef => self.move_to(RelocateAt::Retire),
-            RelocateAt::Retire => self.move_to(RelocateAt::UnlockPage),
-            RelocateAt::UnlockPage | RelocateAt::Over => self.move_to(RelocateAt::Over),
+            RelocateAt::PutRef => self.move_to(RelocateAt::Retire, body),
+            RelocateAt::Retire => self.move_to(RelocateAt::UnlockPage, body),
+            RelocateAt::UnlockPage | RelocateAt::Over => self.move_to(RelocateAt::Over, body),
         }
     }
 }

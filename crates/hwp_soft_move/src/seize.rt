@@ -1,6 +1,7 @@
 ghost use Rattle.std.specs.Prelude.{◌≡◌, true, is_none};
 ghost use Rattle.hwp_soft_move.specs.Seizes.{begin, plan, answer, is_owned, IsBody, looked};
 
+use crate::relocate::let_go_of;
 use hwp_claim_frame::{
     Body, Frame, FrameWord, Grab, GrabAnswer, Layout, Meet, MeetAnswer, Page, Ranked, SharedWord,
     Step, Task, Turn, Who,
@@ -156,19 +157,14 @@ impl Task for Seize {
     fn give(&mut self) -> Option<Body> {
         match &mut self.at {
             SeizeAt::Meet { meet } => meet.give(),
-            SeizeAt::Look
-            | SeizeAt::Grab { .. }
-            | SeizeAt::Kernel
-            | SeizeAt::Already
-            | SeizeAt::Grabbed
-            | SeizeAt::Free
-            | SeizeAt::Owned { .. } => None,
+            _ => None,
         }
     }
 
     fn settle(&mut self, layout: &Layout, found: u64, body: Option<Body>) -> Turn {
         match &mut self.at {
             SeizeAt::Look => {
+                let_go_of(body);
                 self.set(looked(self.who, self.frame, found));
                 Turn::Moved
             }
@@ -188,12 +184,13 @@ impl Task for Seize {
                     Some(MeetAnswer::LookAgain | MeetAnswer::Ended) => self.set(SeizeAt::Look),
                     Some(MeetAnswer::Free) => self.set(SeizeAt::Free),
                     Some(MeetAnswer::Owned(page)) => {
-                        let SeizeAt::Meet { meet } = mem::replace(&mut self.at, SeizeAt::Look)
-                        else {
-                            unreachable!()
-                        };
-                        let body = meet.body();
-                        self.set(SeizeAt::Owned { page, body });
+                        match mem::replace(&mut self.at, SeizeAt::Look) {
+                            SeizeAt::Meet { meet } => {
+                                let body = meet.body();
+                                self.set(SeizeAt::Owned { page, body });
+                            }
+                            _ => unreachable!(),
+                        }
                     }
                 }
                 turn
@@ -202,7 +199,10 @@ impl Task for Seize {
             | SeizeAt::Already
             | SeizeAt::Grabbed
             | SeizeAt::Free
-            | SeizeAt::Owned { .. } => Turn::Moved,
+            | SeizeAt::Owned { .. } => {
+                let_go_of(body);
+                Turn::Moved
+            }
         }
     }
 }
