@@ -17,7 +17,6 @@ use hwp_soft::{Soft, SoftAnswer, Unpoison, UnpoisonAnswer};
 use std::alloc::Global;
 
 /// A command of a fault script that runs.
-#[derive(Drop)]
 pub enum Job {
     /// A load, a fetch, a load in kernel mode or a store.
     Instruction(Instruction),
@@ -53,7 +52,7 @@ pub enum Job {
 
 impl Job {
     ghost use Rattle.hwp_cpu_command.specs.FileHandles.{HasChangeWithin, StandsOn, local_after};
-    ghost use Rattle.hwp_cpu_command.specs.Jobs.{answer, give_up, own_of, pauses, resume, row_of, told_of};
+    ghost use Rattle.hwp_cpu_command.specs.Jobs.{answer, give_up, pauses, resume, row_of, told_of};
 
     /// What the command answers; `None` until it is over, and where it gave up because memory ran out. Most turns are of an access: what any
     /// other kind needs room for stands in a function of its own.
@@ -216,68 +215,43 @@ impl Job {
         ensures local { local.new ≡ local_after self.old answer local.old }
         ensures stands { StandsOn self.old answer local.old.watching }
     {
-        let own = self.own_change();
-        let told = self.leave(alloc, answer, local);
-        row(told, offlined, own, answer)
-    }
-
-    /// What a command that is over did to a frame itself.
-    fn own_change(&self) -> Option<FrameChange>
-        ensures { result ≡ own_of self.now }
-    {
         match self {
-            Job::Inject(inject) => own_of(inject.frame(), inject.answer()),
-            Job::Soft(soft) => offlined_of(soft.frame(), soft.answer()),
-            Job::Unpoison(unpoison) => revived_of(unpoison.frame(), unpoison.answer()),
-            Job::Instruction(_)
-            | Job::Copying(_)
-            | Job::Evict(_)
-            | Job::Fsync(_)
-            | Job::Prctl(_)
-            | Job::Fork(_)
-            | Job::Log(_)
-            | Job::Raise(_)
-            | Job::Scrub(_)
-            | Job::Spoil(_)
-            | Job::Nested(_)
-            | Job::Denied(_) => None,
-        }
-    }
-
-    /// Leaves its processor what a command with this answer leaves: in the banks what it took from them, and has left, and what it did to
-    /// the handles and the collector. Gives what was done about the events of its machine checks.
-    fn leave(&mut self, alloc: Global, answer: Answer, local: &mut Local) -> List<EventOutcome>
-        requires within { HasChangeWithin self.old }
-        ensures told { result ≡ told_of self.old }
-        ensures local { local.new ≡ local_after self.old answer local.old }
-        ensures stands { StandsOn self.old answer local.old.watching }
-    {
-        match self {
-            Job::Instruction(instruction) => instruction.finish(&mut local.banks),
-            Job::Copying(copying) => copying.finish(&mut local.banks),
-            Job::Raise(raise) => raise.finish(&mut local.banks),
+            Job::Instruction(instruction) => {
+                row(instruction.finish(&mut local.banks), offlined, None, answer)
+            }
+            Job::Copying(copying) => row(copying.finish(&mut local.banks), offlined, None, answer),
+            Job::Raise(raise) => row(raise.finish(&mut local.banks), offlined, None, answer),
             Job::Scrub(scrub) => {
                 end_round(answer, &mut local.watching);
-                scrub.finish(&mut local.banks)
+                row(scrub.finish(&mut local.banks), offlined, None, answer)
             }
             Job::Log(log) => {
                 watch(log.change(), answer, &mut local.watching);
                 log.finish(&mut local.banks);
-                List::new(alloc)
+                row(List::new(alloc), offlined, None, answer)
             }
             Job::Fsync(fsync) => {
                 local.handles.set(fsync.file(), fsync.number());
-                List::new(alloc)
+                row(List::new(alloc), offlined, None, answer)
+            }
+            Job::Inject(inject) => {
+                let own = own_of(inject.frame(), inject.answer());
+                row(List::new(alloc), offlined, own, answer)
+            }
+            Job::Soft(soft) => {
+                let own = offlined_of(soft.frame(), soft.answer());
+                row(List::new(alloc), offlined, own, answer)
+            }
+            Job::Unpoison(unpoison) => {
+                let own = revived_of(unpoison.frame(), unpoison.answer());
+                row(List::new(alloc), offlined, own, answer)
             }
             Job::Evict(_)
             | Job::Prctl(_)
             | Job::Fork(_)
             | Job::Spoil(_)
             | Job::Nested(_)
-            | Job::Inject(_)
-            | Job::Soft(_)
-            | Job::Unpoison(_)
-            | Job::Denied(_) => List::new(alloc),
+            | Job::Denied(_) => row(List::new(alloc), offlined, None, answer),
         }
     }
 }
@@ -624,6 +598,13 @@ macro_rules! of_kind {
             Job::Denied($task) => $does,
         }
     };
+}
+
+// by hand, since hwp_cpu cites what is proved here: with a derive it proves anew how each part goes
+impl Drop for Job {
+    fn drop(self) {
+        of_kind!(self, task => drop(task))
+    }
 }
 
 impl Task for Job {
