@@ -97,7 +97,7 @@ access_in _ = None
 abbrev pub BeginsLine : Layout → Who → LineAccess → Banks → Bool → Job → Type 0
 BeginsLine layout who at banks collects j = BeginsAccess layout who at.thread at.slot at.line at.manner.kind at.manner.origin at.manner.mode banks collects j
 
--- the commands whose tasks are put in their place whole: they come seldom
+-- the commands that come seldom
 abbrev pub is_rare : Command → Bool
 is_rare (commands.Prctl thread args) = true
 is_rare (commands.Fork thread child) = true

@@ -229,8 +229,7 @@ fn begin_other(
     }
 }
 
-/// The same of a command that comes seldom, whose task is put in its place whole. That is much shorter to prove, and slower: the room for
-/// such a task is cleared where this function begins, so it stands apart.
+/// The same of a command that comes seldom. The room for such a task is cleared where this function begins, so it stands apart.
 fn begin_rare(
     alloc: Global,
     layout: &Layout,
@@ -246,40 +245,36 @@ fn begin_rare(
     ensures handle { (handles : List ℕ) → HasHandle handles job.new }
     ensures banks { banks.new ≡ left_in job.new banks.old }
 {
-    set(job, rare(alloc, layout, who, command, banks));
-}
-
-/// The task as which such a command begins.
-fn rare(
-    alloc: Global,
-    layout: &Layout,
-    who: Who,
-    command: &Command,
-    banks: &mut [Bank; BANKS],
-) -> Job
-    requires sound { IsSound layout.now }
-    requires of { IsCommandOf layout.now who.cpu.0 command.now }
-    requires rare { is_rare command.now ≡ true }
-    ensures begins { (collects : Bool) → Begins layout.now who command.now banks.old collects result }
-    ensures handle { (handles : List ℕ) → HasHandle handles result }
-    ensures banks { banks.new ≡ left_in result banks.old }
-{
     match *command {
-        Command::Prctl { thread, args } => Job::Prctl(call(layout, who, thread, args)),
-        Command::Fork { thread, process } => Job::Fork(fork(layout, who, thread, process)),
-        Command::Scrub { first, last } => Job::Scrub(scrub(alloc, who, first, last, banks)),
-        Command::Log { status, addr, misc } => Job::Log(log(who, status, addr, misc, banks)),
-        Command::Watch { threshold, window } => Job::Log(watch(who, threshold, window, banks)),
-        Command::Unpoison { frame } => Job::Unpoison(Unpoison::new(who, frame)),
+        Command::Prctl { thread, args } => set(job, Job::Prctl(call(layout, who, thread, args))),
+        Command::Fork { thread, process } => {
+            set(job, Job::Fork(fork(layout, who, thread, process)))
+        }
+        Command::Scrub { first, last } => {
+            set(job, Job::Scrub(scrub(alloc, who, first, last, banks)))
+        }
+        Command::Log { status, addr, misc } => {
+            set(job, Job::Log(log(who, status, addr, misc, banks)))
+        }
+        Command::Watch { threshold, window } => {
+            set(job, Job::Log(watch(who, threshold, window, banks)))
+        }
+        Command::Unpoison { frame } => set(job, Job::Unpoison(Unpoison::new(who, frame))),
         Command::RaiseUser { thread, ripv, eipv } => {
             let mcg = McgBits { ripv, eipv };
-            Job::Raise(raise_user(alloc, layout, who, thread, mcg, banks))
+            set(
+                job,
+                Job::Raise(raise_user(alloc, layout, who, thread, mcg, banks)),
+            )
         }
         Command::RaiseKernel { ripv, eipv } => {
             let mcg = McgBits { ripv, eipv };
-            Job::Raise(Raise::new(alloc, who, None, mcg, taken(banks)))
+            set(
+                job,
+                Job::Raise(Raise::new(alloc, who, None, mcg, taken(banks))),
+            )
         }
-        Command::RaiseNested => Job::Nested(Nested::new(who)),
+        Command::RaiseNested => set(job, Job::Nested(Nested::new(who))),
         _ => unreachable!(),
     }
 }
