@@ -13,7 +13,7 @@ use Rattle.hwp_report_text.specs.declared.OfflineResult.{OfflineResult}
 use Rattle.hwp_report_text.specs.declared.StopCause.{StopCause}
 use Rattle.hwp_report_text.specs.declared.StopCause.TheVariants as causes
 use Rattle.hwp_report_text.specs.Offlines.{offline_answer}
-use Rattle.hwp_report_text.specs.ReportText.{answer_words, cause_words, cpu_line_words, event_words, guest_words}
+use Rattle.hwp_report_text.specs.ReportText.{answer_words, cause_words, cpu_line_words, event_words, graded_words, guest_words, row_word}
 use Rattle.hwp_report_text.specs.hwp_severity.declared.McgBits.{McgBits}
 use Rattle.hwp_report_words.specs.Words.{AtFits, at_words}
 use Rattle.hwp_report_words.proofs.SameWords.{tag, tag_at, word_at}
@@ -90,6 +90,11 @@ pub no_result : (answer : Answer) → AnswerFits answer → ((result : OfflineRe
 no_result answer fits none ws is result fits2 e = none result (same_answer answer (offline_answer result) fits fits2 (sym is ∙ e))
 
 -- what the severity table graded
+pub no_graded_words : (ws : List (List ℕ)) → ((row bank status : ℕ) (mcg : McgBits) (mode : Mode) → CauseFits (causes.Severity row bank status mcg mode) → ws ≡ row_word row ∷ graded_words bank status mcg mode → ⊥)
+    → (cause : StopCause) → CauseFits cause → codes "severity" ∷ ws ≡ cause_words cause → ⊥
+no_graded_words ws none (causes.Severity row bank status mcg mode) fits e = none row bank status mcg mode fits (ap (drop 1) e)
+no_graded_words ws none cause fits e = absurd (omega (arith, ap (tag_at 0) e))
+
 pub no_graded : (ws : List (List ℕ)) → ((bits : McgBits × Mode) → drop 3 ws ≡ bits_words bits → ⊥)
     → (cause : StopCause) → CauseFits cause → codes "severity" ∷ ws ≡ cause_words cause → ⊥
 no_graded ws none (causes.Severity row bank status mcg mode) fits e = none (mcg, mode) (ap (drop 4) e)

@@ -6,7 +6,7 @@ use Rattle.hwp_report_text.specs.declared.Answer.TheVariants as answers
 use Rattle.hwp_report_text.specs.declared.CpuLine.{CpuLine}
 use Rattle.hwp_report_text.specs.declared.CpuLine.TheVariants as lines
 use Rattle.hwp_report_text.specs.ReportText.{answer_words, cpu_line_words}
-use Rattle.hwp_report_words.proofs.Rests.{first_of}
+use Rattle.hwp_report_words.proofs.Rests.{first_of, rest_of}
 use Rattle.hwp_report_cpu_lines.specs.Fits.{AnswerFits, CpuLineFits}
 
 pub one-of : (words : List (Bor (List ℕ))) (d : Bor (List ℕ)) → length words ≡ 1 → map (λ w. w.now) words ≡ (get_or words 0 d).now ∷ []
@@ -26,6 +26,13 @@ pub four-of : (words : List (Bor (List ℕ))) (d : Bor (List ℕ)) → length wo
     → map (λ w. w.now) words ≡ (get_or words 0 d).now ∷ (get_or words 1 d).now ∷ (get_or words 2 d).now ∷ (get_or words 3 d).now ∷ []
 four-of [] d l = absurd (omega (arith, l))
 four-of (a ∷ us) d l = ap (λ ws. a.now ∷ ws) (three-of us d (omega (arith, l)))
+
+pub three-up : (words : List (Bor (List ℕ))) (d : Bor (List ℕ)) → 3 ≤ length words
+    → map (λ w. w.now) words ≡ (get_or words 0 d).now ∷ (get_or words 1 d).now ∷ (get_or words 2 d).now ∷ map (λ w. w.now) (take (length words - 3) (drop 3 words))
+three-up [] d l = absurd (omega arith)
+three-up (a ∷ []) d l = absurd (omega arith)
+three-up (a ∷ b ∷ []) d l = absurd (omega arith)
+three-up (a ∷ b ∷ e ∷ us) d l = ap (λ ws. a.now ∷ b.now ∷ e.now ∷ ws) (rest_of (λ w. w.now) (a ∷ b ∷ e ∷ us) 3)
 
 pub now-at : (words : List (Bor (List ℕ))) (i : ℕ) (d : Bor (List ℕ)) → i < length words → get_or (map (λ w. w.now) words) i [] ≡ (get_or words i d).now
 now-at words i d l = get_or-map (λ w. w.now) words i d [] l

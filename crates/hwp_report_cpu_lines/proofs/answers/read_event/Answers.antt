@@ -1,8 +1,8 @@
-use Rattle.std.proofs.Common.{◌≡◌, ℕ, List, [], length, get_or, map, Bor, sym, ap, ◌∙◌, arith}
+use Rattle.std.proofs.Common.{[], ◌∷◌, length, get_or, codes, decimal, refl, sym, ap, ◌∙◌, arith}
 use Rattle.std.proofs.lemmas.List.{length-map}
 use Rattle.hwp_report_words.proofs.Rests.{rest_of}
 use Rattle.hwp_report_cpu_lines.proofs.NoLines.{no_event, no_event_words}
-use Rattle.hwp_report_cpu_lines.proofs.WordLists.{now-at}
+use Rattle.hwp_report_cpu_lines.proofs.WordLists.{now-at, three-up}
 use Rattle.hwp_report_cpu_lines.proofs.answers.read_event.Goals as goal
 
 pub returns-in_default-read_event_end : goal.returns-in_default-read_event_end
@@ -20,3 +20,10 @@ returns-in_default-read_hex c = no_event_words c.args.seq _ (λ event fits e. c.
 
 pub returns-in_default-read_hex-2 : goal.returns-in_default-read_hex-2
 returns-in_default-read_hex-2 c = no_event_words c.args.seq _ (λ event fits e. c.in_default-read_hex-2.ensures event.addr fits.2 (sym (now-at c.args.words.now 2 (record { ref_ptr = (0, 0); now = [] }) (omega arith)) ∙ ap (λ ws. get_or ws 2 []) e))
+
+pub returns : goal.returns
+returns c =
+    let bank = c.in-Some.ensures in let status = c.in-Some-read_hex.ensures in let addr = c.in-Some-read_hex-2.ensures in let end = c.in-Some-read_event_end.ensures in (
+      (c.ranges.seq.fits, (bank.0, status.0, addr.0, end.0.0, end.0.1)),
+      ap (λ ws. decimal c.args.seq ∷ codes "event" ∷ ws) (three-up c.args.words.now (record { ref_ptr = (0, 0); now = [] }) (omega arith) ∙ rw (bank.1, status.1, addr.1, end.1) refl),
+    )
