@@ -28,7 +28,7 @@ mines_in {T} ws = map (λ (w : CachePadded (Worker SeatValue T)). mine_in (padde
 abbrev owns_in : {T : Type 0} → Places T → List (ℕ × Rec)
 owns_in {T} ws = flat_map (λ (w : CachePadded (Worker SeatValue T)). own_in (padded_value w)) ws
 
-abbrev tasks_in : {T : Type 0} → Places T → List T
+abbrev pub tasks_in : {T : Type 0} → Places T → List T
 tasks_in {T} ws = map (λ (w : CachePadded (Worker SeatValue T)). (padded_value w).task) ws
 
 -- some were taken in, and these are left

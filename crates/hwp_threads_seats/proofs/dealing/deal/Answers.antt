@@ -1,10 +1,12 @@
-use Rattle.std.proofs.Common.{◌≡◌, ◌+◌, ◌<◌, [], ◌∷◌, length, refl, sym, ap, ◌∙◌, subst, arith}
+use Rattle.std.proofs.Common.{◌≡◌, ◌+◌, ◌<◌, [], ◌∷◌, ◌++◌, length, map, refl, sym, ap, ◌∙◌, subst, arith}
+use Rattle.std.proofs.lemmas.List.{append-nil}
 use Rattle.std.proofs.lemmas.Result.{IfOk-from_err}
+use Rattle.crossbeam_utils.specs.Padded.{padded_value}
 use Rattle.hwp_table_words.specs.Known.{idling}
 use Rattle.hwp_table_words.specs.Seats.{cpu_of, mine_of, slots_of, value_of}
 use Rattle.hwp_table_words.specs.Stands.{Me}
-use Rattle.hwp_threads_seats.specs.Dealing.{CanDeal, seat_at, seat_known}
-use Rattle.hwp_threads_seats.proofs.Pieces.{deal-more, taken-first}
+use Rattle.hwp_threads_seats.specs.Dealing.{CanDeal, seat_at, seat_known, workers_at}
+use Rattle.hwp_threads_seats.proofs.Pieces.{deal-more, none-here, taken-first}
 use Rattle.hwp_threads_seats.proofs.SeatDeals.{deals-on}
 use Rattle.hwp_threads_seats.proofs.dealing.deal.Goals as goal
 
@@ -54,3 +56,19 @@ returns-in_err-push-clause-workers g c = IfOk-from_err c.from_residual.result _ 
 
 pub returns-clause-left : goal.returns-clause-left
 returns-clause-left g c = record { same = c.loop-cpu.invariant.same; slots = c.loop-cpu.invariant.slots; unused = c.loop-cpu.invariant.can.unused }
+
+pub loop-cpu-init : goal.loop-cpu-init
+loop-cpu-init g c = record {
+  same = c.requires.seat.0;
+  slots = c.requires.seat.1;
+  can = c.requires.seat.2;
+  count = omega (arith, c.requires.one_each);
+  so_far = ap (λ ws. map padded_value ws ++ workers_at c.args.sheet.now.table_id c.args.layout.now 0 c.args.tasks.items) c.new-workers.ensures.items;
+}
+
+pub returns-clause-workers : goal.returns-clause-workers
+returns-clause-workers g c =
+    let i = c.loop-cpu.invariant in
+    let end = c.loop-cpu-test.false in
+    let none = none-here c.loop-cpu.tasks.items (omega (arith, i.count, end)) in
+    sym (append-nil (map padded_value c.loop-cpu.workers.items)) ∙ ap (λ ts. map padded_value c.loop-cpu.workers.items ++ workers_at c.args.sheet.now.table_id c.args.layout.now c.loop-cpu.cpu ts) (sym none) ∙ i.so_far
