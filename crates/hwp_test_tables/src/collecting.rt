@@ -1,5 +1,8 @@
 //! The collector of corrected errors: what it answers to notes of two frames, with rounds between them.
 
+ghost use Rattle.std.specs.Prelude.{◌≡◌, length};
+
+use crate::checking::check;
 use hwp_cec::{Collector, Frame, MAX_THRESHOLD, MAX_WINDOW, Noted};
 use std::alloc::Global;
 use std::process::Abort;
@@ -29,36 +32,58 @@ const OFF: Noted = Noted::Offline;
 
 /// The steps are answered so.
 fn answers(rt: &impl Abort, alloc: Global, threshold: u16, window: u8, steps: &[Step]) {
-    assert!(rt; 1 <= threshold);
-    assert!(rt; threshold <= MAX_THRESHOLD);
-    assert!(rt; 1 <= window);
-    assert!(rt; window <= MAX_WINDOW);
+    check(rt, 1 <= threshold);
+    check(rt, threshold <= MAX_THRESHOLD);
+    check(rt, 1 <= window);
+    check(rt, window <= MAX_WINDOW);
     let mut collector = Collector::new(alloc, threshold, window, FRAMES).expect(rt, "memory");
     for step in steps {
-        match *step {
-            Step::Note(frame, answer) => {
-                assert!(rt; frame < FRAMES);
-                assert!(rt; collector.note(Frame(frame)) == answer);
-            }
-            Step::Notes(count) => {
-                for before in 0..count {
-                    assert!(rt; collector.note(Frame(0)) == Noted::Counted(before + 1));
-                }
-            }
-            Step::Rounds(count) => {
-                for _ in 0..count {
-                    collector.round();
-                }
-            }
-            Step::Restart(threshold, window) => {
-                assert!(rt; 1 <= threshold);
-                assert!(rt; threshold <= MAX_THRESHOLD);
-                assert!(rt; 1 <= window);
-                assert!(rt; window <= MAX_WINDOW);
-                collector.restart(threshold, window);
-            }
-        }
+        answers_one(rt, &mut collector, *step);
     }
+}
+
+fn answers_one(rt: &impl Abort, collector: &mut Collector, step: Step)
+    requires { length collector.old.counts ≡ 2 }
+    ensures { length collector.new.counts ≡ 2 }
+{
+    match step {
+        Step::Note(frame, answer) => {
+            check(rt, frame < FRAMES);
+            check(rt, collector.note(Frame(frame)) == answer);
+        }
+        Step::Notes(count) => counts_up(rt, collector, count),
+        Step::Rounds(count) => ends_rounds(collector, count),
+        Step::Restart(threshold, window) => begins_anew(rt, collector, threshold, window),
+    }
+}
+
+fn counts_up(rt: &impl Abort, collector: &mut Collector, count: u16)
+    requires { length collector.old.counts ≡ 2 }
+    ensures { length collector.new.counts ≡ 2 }
+{
+    for before in 0..count {
+        check(rt, collector.note(Frame(0)) == Noted::Counted(before + 1));
+    }
+}
+
+fn ends_rounds(collector: &mut Collector, count: u8)
+    requires { length collector.old.counts ≡ 2 }
+    ensures { length collector.new.counts ≡ 2 }
+{
+    for _ in 0..count {
+        collector.round();
+    }
+}
+
+fn begins_anew(rt: &impl Abort, collector: &mut Collector, threshold: u16, window: u8)
+    requires { length collector.old.counts ≡ 2 }
+    ensures { length collector.new.counts ≡ 2 }
+{
+    check(rt, 1 <= threshold);
+    check(rt, threshold <= MAX_THRESHOLD);
+    check(rt, 1 <= window);
+    check(rt, window <= MAX_WINDOW);
+    collector.restart(threshold, window);
 }
 
 /// A threshold, a window, and the steps with what they are answered.
@@ -66,7 +91,7 @@ type Row = (u16, u8, &'static [Step]);
 
 /// Worked out by hand: the notes that a frame has in the current round and the `window - 1` rounds before it, since its last `Offline`.
 #[rattlefmt::skip]
-const ROWS: [Row; 9] = [
+const ROWS: &[Row] = &[
     // Each note is the one that makes the threshold.
     (1, 1, &[Step::Note(0, OFF), Step::Note(0, OFF), Step::Rounds(1), Step::Note(0, OFF)]),
     // The note of the round before counts, and `Offline` forgets both.
@@ -96,6 +121,6 @@ const ROWS: [Row; 9] = [
 #[test]
 fn a_collector_counts_the_notes_of_the_last_rounds(rt: HostRuntime) {
     for (threshold, window, steps) in ROWS {
-        answers(&rt, rt.alloc(), threshold, window, steps);
+        answers(&rt, rt.alloc(), *threshold, *window, steps);
     }
 }

@@ -1,5 +1,6 @@
 //! Copy on write: which access of a copy comes, where each was told the word 1000 and the number of accesses before it.
 
+use crate::checking::check;
 use hwp_fork::{Cow, Line, Sub, VSlot};
 use std::process::Abort;
 
@@ -29,11 +30,20 @@ fn sub_of(rt: &impl Abort, comes: Comes) -> Sub {
     }
 }
 
+/// The access that comes in a copy for this store, when so many went well.
+fn next_of(line: Line, x: u64, told: u16) -> Sub {
+    let mut cow = Cow::new(FROZEN, TWIN, line, x);
+    for number in 0..told {
+        cow.told(1000 + u64::from(number));
+    }
+    cow.next()
+}
+
 /// The line and the word of the store that is asked for, how many accesses went well, and the one that comes.
 type Row = (u8, u64, u16, Comes);
 
 #[rattlefmt::skip]
-const ROWS: [Row; 12] = [
+const ROWS: &[Row] = &[
     (5, 88, 0, Comes::Load(0)),
     (5, 88, 1, Comes::Store(0, 1000)),
     (5, 88, 10, Comes::Load(5)),
@@ -51,10 +61,9 @@ const ROWS: [Row; 12] = [
 #[test]
 fn a_copy_makes_its_accesses_in_order(rt: HostRuntime) {
     for (line, x, told, comes) in ROWS {
-        let mut cow = Cow::new(FROZEN, TWIN, line_of(&rt, line), x);
-        for number in 0..told {
-            cow.told(1000 + u64::from(number));
-        }
-        assert!(rt; cow.next() == sub_of(&rt, comes));
+        check(
+            &rt,
+            next_of(line_of(&rt, *line), *x, *told) == sub_of(&rt, *comes),
+        );
     }
 }

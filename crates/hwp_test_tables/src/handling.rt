@@ -1,9 +1,9 @@
 //! A machine check: the bank that stops the machine, and the grades.
 
+use crate::checking::check;
 use hwp_banks::{Bank, Event, Status};
 use hwp_kill::Mode;
 use hwp_severity::{Grade, McgBits, Severity, handle};
-use std::process::Abort;
 
 /// A bank after an event of this status. A status of 0 leaves it empty.
 fn bank_after(status: u64) -> Bank {
@@ -26,11 +26,11 @@ const BOTH: McgBits = McgBits {
 };
 
 /// A machine check in user mode over three banks stops at this one, and grades their events so.
-fn decides(rt: &impl Abort, statuses: [u64; 3], stop: Option<u8>, acts: [Grade; 3]) {
-    let banks = statuses.map(bank_after);
+fn decides(statuses: [u64; 3], stop: Option<u8>, acts: [Grade; 3]) -> bool {
+    let [first, second, third] = statuses;
+    let banks = [bank_after(first), bank_after(second), bank_after(third)];
     let decision = handle(&banks, BOTH, Mode::User);
-    assert!(rt; decision.stop == stop);
-    assert!(rt; decision.acts == acts);
+    (decision.stop == stop) & (decision.acts == acts)
 }
 
 #[test]
@@ -42,11 +42,14 @@ fn the_lowest_stopping_bank_stops_the_machine(rt: HostRuntime) {
     let load = graded(Severity::Required, 9);
     let lost = graded(Severity::Stop, 11);
     let scrubbed = graded(Severity::Optional, 12);
-    decides(&rt, [0, 0, 0], None, [none, none, none]);
-    decides(&rt, [0xbd80000000000134, 0x9c000000000000c0, 0xbd000000000000c0], None, [load, keep, scrubbed]);
-    decides(&rt, [0xbd80000000000134, 0xbe00000000000000, 0xbd80000000000000], Some(1), [load, corrupt, lost]);
-    decides(&rt, [0xbd80000000000000, 0, 0xbe00000000000000], Some(0), [lost, none, corrupt]);
-    decides(&rt, [0, 0xbd80000000000150, 0xbe00000000000000], Some(2), [none, load, corrupt]);
+    check(
+        &rt,
+        decides([0, 0, 0], None, [none, none, none])
+            & decides([0xbd80000000000134, 0x9c000000000000c0, 0xbd000000000000c0], None, [load, keep, scrubbed])
+            & decides([0xbd80000000000134, 0xbe00000000000000, 0xbd80000000000000], Some(1), [load, corrupt, lost])
+            & decides([0xbd80000000000000, 0, 0xbe00000000000000], Some(0), [lost, none, corrupt])
+            & decides([0, 0xbd80000000000150, 0xbe00000000000000], Some(2), [none, load, corrupt]),
+    );
 }
 
 #[test]
@@ -59,5 +62,8 @@ fn two_raw_events_of_one_bank_stop_the_machine(rt: HostRuntime) {
     });
     let banks = [Bank::new(), raw, Bank::new()];
     let decision = handle(&banks, BOTH, Mode::User);
-    assert!(rt; (decision.stop, decision.acts[1]) == (Some(1), graded(Severity::Stop, 8)));
+    check(
+        &rt,
+        (decision.stop == Some(1)) & (decision.acts[1] == graded(Severity::Stop, 8)),
+    );
 }

@@ -5,6 +5,8 @@
 #[cfg(test)]
 mod banks;
 #[cfg(test)]
+mod checking;
+#[cfg(test)]
 mod collecting;
 #[cfg(test)]
 mod forking;

@@ -3,9 +3,3 @@ use Rattle.hwp_test_tables.proofs.collecting.answers.Given as goal
 
 abbrev pub invariant-loop-step : goal.invariant-loop-step
 invariant-loop-step g l = length l.collector.counts ≡ 2
-
-abbrev pub invariant-loop-before : goal.invariant-loop-before
-invariant-loop-before g l = length l.collector.counts ≡ 2
-
-abbrev pub invariant-loop : goal.invariant-loop
-invariant-loop g l = length l.collector.counts ≡ 2
