@@ -6,16 +6,10 @@ use hwp_core_task::{Body, Frame, Layout, Page, Ranked, Step, Task, Turn, Who};
 
 /// Ends a command for which memory was refused: its body goes home, what it holds is let go, and the stop word tells the
 /// other processors. That last turn is `NoMemory` (this project's rule).
+#[derive(Drop)]
 pub struct GiveUp {
     who: Who,
     at: GiveUpAt,
-}
-
-// Written out, so that it is proved here once: a crate that lets one go cites it.
-impl Drop for GiveUp {
-    fn drop(self) {
-        let GiveUp { who: _, at: _ } = self;
-    }
 }
 
 #[derive(Drop)]

@@ -8,21 +8,11 @@ use hwp_core_task::{
 
 /// Locks a page and, where the page is in a frame, takes a reference to that frame and locks it too; and takes the page's
 /// body in hand, from the frame or from the page's shelf (this project's rule).
+#[derive(Drop)]
 pub struct Hold {
     who: Who,
     page: Page,
     at: HoldAt,
-}
-
-// Written out, so that it is proved here once: a crate that lets one go cites it.
-impl Drop for Hold {
-    fn drop(self) {
-        let Hold {
-            who: _,
-            page: _,
-            at: _,
-        } = self;
-    }
 }
 
 #[derive(Drop)]

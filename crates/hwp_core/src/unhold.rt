@@ -6,21 +6,11 @@ use std::cmp::min;
 
 /// Lets a page go: its body goes home, to the frame that it is in, which is unlocked and released, or to the page's shelf;
 /// and the page is unlocked (this project's rule).
+#[derive(Drop)]
 pub struct Unhold {
     who: Who,
     page: Page,
     at: UnholdAt,
-}
-
-// Written out, so that it is proved here once: a crate that lets one go cites it.
-impl Drop for Unhold {
-    fn drop(self) {
-        let Unhold {
-            who: _,
-            page: _,
-            at: _,
-        } = self;
-    }
 }
 
 #[derive(Drop)]

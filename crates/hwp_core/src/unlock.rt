@@ -5,16 +5,10 @@ use hwp_core_task::{Body, Frame, Layout, Ranked, Step, Task, Turn, Who};
 
 /// Lets a frame go that is held without its page: its body, if it has one, goes home, the frame is unlocked, and its
 /// reference is given back (this project's rule).
+#[derive(Drop)]
 pub struct Unlock {
     who: Who,
     at: UnlockAt,
-}
-
-// Written out, so that it is proved here once: a crate that lets one go cites it.
-impl Drop for Unlock {
-    fn drop(self) {
-        let Unlock { who: _, at: _ } = self;
-    }
 }
 
 #[derive(Drop)]

@@ -55,6 +55,7 @@ pub enum EvictAnswer {
 }
 
 /// A command by which a page, or a part of it, leaves its frame.
+#[derive(Drop)]
 pub struct Evict {
     who: Who,
     page: Page,
@@ -172,18 +173,6 @@ fn is_empty(slots: &Slots) -> bool
     ensures { IsTrue result ↔ (slots.now ≡ set.empty) }
 {
     slots.lowest_from(VSlot(0)).is_none()
-}
-
-// by hand, since what lets such a command go cites what is proved here; with a derive it proves anew how each part goes
-impl Drop for Evict {
-    fn drop(self) {
-        let Evict {
-            who: _,
-            page: _,
-            what: _,
-            at: _,
-        } = self;
-    }
 }
 
 impl Evict {

@@ -14,6 +14,7 @@ use std::mem;
 
 /// A thread reads or writes a line of a page through a translation; where the translation leads to no frame, the page is
 /// brought in (this project's rule).
+#[derive(Drop)]
 pub struct Access {
     request: Request,
     at: AccessAt,
@@ -83,13 +84,6 @@ enum AccessAt {
     Over {
         answer: AccessAnswer,
     },
-}
-
-// by hand, since what lets an access go cites what is proved here; with a derive it proves anew how each part goes
-impl Drop for Access {
-    fn drop(self) {
-        let Access { request: _, at: _ } = self;
-    }
 }
 
 impl Access {

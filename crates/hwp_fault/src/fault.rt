@@ -13,6 +13,7 @@ use std::snapshot::Snapshot;
 /// Brings a page into a frame, where it is in none, and a translation of it into use (Linux handle_mm_fault). Where the
 /// translation has a poison entry or the page's content is lost, the access is answered by SIGBUS (Linux hwpoison.rst), which
 /// ends a process whose thread has no handler. Where memory for an entry is refused the command is given up.
+#[derive(Drop)]
 pub struct Fault {
     who: Who,
     page: Page,
@@ -62,19 +63,6 @@ pub enum FaultAnswer {
     NoFrame { at: At },
     /// The access was answered by SIGBUS: the entry at the place.
     Sigbus { at: At },
-}
-
-// by hand, since what lets a page fault go cites what is proved here; with a derive it proves anew how each part goes
-impl Drop for Fault {
-    fn drop(self) {
-        let Fault {
-            who: _,
-            page: _,
-            slot: _,
-            touch: _,
-            at: _,
-        } = self;
-    }
 }
 
 impl Fault {
