@@ -1,3 +1,4 @@
+mod Lookups
 mod CopyLaws
 mod AccessLaws
 mod AccessScans

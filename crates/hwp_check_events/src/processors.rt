@@ -38,6 +38,29 @@ fn empty_table(alloc: Global, frames: u16) -> Result<Vec<u8>, OutOfMemory>
     Ok(table)
 }
 
+/// What is wrong about the event lines of a processor with these commands, where so much is kept of the report for them.
+fn kept_faults(
+    alloc: Global,
+    script: &Script,
+    copies: &[List<Option<VSlot>>],
+    report: &Traced<'_>,
+    cpu: Cpu,
+    commands: &[Command],
+    checkers: &[Who],
+) -> Result<Misfits, OutOfMemory>
+    requires valid { IsDeclared script.now }
+    requires frames { length report.now.frames ≤ 65536 }
+    requires room { sum_by length report.now.pages + 1 < 2 ^ 64 }
+    requires of_script { slice_get script.now.lists cpu.0 ≡ Some commands.now }
+    requires checkers { checkers.now ≡ all_checkers report.now.pages }
+    ensures { IfOk result (λ found. IsProcessorJudged script.now (copies_in copies.now) report.now cpu commands.now found) }
+{
+    small_masks(report.get());
+    let processor = IndexedProcessor::new(alloc, script, copies, report, cpu, commands, checkers)?;
+    let mut table = empty_table(alloc, script.layout.frames)?;
+    Ok(walk(&processor, &mut table))
+}
+
 /// What is wrong about the event lines of a processor with these commands, by the machine checks that the histories show.
 pub fn processor_faults(
     alloc: Global,
@@ -55,11 +78,8 @@ pub fn processor_faults(
     requires checkers { checkers.now ≡ all_checkers report.now.pages }
     ensures { IfOk result (λ found. IsProcessorJudged script.now (copies_in copies.now) report.now cpu commands.now found) }
 {
-    small_masks(report);
     let past = past_of(alloc, cpu, report.frames.as_slice())?;
     let results = results_of(alloc, cpu, report.frames.as_slice())?;
     let traced = Traced::new(cpu, report, &past, &results);
-    let processor = IndexedProcessor::new(alloc, script, copies, &traced, cpu, commands, checkers)?;
-    let mut table = empty_table(alloc, script.layout.frames)?;
-    Ok(walk(&processor, &mut table))
+    kept_faults(alloc, script, copies, &traced, cpu, commands, checkers)
 }
