@@ -1,5 +1,5 @@
 -- Words that are no line of a processor, by what is missing.
-use Rattle.std.proofs.Common.{◌≡◌, ℕ, Bool, List, [], ◌∷◌, length, get_or, drop, codes, decimal, sym, ap, ◌∙◌, arith}
+use Rattle.std.proofs.Common.{◌≡◌, ◌≤◌, ℕ, Bool, Option, Some, None, IfSome, List, [], ◌∷◌, length, get_or, drop, codes, decimal, sym, ap, ◌∙◌, arith}
 use Rattle.hwp_report_text.specs.hwp_geom.declared.Mode.{Mode}
 use Rattle.hwp_report_text.specs.hwp_page.declared.At.{At}
 use Rattle.hwp_report_text.specs.declared.Acted.{Acted}
@@ -10,10 +10,11 @@ use Rattle.hwp_report_text.specs.declared.CpuLine.TheVariants as lines
 use Rattle.hwp_report_text.specs.declared.EventLine.{EventLine}
 use Rattle.hwp_report_text.specs.declared.GuestLine.{GuestLine}
 use Rattle.hwp_report_text.specs.declared.OfflineResult.{OfflineResult}
+use Rattle.hwp_report_text.specs.declared.Stop.{Stop}
 use Rattle.hwp_report_text.specs.declared.StopCause.{StopCause}
 use Rattle.hwp_report_text.specs.declared.StopCause.TheVariants as causes
 use Rattle.hwp_report_text.specs.Offlines.{offline_answer}
-use Rattle.hwp_report_text.specs.ReportText.{answer_words, cause_words, cpu_line_words, event_words, graded_words, guest_words, row_word}
+use Rattle.hwp_report_text.specs.ReportText.{answer_words, cause_words, cpu_line_words, event_words, graded_words, guest_words, row_word, stop_words}
 use Rattle.hwp_report_text.specs.hwp_severity.declared.McgBits.{McgBits}
 use Rattle.hwp_report_words.specs.Words.{AtFits, at_words}
 use Rattle.hwp_report_words.proofs.SameWords.{tag, tag_at, word_at}
@@ -26,7 +27,7 @@ use Rattle.hwp_report_cpu_lines.specs.declared.replies.Short.TheVariants as shor
 use Rattle.hwp_report_cpu_lines.specs.declared.replies.Valued.{Valued}
 use Rattle.hwp_report_cpu_lines.specs.declared.replies.Valued.TheVariants as valued
 use Rattle.hwp_report_cpu_lines.specs.Answers.{counted_text, placed_text, short_text, valued_text}
-use Rattle.hwp_report_cpu_lines.specs.Fits.{AnswerFits, CauseFits, CpuLineFits, EventFits, GuestFits}
+use Rattle.hwp_report_cpu_lines.specs.Fits.{AnswerFits, CauseFits, CpuLineFits, EventFits, GuestFits, StopFits}
 use Rattle.hwp_report_cpu_lines.specs.Words.{EndFits, GuestEndFits, bits_words, end_words, guest_end_words}
 use Rattle.hwp_report_cpu_lines.proofs.SameWords.{same_answer}
 
@@ -100,6 +101,12 @@ pub no_graded : (ws : List (List ℕ)) → ((bits : McgBits × Mode) → drop 3 
 no_graded ws none (causes.Severity row bank status mcg mode) fits e = none (mcg, mode) (ap (drop 4) e)
 no_graded ws none causes.Shutdown fits e = absurd (omega (arith, ap (tag_at 0) e))
 no_graded ws none (causes.Panic frame) fits e = absurd (omega (arith, ap (tag_at 0) e))
+
+-- what stopped the machine, and who met it
+pub no_stop_words : (ws : List (List ℕ)) → 2 ≤ length ws → ((stop : Stop) → StopFits stop → ws ≡ decimal stop.who.cpu.0 ∷ decimal stop.who.seq ∷ cause_words stop.cause → ⊥)
+    → (stop : Option Stop) → IfSome stop StopFits → codes "stop" ∷ ws ≡ stop_words stop → ⊥
+no_stop_words ws l none None fits e = let one = ap length e in omega (arith, l, one)
+no_stop_words ws l none (Some stop) fits e = none stop fits (ap (drop 1) e)
 
 -- an answer of one word
 pub no_short : (word : List ℕ) → ((kind : Short) → word ≡ short_text kind → ⊥) → (answer : Answer) → word ∷ [] ≡ answer_words answer → ⊥

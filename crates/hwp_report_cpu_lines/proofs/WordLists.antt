@@ -27,6 +27,12 @@ pub four-of : (words : List (Bor (List ℕ))) (d : Bor (List ℕ)) → length wo
 four-of [] d l = absurd (omega (arith, l))
 four-of (a ∷ us) d l = ap (λ ws. a.now ∷ ws) (three-of us d (omega (arith, l)))
 
+pub two-up : (words : List (Bor (List ℕ))) (d : Bor (List ℕ)) → 2 ≤ length words
+    → map (λ w. w.now) words ≡ (get_or words 0 d).now ∷ (get_or words 1 d).now ∷ map (λ w. w.now) (take (length words - 2) (drop 2 words))
+two-up [] d l = absurd (omega arith)
+two-up (a ∷ []) d l = absurd (omega arith)
+two-up (a ∷ b ∷ us) d l = ap (λ ws. a.now ∷ b.now ∷ ws) (rest_of (λ w. w.now) (a ∷ b ∷ us) 2)
+
 pub three-up : (words : List (Bor (List ℕ))) (d : Bor (List ℕ)) → 3 ≤ length words
     → map (λ w. w.now) words ≡ (get_or words 0 d).now ∷ (get_or words 1 d).now ∷ (get_or words 2 d).now ∷ map (λ w. w.now) (take (length words - 3) (drop 3 words))
 three-up [] d l = absurd (omega arith)

@@ -20,3 +20,10 @@ returns-in_default-read_u8 c = no_graded_words _ (λ row bank status mcg mode fi
 
 pub returns-in_default-read_hex : goal.returns-in_default-read_hex
 returns-in_default-read_hex c = no_graded_words _ (λ row bank status mcg mode fits e. c.in_default-read_hex.ensures status fits.2 (sym (now-at c.args.words.now 2 (record { ref_ptr = (0, 0); now = [] }) (omega arith)) ∙ ap (λ ws. get_or ws 2 []) e))
+
+pub returns : goal.returns
+returns c =
+    let row = c.in-Some.ensures in let bank = c.in-Some-read_u8.ensures in let status = c.in-Some-read_hex.ensures in let bits = c.in-Some-read_bits.ensures in (
+      (row.0, bank.0, status.0),
+      ap (λ ws. codes "severity" ∷ ws) (three-up c.args.words.now (record { ref_ptr = (0, 0); now = [] }) (omega arith) ∙ rw (row.1, bank.1, status.1, bits.1) refl),
+    )
