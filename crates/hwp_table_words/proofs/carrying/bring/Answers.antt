@@ -1,4 +1,4 @@
-use Rattle.std.proofs.Common.{◌≡◌, ℕ, ◌<◌, List, [], ◌∷◌, ◌++◌, length, get_or, sym, ap, ◌∙◌, subst}
+use Rattle.std.proofs.Common.{◌≡◌, ℕ, ◌<◌, List, [], ◌∷◌, ◌++◌, length, get_or, refl, sym, ap, ◌∙◌, subst}
 use Rattle.atomic_table.specs.Table.{turned}
 use Rattle.hwp_table_words.specs.Carrying.{vacant}
 use Rattle.hwp_table_words.specs.Known.{times}
@@ -27,3 +27,18 @@ loop-seat-smaller c =
     let items : c.push.new.self.items ≡ rotated c.loop-seat.order.items c.remove-first.result = c.push.ensures.items ∙ ap (λ (l : List ℕ). l ++ c.remove-first.result ∷ []) c.remove-first.ensures.items in
     subst (λ (l : List ℕ). place c.args.slot l < place c.args.slot c.loop-seat.order.items) (sym items)
     (place-falls c.args.slot c.loop-seat.order.items c.remove-first.result c.remove-first.ensures.value (λ e. c.loop-seat-test.true (ap (λ (l : List ℕ). get_or l 0 0) c.as_slice.ensures.value ∙ e)) c.loop-seat.invariant.there)
+
+pub loop-seat-init : goal.loop-seat-init
+loop-seat-init c = record { table = refl; known = refl; empty = c.requires.empty; slot = refl; there = c.requires.there; times = λ k. refl; count = refl }
+
+pub returns-clause-same : goal.returns-clause-same
+returns-clause-same c = (c.loop-seat.invariant.table, c.loop-seat.invariant.known)
+
+pub returns-clause-empty : goal.returns-clause-empty
+returns-clause-empty c = c.loop-seat.invariant.empty
+
+pub returns-clause-times : goal.returns-clause-times
+returns-clause-times c = c.loop-seat.invariant.times
+
+pub returns-clause-count : goal.returns-clause-count
+returns-clause-count c = c.loop-seat.invariant.count

@@ -1,5 +1,6 @@
 use Rattle.std.proofs.Common.{◌≡◌, ℕ, List, ◌*◌, ap, ◌∙◌, sym, subst, take}
 use Rattle.std.specs.Arc.{arc_value}
+use Rattle.std.proofs.lemmas.Result.{IfOk-from_err}
 use Rattle.hwp_core_task.specs.hwp_geom.declared.Layout.{Layout}
 use Rattle.hwp_core_task.specs.hwp_geom.Layout.{IsSound}
 use Rattle.hwp_core_task.specs.hwp_core_rule.Lists.{EachMember}
@@ -31,3 +32,21 @@ returns-in-Ok-clause-table g c =
       },
       e.5 ∙ same,
     )
+
+pub returns-in_err-words-clause-table : goal.returns-in_err-words-clause-table
+returns-in_err-words-clause-table g c = IfOk-from_err c.from_residual.result _ c.from_residual.ensures.0
+
+pub returns-in_err-words-clause-seat : goal.returns-in_err-words-clause-seat
+returns-in_err-words-clause-seat g c = IfOk-from_err c.from_residual.result _ c.from_residual.ensures.0
+
+pub returns-in_err-bodies-clause-table : goal.returns-in_err-bodies-clause-table
+returns-in_err-bodies-clause-table g c = IfOk-from_err c.from_residual-in_err-bodies.result _ c.from_residual-in_err-bodies.ensures.0
+
+pub returns-in_err-bodies-clause-seat : goal.returns-in_err-bodies-clause-seat
+returns-in_err-bodies-clause-seat g c = IfOk-from_err c.from_residual-in_err-bodies.result _ c.from_residual-in_err-bodies.ensures.0
+
+pub returns-clause-table : goal.returns-clause-table
+returns-clause-table g c = tt
+
+pub returns-clause-seat : goal.returns-clause-seat
+returns-clause-seat g c = tt
