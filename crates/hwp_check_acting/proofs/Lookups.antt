@@ -1,5 +1,5 @@
 -- What stands at a place of a list, as `get` finds it.
-use Rattle.std.proofs.Common.{◌≡◌, ℕ, true, false, ltb, List, Option, Some, None, length, get_or, slice_get, sym, ap, ◌∙◌, ltb-true, ltb-false}
+use Rattle.std.proofs.Common.{◌≡◌, ℕ, true, false, ltb, List, Some, None, length, get_or, slice_get, sym, ap, ◌∙◌, ltb-true, ltb-false}
 use Rattle.std.proofs.lemmas.Option.{slice_get-get_or, slice_get_past}
 
 module _ {X : Type 0} (xs ys : List X) (i j : ℕ) where

@@ -1,4 +1,4 @@
-use Rattle.std.proofs.Common.{List, Option, [], unwrap_or, refl, sym, ap, ◌∙◌}
+use Rattle.std.proofs.Common.{List, Option, [], unwrap_or, sym, ap, ◌∙◌}
 use Rattle.hwp_law.specs.hwp_report_text.declared.CpuLine.{CpuLine}
 use Rattle.hwp_check_events.proofs.Lookups.{found-there, none-there}
 use Rattle.hwp_check_events.proofs.indexed.rows_on.Goals as goal
