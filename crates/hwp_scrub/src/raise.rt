@@ -1,6 +1,7 @@
 ghost use Rattle.std.specs.Prelude.{◌≡◌, ◌≤◌, length};
 ghost use Rattle.hwp_scrub.specs.Raises.{AfterProcess, AfterStop, BeginsCheck, after_handler, answer, begin, checked, ended, give_up, mode_of, thread_of};
 
+use crate::scrub::let_go_of;
 use hwp_cpu_check::{
     BANKS, Bank, Body, EventOutcome, Handler, Layout, List, McgBits, Mode, Page, Proc, ProcessWord,
     Ranked, Scheduled, SharedWord, Step, Task, Thread, ToldLines, Turn, Who, is_stopped, no_events,
@@ -10,7 +11,6 @@ use std::mem;
 use std::snapshot::Snapshot;
 
 /// A machine check of what the banks of its processor hold, raised while a thread runs, or the kernel does (this project's rule).
-#[derive(Drop)]
 pub struct Raise {
     alloc: Global,
     who: Who,
@@ -51,6 +51,22 @@ pub enum RaiseAnswer {
     Stopped,
     /// The thread's process has ended, by a signal in the history of this page.
     Gone(Page),
+}
+
+// by hand, since what lets a machine check that is raised go cites what is proved here; with a derive it proves anew how each part goes
+impl Drop for Raise {
+    fn drop(self) {
+        let Raise {
+            alloc: _,
+            who: _,
+            raiser: _,
+            mcg: _,
+            before: _,
+            banks: _,
+            lines: _,
+            at: _,
+        } = self;
+    }
 }
 
 impl Raise {
@@ -250,22 +266,19 @@ impl Task for Raise {
     fn give(&mut self) -> Option<Body> {
         match &mut self.at {
             RaiseAt::Handle { handler } => handler.give(),
-            RaiseAt::LoadStop
-            | RaiseAt::LoadProcess { .. }
-            | RaiseAt::GiveUp
-            | RaiseAt::Over { .. } => None,
+            _ => None,
         }
     }
 
     fn settle(&mut self, layout: &Layout, found: u64, body: Option<Body>) -> Turn {
         match &mut self.at {
             RaiseAt::LoadStop => {
-                drop(body);
+                let_go_of(body);
                 self.after_stop(layout, found);
                 Turn::Moved
             }
             RaiseAt::LoadProcess { .. } => {
-                drop(body);
+                let_go_of(body);
                 self.after_process(layout, found);
                 Turn::Moved
             }
@@ -278,12 +291,12 @@ impl Task for Raise {
                 turn
             }
             RaiseAt::GiveUp => {
-                drop(body);
+                let_go_of(body);
                 self.set(RaiseAt::Over { answer: None });
                 Turn::NoMemory
             }
             RaiseAt::Over { .. } => {
-                drop(body);
+                let_go_of(body);
                 Turn::Moved
             }
         }

@@ -16,7 +16,6 @@ use std::snapshot::Snapshot;
 
 /// The scrubber, which goes over frames in rising order. The lowest bad line of each is a machine check, which is acted on; the
 /// lowest weak line is logged, told and taken out at once (this project's rule).
-#[derive(Drop)]
 pub struct Scrub {
     alloc: Global,
     who: Who,
@@ -55,6 +54,22 @@ const RESTARTS: McgBits = McgBits {
     ripv: true,
     eipv: true,
 };
+
+// by hand, since what lets a scrub go cites what is proved here; with a derive it proves anew how each part goes
+impl Drop for Scrub {
+    fn drop(self) {
+        let Scrub {
+            alloc: _,
+            who: _,
+            first: _,
+            last: _,
+            before: _,
+            banks: _,
+            lines: _,
+            at: _,
+        } = self;
+    }
+}
 
 impl Scrub {
     /// The command at its beginning, over the frames from the first to the last, by a processor whose banks hold this.
@@ -283,6 +298,9 @@ fn kept_line(event: Event) -> EventOutcome
     }
 }
 
+/// Lets the body go that a step met. Each way out of a function that lets it go itself proves anew how it goes.
+pub(crate) fn let_go_of(_body: Option<Body>) {}
+
 impl Task for Scrub {
     ghost use Rattle.hwp_scrub.specs.Fits as fits;
 
@@ -312,11 +330,7 @@ impl Task for Scrub {
     fn give(&mut self) -> Option<Body> {
         match &mut self.at {
             ScrubAt::Handle { handler, .. } => handler.give(),
-            ScrubAt::LoadStop
-            | ScrubAt::LoadBad { .. }
-            | ScrubAt::LoadWeak { .. }
-            | ScrubAt::GiveUp
-            | ScrubAt::Over { .. } => None,
+            _ => None,
         }
     }
 
@@ -324,13 +338,13 @@ impl Task for Scrub {
         match &mut self.at {
             ScrubAt::LoadStop => {
                 self.after_stop(found);
-                drop(body);
+                let_go_of(body);
                 Turn::Moved
             }
             ScrubAt::LoadBad { frame } => {
                 let frame = *frame;
                 self.after_bad(layout, frame, found);
-                drop(body);
+                let_go_of(body);
                 Turn::Moved
             }
             ScrubAt::Handle { frame, handler } => {
@@ -345,16 +359,16 @@ impl Task for Scrub {
             ScrubAt::LoadWeak { frame } => {
                 let frame = *frame;
                 self.after_weak(frame, found);
-                drop(body);
+                let_go_of(body);
                 Turn::Moved
             }
             ScrubAt::GiveUp => {
                 self.set(ScrubAt::Over { answer: None });
-                drop(body);
+                let_go_of(body);
                 Turn::NoMemory
             }
             ScrubAt::Over { .. } => {
-                drop(body);
+                let_go_of(body);
                 Turn::Moved
             }
         }
