@@ -1,10 +1,10 @@
-mod CachingLaws
-mod LockSlots
-mod LockTimes
-mod SeatViews
-mod Agrees
+pub mod CachingLaws
+pub mod LockSlots
+pub mod LockTimes
+pub mod SeatViews
+pub mod Agrees
 pub mod Named
-mod EntrySteps
-mod StepKinds
-mod Moved
-mod Guards
+pub mod EntrySteps
+pub mod StepKinds
+pub mod Moved
+pub mod Guards
