@@ -34,32 +34,10 @@ use std::alloc::Global;
 use std::mem;
 
 impl Job {
-    /// The command at its beginning. One that can log or raise an event takes what the banks of its processor hold, and an `fsync`
-    /// or an `open` gets the number of the processor's handle of the file. A store copies the page of the translation `copies` first, where
-    /// there is one. An access that its guest doesn't admit does nothing, and is answered so.
-    pub fn new(
-        alloc: Global,
-        layout: &Layout,
-        who: Who,
-        command: Command,
-        copies: Option<VSlot>,
-        admit: Admit,
-        local: &mut Local,
-    ) -> Job
-        requires sound { IsSound layout.now }
-        requires of { IsCommandOf layout.now who.cpu.0 command }
-        requires copies { CanCopy layout.now who.cpu.0 command copies }
-        requires denied { CanDeny command admit }
-        ensures begins { BeginsWith layout.now who command copies admit local.old.banks (collects local.old.watching) result }
-        ensures handle { HasHandle local.old.handles result }
-        ensures local { local.new ≡ local_left result local.old }
-    {
-        let mut job = Job::Nested(Nested::new(who));
-        job.begin_next(alloc, layout, who, command, copies, admit, local);
-        job
-    }
-
-    /// The same in place of the command that is there, which is let go: what it carries lies where the other one lay.
+    /// The command at its beginning, in place of the one that is there, which is let go: what it carries lies where the other one lay. One that
+    /// can log or raise an event takes what the banks of its processor hold, and an `fsync` or an `open` gets the number of the processor's
+    /// handle of the file. A store copies the page of the translation `copies` first, where there is one. An access that its guest doesn't
+    /// admit does nothing, and is answered so.
     pub fn begin_next(
         &mut self,
         alloc: Global,
