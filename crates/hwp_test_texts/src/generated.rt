@@ -1,5 +1,6 @@
 //! Scripts made from a seed.
 
+use crate::checking::check;
 use hwp_script::generate;
 use hwp_script_print::print;
 use std::alloc::Global;
@@ -13,7 +14,7 @@ fn has(rt: &impl Abort, alloc: Global, seed: u64, parts: &[&str]) {
     drop(script);
     let text = str::from_utf8(text.as_slice()).ok().expect(rt, "a text");
     for part in parts {
-        assert!(rt; text.contains(*part));
+        check(rt, text.contains(*part));
     }
 }
 

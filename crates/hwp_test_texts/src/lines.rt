@@ -1,29 +1,34 @@
 //! The lines of scripts: each kind as it is read and printed, and what is no line.
 
+use crate::checking::check;
 use hwp_script_print::put_form;
-use hwp_script_read::{LineRead, read_lines};
+use hwp_script_read::{LineRead, OutOfMemory, read_lines};
 use std::alloc::Global;
 use std::process::Abort;
 
-/// Which version a form is of, where version 2 alone has it.
-fn version(newer: bool) -> &'static str {
-    if newer { " in version 2" } else { "" }
+/// The line as it is printed, or what is wrong with it, and in which version, where version 2 alone has its form.
+fn put_read(out: &mut String, read: &LineRead) -> Result<(), OutOfMemory> {
+    let wrong = match read {
+        LineRead::ScriptLine(form) => {
+            return put_form(out, form);
+        }
+        LineRead::Unknown => "unknown\n",
+        LineRead::BadNumber { newer: false } => "bad number\n",
+        LineRead::BadNumber { newer: true } => "bad number in version 2\n",
+        LineRead::OverLimit { newer: false } => "over the limit\n",
+        LineRead::OverLimit { newer: true } => "over the limit in version 2\n",
+    };
+    out.push_str(wrong)
 }
 
 /// The lines that are not skipped, one a line: the number, and the line as it is printed, or what is wrong with it.
 fn told(rt: &impl Abort, alloc: Global, text: &[u8]) -> String {
-    assert!(rt; text.len() < 1000);
+    check(rt, text.len() < 1000);
     let lines = read_lines(alloc, text).expect(rt, "memory");
     let mut out = String::new(alloc);
     for numbered in lines.as_slice() {
         write!(out, "{} ", numbered.line).expect(rt, "memory");
-        let put = match &numbered.read {
-            LineRead::ScriptLine(form) => put_form(&mut out, form),
-            LineRead::Unknown => writeln!(out, "unknown"),
-            LineRead::BadNumber { newer } => writeln!(out, "bad number{}", version(*newer)),
-            LineRead::OverLimit { newer } => writeln!(out, "over the limit{}", version(*newer)),
-        };
-        put.expect(rt, "memory");
+        put_read(&mut out, &numbered.read).expect(rt, "memory");
     }
     out
 }
@@ -32,7 +37,7 @@ fn told(rt: &impl Abort, alloc: Global, text: &[u8]) -> String {
 fn are_told(rt: &impl Abort, alloc: Global, rows: &[(&[u8], &str)]) {
     for (text, want) in rows {
         let read = told(rt, alloc, text);
-        assert!(rt; read.as_str() == *want);
+        check(rt, read.as_str() == *want);
     }
 }
 
@@ -40,7 +45,7 @@ fn are_told(rt: &impl Abort, alloc: Global, rows: &[(&[u8], &str)]) {
 fn are_all(rt: &impl Abort, alloc: Global, texts: &[&[u8]], want: &str) {
     for text in texts {
         let read = told(rt, alloc, text);
-        assert!(rt; read.as_str() == want);
+        check(rt, read.as_str() == want);
     }
 }
 

@@ -1,10 +1,11 @@
 //! Scripts in the one spelling in which they are printed.
 
+use crate::checking::check;
+use crate::scripts::script_of;
 use hwp_script_print::print;
-use hwp_script_read::{Script, read};
+use hwp_script_read::Script;
 use std::alloc::Global;
 use std::process::Abort;
-use std::str;
 
 /// A script with every form of line and every command, as it is printed.
 const ALL: &str =
@@ -16,7 +17,7 @@ const SPELLED: &str =
 
 /// The script that a text is read as is printed as another.
 fn is_spelled(rt: &impl Abort, alloc: Global, text: &str, want: &str) {
-    let script = read(alloc, text.as_bytes()).ok().expect(rt, "a script");
+    let script = script_of(rt, alloc, text);
     is_printed(rt, alloc, &script, want);
     drop(script);
 }
@@ -24,7 +25,7 @@ fn is_spelled(rt: &impl Abort, alloc: Global, text: &str, want: &str) {
 /// The printed text of a script.
 fn is_printed(rt: &impl Abort, alloc: Global, script: &Script, want: &str) {
     let text = print(alloc, script).expect(rt, "memory");
-    assert!(rt; str::from_utf8(text.as_slice()).ok() == Some(want));
+    check(rt, text.as_slice() == want.as_bytes());
 }
 
 #[test]

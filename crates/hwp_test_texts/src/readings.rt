@@ -1,10 +1,10 @@
 //! Reports read back from their texts, and the lines at which other texts are at fault.
 
+use crate::checking::check;
 use hwp_report::{BadReport, read};
 use hwp_report_text::print;
 use std::alloc::Global;
 use std::process::Abort;
-use std::str;
 
 const IDLE: &str =
     "hwp-report 1\nstop none\ncount 0\nfile 0 lost 0\nfile 1 lost 18446744073709551615\nframe 0 free bad 0 weak 0\nframe 1 kernel bad 20 weak 8000000000000000\nframe 2 page 65535 bad ffffffffffffffff weak a5\npage 0 0\npage 1 7\nin 1 0\nmap 1 0 511\nload 255 4294967295 511 63 20 18446744073709551615\nstore 0 4095 511 0 8000000000000000 0\nload 0 7 3 10 sigbus 31\nstore 1 8 3 10 sigbus 0\nmce 0 5 3 63 8000000000000000\ncpu 0 0\ncpu 1 3\n0 value 18446744073709551615 1 2\n9 noframe\n4094 stored 255 18446744073709551615\nend\n";
@@ -28,7 +28,7 @@ const BESIDE_OF_OLD: &str =
 fn is_read(rt: &impl Abort, alloc: Global, text: &str) {
     let report = read(alloc, text.as_bytes()).ok().expect(rt, "a report");
     let printed = print(alloc, &report).expect(rt, "memory");
-    assert!(rt; str::from_utf8(printed.as_slice()).ok() == Some(text));
+    check(rt, printed.as_slice() == text.as_bytes());
 }
 
 #[test]
@@ -116,11 +116,18 @@ const FAULTS: &[(&[u8], u64)] = &[
     (b"hwp-report 1\nstop 256 0 shutdown\n", 2),
 ];
 
+/// The fault is at this line.
+fn is_at(fault: Option<BadReport>, line: u64) -> bool {
+    match fault {
+        Some(BadReport::Line(at)) => at == line,
+        _ => false,
+    }
+}
+
 /// Each text is at fault at its line.
 fn are_at_fault(rt: &impl Abort, alloc: Global, rows: &[(&[u8], u64)]) {
     for (text, line) in rows {
-        let fault = read(alloc, text).err();
-        assert!(rt; fault == Some(BadReport::Line(*line)));
+        check(rt, is_at(read(alloc, text).err(), *line));
     }
 }
 
@@ -158,8 +165,7 @@ fn are_no_lines(rt: &impl Abort, alloc: Global, lines: &[&[u8]]) {
             .expect(rt, "memory");
         text.extend_from_slice(line).expect(rt, "memory");
         text.extend_from_slice(b"end\n").expect(rt, "memory");
-        let fault = read(alloc, text.as_slice()).err();
-        assert!(rt; fault == Some(BadReport::Line(5)));
+        check(rt, is_at(read(alloc, text.as_slice()).err(), 5));
     }
 }
 

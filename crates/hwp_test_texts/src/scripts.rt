@@ -1,5 +1,6 @@
 //! Scripts whose lines say what their fields have.
 
+use crate::checking::check;
 use hwp_script_read::{Command, Layout, Script, Version, read};
 use std::alloc::Global;
 use std::process::Abort;
@@ -11,6 +12,14 @@ const ALL: &str =
 /// A script of version 2 with its three forms, on the largest machine.
 const TWO: &str =
     "hwp 2\ncpus 16\nframes 4096\nfile 0\nproc 0\nthread 0 0 15 handler\npage 0 file 0 fill 1 locked\ntrans 0 0 0\ncpu 15\nopen 0\ninject 4095\nwatch 1000 64\nschedule 15\nend\n";
+
+/// The script that the text is read as.
+pub fn script_of(rt: &impl Abort, alloc: Global, text: &str) -> Script {
+    match read(alloc, text.as_bytes()) {
+        Ok(script) => script,
+        Err(_) => rt.panic("a script"),
+    }
+}
 
 /// The numbers of a command that have one type and stand side by side.
 fn side_by_side(command: &Command) -> [u64; 5] {
@@ -29,16 +38,21 @@ fn have(rt: &impl Abort, script: &Script, rows: &[(usize, usize, [u64; 5])]) {
     for (cpu, seq, want) in rows {
         let list = script.lists.as_slice().get(*cpu).expect(rt, "a list");
         let command = list.as_slice().get(*seq).expect(rt, "a command");
-        assert!(rt; side_by_side(command) == *want);
+        check(rt, side_by_side(command) == *want);
     }
 }
 
 /// The layout that `ALL` declares.
-fn is_declared(rt: &impl Abort, layout: &Layout) {
-    let counts = (layout.cpus, layout.frames, layout.procs, layout.files);
-    assert!(rt; (counts, layout.recovery, layout.early) == ((2, 4, 2, 1), false, true));
-    assert!(rt; layout.version == Version::One);
-    assert!(rt; matches!(layout.locked.as_slice(), [false, false]));
+fn is_declared(layout: &Layout) -> bool {
+    let counts = (layout.cpus == 2)
+        & (layout.frames == 4)
+        & (layout.procs == 2)
+        & (layout.files == 1);
+    counts
+        & !layout.recovery
+        & layout.early
+        & (layout.version == Version::One)
+        & matches!(layout.locked.as_slice(), [false, false])
 }
 
 const NUMBERS: &[(usize, usize, [u64; 5])] = &[
@@ -51,21 +65,17 @@ const NUMBERS: &[(usize, usize, [u64; 5])] = &[
 
 #[test]
 fn numbers_go_to_the_fields_of_their_names(rt: HostRuntime) {
-    let script = read(rt.alloc(), ALL.as_bytes())
-        .ok()
-        .expect(&rt, "a script");
-    is_declared(&rt, &script.layout);
+    let script = script_of(&rt, rt.alloc(), ALL);
+    check(&rt, is_declared(&script.layout));
     have(&rt, &script, NUMBERS);
     drop(script);
 }
 
 #[test]
 fn a_script_of_version_2_is_read(rt: HostRuntime) {
-    let script = read(rt.alloc(), TWO.as_bytes())
-        .ok()
-        .expect(&rt, "a script");
-    assert!(&rt; script.layout.version == Version::Two);
-    assert!(&rt; matches!(script.layout.locked.as_slice(), [true]));
+    let script = script_of(&rt, rt.alloc(), TWO);
+    check(&rt, script.layout.version == Version::Two);
+    check(&rt, matches!(script.layout.locked.as_slice(), [true]));
     drop(script);
 }
 
@@ -75,9 +85,10 @@ const HOSTED: &str =
 
 #[test]
 fn a_guest_is_declared(rt: HostRuntime) {
-    let script = read(rt.alloc(), HOSTED.as_bytes())
-        .ok()
-        .expect(&rt, "a script");
-    assert!(&rt; matches!(script.layout.guests.as_slice(), [true, false]));
+    let script = script_of(&rt, rt.alloc(), HOSTED);
+    check(
+        &rt,
+        matches!(script.layout.guests.as_slice(), [true, false]),
+    );
     drop(script);
 }
