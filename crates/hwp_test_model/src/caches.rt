@@ -6,6 +6,7 @@ ghost use Rattle.hwp_script_read.specs.Valid.{IsValid};
 ghost use Rattle.hwp_tlb.specs.hwp_table_words.Known.{first_knowing};
 ghost use Rattle.hwp_tlb.specs.hwp_table_words.Seats.{IsTableOf};
 
+use crate::checking::check;
 use hwp_script_read::{List, Script, read};
 use hwp_tlb::{OfTable, TlbBoard, TlbCounts, TlbPass, TlbSeat, TlbShared, begin};
 use hwp_top_turns::play;
@@ -73,14 +74,17 @@ fn played<'a, N: OfTable>(
 
 /// Each seat counts what is due.
 fn count(rt: &impl Abort, seats: &[TlbSeat<'_>], due: &[[u64; 3]]) {
-    assert!(rt; seats.len() == due.len());
+    check(rt, seats.len() == due.len());
     for (seat, due) in seats.iter().zip(due) {
         let TlbCounts {
             hits,
             fills,
             flushes,
         } = seat.counts();
-        assert!(rt; [hits, fills, flushes] == *due);
+        check(
+            rt,
+            (hits == due[0]) & (fills == due[1]) & (flushes == due[2]),
+        );
     }
 }
 

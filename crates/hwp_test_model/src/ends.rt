@@ -6,6 +6,7 @@ ghost use Rattle.hwp_table.specs.hwp_table_words.Ends.{HasAll};
 ghost use Rattle.hwp_table.specs.hwp_table_words.Known.{first_knowing};
 ghost use Rattle.hwp_table.specs.hwp_table_words.Seats.{IsTableOf};
 
+use crate::checking::check;
 use crate::machine::machine;
 use hwp_page::{Body, Layout};
 use hwp_plain::{Machine, PlainBoard};
@@ -37,25 +38,26 @@ const WORDS: &[u64] = &[
     0, // Stop
 ];
 
-/// The page whose body is in a slot, and the number of its entries.
-fn page_in(slot: &Option<Body>) -> Option<(u16, u64)> {
-    match slot {
-        Some(body) => Some((body.page().0, body.len())),
-        None => None,
+/// The slot has the body of this page, with so many entries, or none.
+fn has(slot: &Option<Body>, page: &Option<(u16, u64)>) -> bool {
+    match (slot, page) {
+        (Some(body), Some((page, entries))) => (body.page().0 == *page) & (body.len() == *entries),
+        (None, None) => true,
+        _ => false,
     }
 }
 
 /// The slots have these pages.
 fn have(rt: &impl Abort, slots: &[Option<Body>], pages: &[Option<(u16, u64)>]) {
-    assert!(rt; slots.len() == pages.len());
+    check(rt, slots.len() == pages.len());
     for (slot, page) in slots.iter().zip(pages) {
-        assert!(rt; page_in(slot) == *page);
+        check(rt, has(slot, page));
     }
 }
 
 /// The machine has the words of the opening, nothing in its frames, and the page on its shelf without an entry.
 fn is_open(rt: &impl Abort, machine: &Machine) {
-    assert!(rt; machine.words.as_slice() == WORDS);
+    check(rt, machine.words.as_slice() == WORDS);
     have(rt, machine.frames.as_slice(), &[None, None]);
     have(rt, machine.shelves.as_slice(), &[Some((0, 0))]);
 }
@@ -101,7 +103,7 @@ fn dealt<N: OfTable, W: Ways>(
     let mut seats = board.seats().into_vec();
     let second = seats.pop().expect(rt, "the seat of processor 1");
     let first = seats.pop().expect(rt, "the seat of processor 0");
-    assert!(rt; seats.is_empty());
+    check(rt, seats.is_empty());
     let mut pass = first.pass();
     join(sheet, &mut pass, second.pass());
     pass

@@ -6,6 +6,8 @@
 #[cfg(test)]
 mod caches;
 #[cfg(test)]
+mod checking;
+#[cfg(test)]
 mod ends;
 #[cfg(test)]
 mod machine;

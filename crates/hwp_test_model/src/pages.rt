@@ -1,5 +1,6 @@
 //! A page of a file that was stored at, and fails: what its body allows, and what becomes of it.
 
+use crate::checking::check;
 use crate::machine::machine;
 use hwp_page::{
     Body, Code, Cpu, Entry, Line, List, Mask, Met, Page, PageState, Proc, Signal, Situation,
@@ -66,14 +67,16 @@ fn failure(rt: &impl Abort, alloc: Global, situation: Situation) -> What {
 }
 
 /// Each line has the fill of the file, translation 0 alone has a poison entry, and the page is in no frame.
-fn is_lost(rt: &impl Abort, state: &PageState) {
+fn is_lost(rt: &impl Abort, state: &PageState) -> bool {
     for number in 0..64 {
         let line = Line::new(number).expect(rt, "a line");
-        assert!(rt; state.val.get(line) == 9);
+        if state.val.get(line) != 9 {
+            return false;
+        }
     }
-    assert!(rt; state.bar.has(VSlot(0)) && state.bar.lowest_from(VSlot(1)).is_none());
-    assert!(rt; state.maps.lowest_from(VSlot(0)).is_none());
-    assert!(rt; !state.dirty && !state.cached);
+    let barred = state.bar.has(VSlot(0)) & state.bar.lowest_from(VSlot(1)).is_none();
+    let unmapped = state.maps.lowest_from(VSlot(0)).is_none();
+    barred & unmapped & !state.dirty & !state.cached
 }
 
 #[test]
@@ -81,7 +84,7 @@ fn a_page_of_a_file_that_was_stored_at_fails_as_a_dirty_one(rt: HostRuntime) {
     let alloc = rt.alloc();
     let mut body = stored(&rt, alloc);
     let clean = failure(&rt, alloc, Situation::FileClean);
-    assert!(rt; !body.allowed(&entry(clean)));
+    check(&rt, !body.allowed(&entry(clean)));
     add(&rt, &mut body, failure(&rt, alloc, Situation::FileDirty));
-    is_lost(&rt, body.state());
+    check(&rt, is_lost(&rt, body.state()));
 }

@@ -1,5 +1,6 @@
 //! References given back, and a page let go: the steps, and what they come to.
 
+use crate::checking::check;
 use crate::machine::machine;
 use hwp_core::{POISON, REFERENCE, Release, ReleaseAnswer, Task, Unhold, UnholdAnswer};
 use hwp_page::{Body, Cpu, Frame, Kind, Page, Who};
@@ -25,12 +26,12 @@ fn given_back(rt: &impl Abort, alloc: Global, steps: Steps) -> Option<ReleaseAns
     let layout = machine(rt, alloc, ONE_PAGE);
     let mut release = Release::new(FIRST, Frame(0), 2);
     for (kind, found) in steps {
-        assert!(rt; release.answer().is_none());
+        check(rt, release.answer().is_none());
         let step = release.plan().expect(rt, "a step");
-        assert!(rt; step.kind() == Some(*kind));
+        check(rt, step.kind() == Some(*kind));
         let _turn = release.settle(&layout, *found, None);
     }
-    assert!(rt; release.plan().is_none());
+    check(rt, release.plan().is_none());
     release.answer()
 }
 
@@ -49,14 +50,18 @@ fn let_go(
     let body = Body::new(alloc, &layout, Page(0)).expect(rt, "memory");
     let mut unhold = Unhold::new(FIRST, Page(0), frame, 2, body);
     for (kind, found) in steps {
-        assert!(rt; unhold.answer().is_none());
+        check(rt, unhold.answer().is_none());
         let step = unhold.plan().expect(rt, "a step");
-        assert!(rt; step.kind() == Some(*kind));
+        check(rt, step.kind() == Some(*kind));
         drop(unhold.give());
         let _turn = unhold.settle(&layout, *found, None);
     }
-    assert!(rt; unhold.plan().is_none());
+    check(rt, unhold.plan().is_none());
     unhold.answer()
+}
+
+fn is_done(answer: Option<ReleaseAnswer>) -> bool {
+    matches!(answer, Some(ReleaseAnswer::Done))
 }
 
 const LAST_OF_A_POISONED: Steps = &[
@@ -78,10 +83,11 @@ const OTHERS_OF_A_SOUND: Steps = &[(Kind::PutRef, 3 * REFERENCE)];
 #[test]
 fn the_last_references_to_a_poisoned_frame_retire_it(rt: HostRuntime) {
     let alloc = rt.alloc();
-    assert!(rt; given_back(&rt, alloc, LAST_OF_A_POISONED) == Some(ReleaseAnswer::Retired));
-    assert!(rt; given_back(&rt, alloc, OTHERS_OF_A_POISONED) == Some(ReleaseAnswer::Done));
-    assert!(rt; given_back(&rt, alloc, LAST_OF_A_SOUND) == Some(ReleaseAnswer::Done));
-    assert!(rt; given_back(&rt, alloc, OTHERS_OF_A_SOUND) == Some(ReleaseAnswer::Done));
+    let retired = given_back(&rt, alloc, LAST_OF_A_POISONED);
+    check(&rt, matches!(retired, Some(ReleaseAnswer::Retired)));
+    check(&rt, is_done(given_back(&rt, alloc, OTHERS_OF_A_POISONED)));
+    check(&rt, is_done(given_back(&rt, alloc, LAST_OF_A_SOUND)));
+    check(&rt, is_done(given_back(&rt, alloc, OTHERS_OF_A_SOUND)));
 }
 
 const WITH_ITS_FRAME: Steps = &[
@@ -95,6 +101,8 @@ const WITH_ITS_FRAME: Steps = &[
 #[test]
 fn a_page_is_let_go_with_its_frame_or_without_one(rt: HostRuntime) {
     let alloc = rt.alloc();
-    assert!(rt; let_go(&rt, alloc, Some(Frame(0)), WITH_ITS_FRAME) == Some(UnholdAnswer::Done));
-    assert!(rt; let_go(&rt, alloc, None, &[(Kind::UnlockPage, 1)]) == Some(UnholdAnswer::Done));
+    let answer = let_go(&rt, alloc, Some(Frame(0)), WITH_ITS_FRAME);
+    check(&rt, matches!(answer, Some(UnholdAnswer::Done)));
+    let answer = let_go(&rt, alloc, None, &[(Kind::UnlockPage, 1)]);
+    check(&rt, matches!(answer, Some(UnholdAnswer::Done)));
 }

@@ -8,6 +8,7 @@ ghost use Rattle.hwp_core.specs.Holds as holds;
 ghost use Rattle.hwp_core.specs.Unholds.{LetsGo};
 ghost use Rattle.hwp_fault_fill.specs.Takes.{Fits};
 
+use crate::checking::check;
 use crate::machine::machine;
 use hwp_core::{Board, Hold, Task, Turn, Unhold};
 use hwp_fault_fill::{Take, TakeAnswer};
@@ -86,8 +87,7 @@ fn turn_of<A: Task, B: Task>(
 
 /// The turn ended so, with a step of this kind or none.
 pub(crate) fn is_turn(rt: &impl Abort, made: (Turn, Option<Kind>), turn: Turn, kind: Option<Kind>) {
-    assert!(rt; made.0 == turn);
-    assert!(rt; made.1 == kind);
+    check(rt, (made.0 == turn) & (made.1 == kind));
 }
 
 /// Makes these turns: whether each is processor 1's, how it ends, and the kind of step that it makes.
@@ -127,7 +127,7 @@ fn of_two_processors_one_reserves_the_only_frame(rt: HostRuntime) {
     let mut first = taking(&board, 0);
     let mut second = taking(&board, 1);
     play(&rt, &mut board, &mut first, &mut second, ONE_FRAME);
-    assert!(rt; first.answer() == Some(TakeAnswer::NoFrame));
+    check(&rt, matches!(first.answer(), Some(TakeAnswer::NoFrame)));
 }
 
 /// Two processors, a frame and an anonymous page.
@@ -212,7 +212,7 @@ const WORDS: &[u64] = &[
 #[test]
 fn of_two_processors_one_waits_for_the_page(rt: HostRuntime) {
     let mut board = opened_with_page(&rt, rt.alloc());
-    assert!(&rt; board.words() == WORDS);
+    check(&rt, board.words() == WORDS);
     let mut first = holding(&board, 0);
     let mut second = holding(&board, 1);
     play(&rt, &mut board, &mut first, &mut second, FIRST_HOLDS);
@@ -220,5 +220,5 @@ fn of_two_processors_one_waits_for_the_page(rt: HostRuntime) {
     play(&rt, &mut board, &mut first, &mut second, SECOND_HOLDS);
     let mut second = let_go(&rt, second, 1);
     play(&rt, &mut board, &mut first, &mut second, SECOND_LETS_GO);
-    assert!(&rt; board.words() == WORDS);
+    check(&rt, board.words() == WORDS);
 }

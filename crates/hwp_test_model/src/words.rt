@@ -8,6 +8,7 @@ ghost use Rattle.hwp_core.specs.Unlocks as unlocks;
 ghost use Rattle.hwp_fault_fill.specs.Takes as takes;
 ghost use Rattle.hwp_test_model.specs.TakenFrames.{taken};
 
+use crate::checking::check;
 use crate::machine::machine;
 use crate::turns::is_turn;
 use hwp_core::{Board, Task, Turn, Unlock};
@@ -62,12 +63,13 @@ fn take(board: &mut PlainBoard, task: &mut Take) -> (Turn, Option<Kind>)
     board.advance(Cpu(0), task)
 }
 
-/// The available word, the free word and the word of frame 1.
-fn three_words(rt: &impl Abort, board: &PlainBoard) -> [u64; 3] {
-    let words = board.words();
-    match (words.get(4), words.get(3), words.get(1)) {
-        (Some(available), Some(free), Some(frame)) => [*available, *free, *frame],
-        _ => panic!(rt; "three words"),
+/// The available word, the free word and the word of frame 1 are these.
+fn are_words(words: &[u64], want: &[u64; 3]) -> bool {
+    match words {
+        [_, frame, _, free, available, ..] => {
+            (*available == want[0]) & (*free == want[1]) & (*frame == want[2])
+        }
+        _ => false,
     }
 }
 
@@ -87,7 +89,7 @@ fn takes(rt: &impl Abort, board: &mut PlainBoard, task: &mut Take, steps: Steps)
 {
     for (kind, words) in steps {
         is_turn(rt, take(board, task), Turn::Moved, Some(*kind));
-        assert!(rt; three_words(rt, board) == *words);
+        check(rt, are_words(board.words(), words));
     }
 }
 
@@ -100,7 +102,7 @@ fn lets_go(rt: &impl Abort, board: &mut PlainBoard, task: &mut Unlock, steps: St
     for (kind, words) in steps {
         let made = board.advance(Cpu(0), task);
         is_turn(rt, made, Turn::Moved, Some(*kind));
-        assert!(rt; three_words(rt, board) == *words);
+        check(rt, are_words(board.words(), words));
     }
     let made = board.advance(Cpu(0), task);
     is_turn(rt, made, Turn::Finished, None);
@@ -132,7 +134,7 @@ fn a_frame_is_taken_and_let_go_in_nine_steps(rt: HostRuntime) {
     let Some(TakeAnswer::Taken(frame)) = task.answer() else {
         panic!(&rt; "a frame")
     };
-    assert!(&rt; frame == Frame(1));
+    check(&rt, frame == Frame(1));
     let mut task = Unlock::new(task.who(), frame, None);
     lets_go(&rt, &mut board, &mut task, LET_GO);
 }
