@@ -2,6 +2,7 @@
 
 ghost use Rattle.std.specs.Prelude.{◌<◌};
 
+use crate::checking::check;
 use hwp_io::{MemSink, MemSource};
 use hwp_top_step::top;
 use std::alloc::Global;
@@ -27,6 +28,15 @@ fn words_of(rt: &impl Abort, alloc: Global, words: &[&str]) -> Vec<String> {
     list
 }
 
+fn numbers_of(rt: &impl Abort, alloc: Global, numbers: &[u64]) -> Vec<u64> {
+    numbers.to_vec(alloc).expect(rt, "memory")
+}
+
+fn source_of(rt: &impl Abort, alloc: Global, script: &[u8], read: &[u64]) -> MemSource {
+    let script = script.to_vec(alloc).expect(rt, "memory");
+    MemSource::new(script, numbers_of(rt, alloc, read))
+}
+
 /// A call of `top` over memory: the source fails at the read, the sink, which takes so many bytes a write, at the write, and the
 /// error sink at the last of these.
 pub fn call_untold(
@@ -41,22 +51,15 @@ pub fn call_untold(
     requires { 0 < sink.0 }
 {
     let list = words_of(rt, alloc, words);
-    let (take, write) = sink;
-    let script = script.to_vec(alloc).expect(rt, "memory");
-    let mut src = MemSource::new(script, read.to_vec(alloc).expect(rt, "memory"));
-    let mut out = MemSink::new(alloc, take, write.to_vec(alloc).expect(rt, "memory"));
-    let mut err = MemSink::new(alloc, 4096, untold.to_vec(alloc).expect(rt, "memory"));
+    let mut src = source_of(rt, alloc, script, read);
+    let mut out = MemSink::new(alloc, sink.0, numbers_of(rt, alloc, sink.1));
+    let mut err = MemSink::new(alloc, 4096, numbers_of(rt, alloc, untold));
     let done = top(alloc, list.as_slice(), &mut src, &mut out, &mut err);
-    let reported = done.report.is_some();
-    let ended = done.ended.is_some();
-    let tlb = done.tlb.is_some();
-    let status = done.status;
-    drop(done);
     Left {
-        reported,
-        ended,
-        tlb,
-        status,
+        reported: matches!(done.report, Some(_)),
+        ended: matches!(done.ended, Some(_)),
+        tlb: matches!(done.tlb, Some(_)),
+        status: done.status,
         out,
         err,
     }
@@ -76,25 +79,23 @@ pub fn call(
     call_untold(rt, alloc, words, script, read, sink, &[])
 }
 
-/// The report that `step` writes of a script, with nothing that fails.
-pub fn report_of(rt: &impl Abort, alloc: Global, script: &str) -> MemSink {
+/// What `step` leaves of a script, with nothing that fails: a report.
+pub fn report_of(rt: &impl Abort, alloc: Global, script: &str) -> Left {
     let left = call(rt, alloc, &["step"], script.as_bytes(), &[], (4096, &[]));
-    let Left { reported, out, .. } = left;
-    assert!(rt; reported);
-    out
+    check(rt, left.reported);
+    left
 }
 
 /// The call gave a table without translation caches or not, and one with them or not.
 pub fn has_tables(rt: &impl Abort, left: &Left, ended: bool, tlb: bool) {
-    assert!(rt; left.ended == ended);
-    assert!(rt; left.tlb == tlb);
+    check(rt, (left.ended == ended) & (left.tlb == tlb));
 }
 
 /// The call gave a report or not, ended with the status, and left these bytes on `out` and on `err`. What it left is let go here.
 pub fn leaves(rt: &impl Abort, left: Left, reported: bool, status: u8, out: &[u8], err: &[u8]) {
-    assert!(rt; left.out.bytes() == out);
-    assert!(rt; left.err.bytes() == err);
-    assert!(rt; left.reported == reported);
-    assert!(rt; left.status == status);
-    drop(left);
+    let ended = (left.reported == reported) & (left.status == status);
+    check(
+        rt,
+        ended & (left.out.bytes() == out) & (left.err.bytes() == err),
+    );
 }

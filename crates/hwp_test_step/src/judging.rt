@@ -1,5 +1,6 @@
 //! Two processors under every order of their first turns: the checker calls each report legal.
 
+use crate::checking::check;
 use crate::helpers::{call, leaves, report_of};
 use std::alloc::Global;
 use std::process::Abort;
@@ -33,10 +34,9 @@ pub fn are_legal(rt: &impl Abort, alloc: Global, script: &str, report: &[u8]) {
 
 /// The report that a script gives begins so, and is legal.
 pub fn gives_legal(rt: &impl Abort, alloc: Global, script: &str, head: &str) {
-    let out = report_of(rt, alloc, script);
-    let report = out.bytes();
-    assert!(rt; report.starts_with(head.as_bytes()));
-    are_legal(rt, alloc, script, report);
+    let left = report_of(rt, alloc, script);
+    check(rt, left.out.bytes().starts_with(head.as_bytes()));
+    are_legal(rt, alloc, script, left.out.bytes());
 }
 
 /// Each order of so many turns gives a report that is legal.
