@@ -2,6 +2,7 @@
 
 ghost use Rattle.std.specs.Prelude.{◌<◌};
 
+use crate::checking::check;
 use hwp_io::{MemSink, MemSource};
 use hwp_top::{Gate, top_run};
 use std::alloc::Global;
@@ -20,6 +21,24 @@ pub struct Left {
     pub err: MemSink,
 }
 
+fn words_of(rt: &impl Abort, alloc: Global, words: &[&str]) -> Vec<String> {
+    let mut list = Vec::new(alloc);
+    for word in words {
+        let word = String::from_str(alloc, word).expect(rt, "memory");
+        list.push(word).expect(rt, "memory");
+    }
+    list
+}
+
+fn numbers_of(rt: &impl Abort, alloc: Global, numbers: &[u64]) -> Vec<u64> {
+    numbers.to_vec(alloc).expect(rt, "memory")
+}
+
+fn source_of(rt: &impl Abort, alloc: Global, script: &[u8], read: &[u64]) -> MemSource {
+    let script = script.to_vec(alloc).expect(rt, "memory");
+    MemSource::new(script, numbers_of(rt, alloc, read))
+}
+
 /// A call of these words over memory: the source fails at the read, and the sink, which takes so many bytes a write, at the write.
 pub fn call<R: Abort + Threads + Wait + Sync>(
     rt: &R,
@@ -32,15 +51,9 @@ pub fn call<R: Abort + Threads + Wait + Sync>(
 ) -> Left
     requires { 0 < sink.0 }
 {
-    let mut list = Vec::new(alloc);
-    for word in words {
-        let word = String::from_str(alloc, word).expect(rt, "memory");
-        list.push(word).expect(rt, "memory");
-    }
-    let (take, write) = sink;
-    let script = script.as_bytes().to_vec(alloc).expect(rt, "memory");
-    let mut src = MemSource::new(script, read.to_vec(alloc).expect(rt, "memory"));
-    let mut out = MemSink::new(alloc, take, write.to_vec(alloc).expect(rt, "memory"));
+    let list = words_of(rt, alloc, words);
+    let mut src = source_of(rt, alloc, script.as_bytes(), read);
+    let mut out = MemSink::new(alloc, sink.0, numbers_of(rt, alloc, sink.1));
     let mut err = MemSink::new(alloc, 4096, Vec::new(alloc));
     let done = top_run(
         rt,
@@ -51,16 +64,11 @@ pub fn call<R: Abort + Threads + Wait + Sync>(
         &mut err,
         gate,
     );
-    let reported = done.report.is_some();
-    let ended = done.ended.is_some();
-    let tlb = done.tlb.is_some();
-    let status = done.status;
-    drop(done);
     Left {
-        reported,
-        ended,
-        tlb,
-        status,
+        reported: matches!(done.report, Some(_)),
+        ended: matches!(done.ended, Some(_)),
+        tlb: matches!(done.tlb, Some(_)),
+        status: done.status,
         out,
         err,
     }
@@ -68,15 +76,14 @@ pub fn call<R: Abort + Threads + Wait + Sync>(
 
 /// The call gave a table without translation caches or not, and one with them or not.
 pub fn has_tables(rt: &impl Abort, left: &Left, ended: bool, tlb: bool) {
-    assert!(rt; left.ended == ended);
-    assert!(rt; left.tlb == tlb);
+    check(rt, (left.ended == ended) & (left.tlb == tlb));
 }
 
 /// The call gave a report or not, ended with the status, and left these bytes on `out` and on `err`. What it left is let go here.
 pub fn leaves(rt: &impl Abort, left: Left, reported: bool, status: u8, out: &[u8], err: &[u8]) {
-    assert!(rt; left.out.bytes() == out);
-    assert!(rt; left.err.bytes() == err);
-    assert!(rt; left.reported == reported);
-    assert!(rt; left.status == status);
-    drop(left);
+    let ended = (left.reported == reported) & (left.status == status);
+    check(
+        rt,
+        ended & (left.out.bytes() == out) & (left.err.bytes() == err),
+    );
 }

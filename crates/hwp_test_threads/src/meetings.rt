@@ -1,5 +1,6 @@
 //! Processors that meet inside their commands: they move at the same time, each on a thread of its own.
 
+use crate::checking::check;
 use crate::gates::{Hold, Meeting, bit};
 use crate::helpers::{call, leaves};
 use hwp_top::Point;
@@ -123,12 +124,9 @@ fn one_answers_while_the_other_is_inside_its_command(rt: HostRuntime) {
     let gate = Meeting::new(&holds);
     let left = call(&rt, rt.alloc(), &["run"], TWO, &[], (4096, &[]), &gate);
     // Both points of one command of processor 0, and of two of processor 1.
-    assert!(rt; !gate.is_missed());
-    assert!(rt; gate.came() == 0xf03);
-    assert!(rt; left.out.bytes().ends_with(ANSWERED));
-    assert!(rt; left.reported);
-    assert!(rt; left.status == 0);
-    drop(left);
+    check(&rt, !gate.is_missed() & (gate.came() == 0xf03));
+    check(&rt, left.reported & (left.status == 0));
+    check(&rt, left.out.bytes().ends_with(ANSWERED));
 }
 
 #[test]
@@ -144,8 +142,10 @@ fn eight_are_inside_their_commands_at_once(rt: HostRuntime) {
     let gate = Meeting::new(&holds);
     let left = call(&rt, rt.alloc(), &["run"], EIGHT, &[], (4096, &[]), &gate);
     // Both points of one command of each.
-    assert!(rt; !gate.is_missed());
-    assert!(rt; gate.came() == 0x0303_0303_0303_0303);
+    check(
+        &rt,
+        !gate.is_missed() & (gate.came() == 0x0303_0303_0303_0303),
+    );
     leaves(&rt, left, true, 0, EIGHT_DONE, b"");
 }
 
@@ -159,7 +159,6 @@ fn each_thread_is_told_of_a_loss_once(rt: HostRuntime) {
     let gate = Meeting::new(&holds);
     let left = call(&rt, rt.alloc(), &["run"], LOSS, &[], (4096, &[]), &gate);
     // Both points of four commands of processor 0, and of two of processor 1.
-    assert!(rt; !gate.is_missed());
-    assert!(rt; gate.came() == 0xfff);
+    check(&rt, !gate.is_missed() & (gate.came() == 0xfff));
     leaves(&rt, left, true, 0, TOLD, b"");
 }
