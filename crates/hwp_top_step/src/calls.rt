@@ -18,12 +18,26 @@ use std::process::ExitCode;
 
 /// How a call ended: its exit status; and, where it made a run, the report, and what the run's table was closed with: `tlb` has it of
 /// a table with translation caches, `ended` of any other.
-#[derive(Drop)]
 pub struct Done {
     pub status: u8,
     pub report: Option<Report>,
     pub ended: Option<Ended<Bare>>,
     pub tlb: Option<Ended<Cached>>,
+}
+
+// Proved here once: crates above that let one go cite it.
+impl Drop for Done {
+    fn drop(self) {
+        let Done {
+            status: _,
+            report,
+            ended,
+            tlb,
+        } = self;
+        drop(report);
+        drop(ended);
+        drop(tlb);
+    }
 }
 
 impl Done {
