@@ -1,11 +1,10 @@
-ghost use Rattle.std.specs.Prelude.{◌≡◌, ◌+◌, ◌<◌, ◌≤◌, length, slice_get, None, IsSome, IfOk, OnErr, IsSomeAnd};
+ghost use Rattle.std.specs.Prelude.{◌≡◌, ◌+◌, ◌<◌, ◌≤◌, length, slice_get, None, IsSome, IfOk, OnErr};
 ghost use Rattle.std.specs.List.{list_any};
 ghost use Rattle.std.specs.Arc.{arc_value};
 ghost use Rattle.hwp_cpu_row.specs.hwp_geom.Layout.{IsSound};
 ghost use Rattle.hwp_cpu_row.specs.hwp_geom.Limits.{command_limit};
 ghost use Rattle.hwp_cpu_row.specs.hwp_law_commands.Commands.{is_watch};
-ghost use Rattle.hwp_cpu_command_laws.specs.hwp_cpu_command.FileHandles.{HasChangeWithin};
-ghost use Rattle.hwp_cpu.specs.Processors.{AreCommands, AtBeginning, BeginsAt, IsAnswered, IsReady, MayTellOf, at_number, command_now, left_of, line_of, told_local};
+ghost use Rattle.hwp_cpu.specs.Processors.{AreCommands, AtBeginning, BeginsAt, MayTellOf, at_number, left_of, line_of, told_local};
 
 use crate::course::Course;
 use hwp_cpu_row::{
@@ -16,7 +15,6 @@ use std::alloc::{AllocError, Global};
 use std::sync::Arc;
 
 /// The commands of one processor, which run one after the other. Each comes to a row.
-#[derive(Drop)]
 pub struct Processor {
     alloc: Global,
     layout: Arc<Layout, Global>,
@@ -47,7 +45,8 @@ impl Processor {
         let list = List::from_vec(Vec::from_slice(alloc, commands)?);
         let rows = Vec::with_capacity(alloc, commands.len())?;
         let mut local = Local::new(alloc, &layout, has_watch(commands))?;
-        let course = first(alloc, &layout, cpu, commands, &mut local);
+        let mut course = Some(Course::idle(alloc, Who { cpu, seq: 0 }));
+        begin_next(alloc, &layout, cpu, commands, 0, &mut local, &mut course);
         Ok(Processor {
             alloc,
             layout,
@@ -67,7 +66,15 @@ impl Processor {
         ensures all { IfOk result (λ rows. (rows ≡ self.rows.items) × (self.course ≡ None)) }
         ensures gave_up { OnErr result (IsSome self.course) }
     {
-        let Processor { rows, course, .. } = self;
+        let Processor {
+            alloc: _,
+            layout: _,
+            cpu: _,
+            commands: _,
+            rows,
+            local: _,
+            course,
+        } = self;
         let gave_up = course.is_some();
         // here, and not part by part at each exit
         drop(course);
@@ -76,32 +83,20 @@ impl Processor {
         }
         Ok(List::from_vec(rows))
     }
+}
 
-    /// The command that runs is answered so: its row is kept, and the next one begins with what it left.
-    fn answer(&mut self, answer: Answer)
-        requires ready { IsReady self.old }
-        requires running { IsSomeAnd self.old.course (λ c. HasChangeWithin c.own) }
-        requires room { length self.old.rows.items < length self.old.commands }
-        requires meets { MayTellOf (arc_value self.old.layout) (command_now self.old) answer self.old.local.guests }
-        ensures { IsSomeAnd self.old.course (λ c. IsAnswered self.old c answer self.new) }
-    {
-        let Some(course) = &mut self.course else {
-            return;
-        };
-        let mut row = course.finish(self.alloc, answer, &mut self.local);
-        let number = self.rows.len();
-        let commands = self.commands.as_slice();
-        row.guest = remember(&self.layout, commands, number, answer, &mut self.local);
-        self.rows.push_reserved(row);
-        begin_next(
-            self.alloc,
-            &self.layout,
-            self.cpu,
-            commands,
-            number + 1,
-            &mut self.local,
-            &mut self.course,
-        );
+// by hand, so that it is proved once: with a derive each function that lets one go proves anew how each part goes
+impl Drop for Processor {
+    fn drop(self) {
+        let Processor {
+            alloc: _,
+            layout: _,
+            cpu: _,
+            commands: _,
+            rows: _,
+            local: _,
+            course: _,
+        } = self;
     }
 }
 
@@ -135,32 +130,9 @@ fn has_watch(commands: &[Command]) -> bool
         .any(|command| matches!(*command, Command::Watch { .. }))
 }
 
-/// The first command at its beginning; `None` where there is none. It takes what the banks hold, if it can add to that, gets the number
-/// of its file's handle, and has the processor's collector while it runs. It is acted on through the translations that stand for those that
-/// it names.
-fn first(
-    alloc: Global,
-    layout: &Layout,
-    cpu: Cpu,
-    commands: &[Command],
-    local: &mut Local,
-) -> Option<Course>
-    requires sound { IsSound layout.now }
-    requires commands { AreCommands layout.now cpu commands.now }
-    ensures begins { BeginsAt layout.now (at_number cpu 0) (slice_get commands.now 0) local.old result }
-    ensures local { local.new ≡ left_of result local.old }
-{
-    let Some(command) = commands.get(0) else {
-        return None;
-    };
-    let who = Who { cpu, seq: 0 };
-    let copies = local.cows.copied_from(command);
-    let acting = local.cows.acting(layout, command);
-    let admit = local.guests.admission(layout, command);
-    Some(Course::new(alloc, layout, who, acting, copies, admit, local))
-}
-
-/// The command of this number begins in the same way, in place of the one that runs; past the last none runs.
+/// The command of this number begins, in place of the one that runs; past the last none runs. It takes what the banks hold, if it can add to
+/// that, gets the number of its file's handle, and has the processor's collector while it runs. It is acted on through the translations that
+/// stand for those that it names.
 fn begin_next(
     alloc: Global,
     layout: &Layout,
@@ -241,7 +213,21 @@ impl Task for Processor {
         let Some(answer) = course.answer() else {
             return turn;
         };
-        self.answer(answer);
+        // it is answered: its row is kept, and the next one begins with what it left
+        let mut row = course.finish(self.alloc, answer, &mut self.local);
+        let number = self.rows.len();
+        let commands = self.commands.as_slice();
+        row.guest = remember(&self.layout, commands, number, answer, &mut self.local);
+        self.rows.push_reserved(row);
+        begin_next(
+            self.alloc,
+            &self.layout,
+            self.cpu,
+            commands,
+            number + 1,
+            &mut self.local,
+            &mut self.course,
+        );
         Turn::Answered
     }
 }
