@@ -12,7 +12,7 @@ returns-clause-output c =
         report_of = subst (λ (s : Script). IsReportOfRun s c.in-Ok-run_in_turns.run'.report c.in-Ok-run_in_turns.run'.ended) same
             (record { run = c.in-Ok-run_in_turns.ensures.of_run; lawful = c.in-Ok-run_in_turns.ensures.lawful; core = c.in-Ok-run_in_turns.ensures.core; table = c.in-Ok-run_in_turns.ensures.ended });
         status_is = refl;
-        text_is = c.in-Ok-print.ensures ∙ ap (summary_text c.args.seed) c.summary.ensures;
+        text_is = c.in-Ok-print_summary.ensures ∙ ap (summary_text c.args.seed) c.summary.ensures;
       },
       refl,
     )
