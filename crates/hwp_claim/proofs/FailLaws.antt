@@ -15,7 +15,7 @@ use Rattle.hwp_claim_frame.specs.hwp_core_task.declared.Turn.{Turn}
 use Rattle.hwp_claim_frame.specs.hwp_core_task.Calls.{CanMake, IsOnTurn, Steps, logs}
 use Rattle.hwp_claim_frame.proofs.of_hwp_core_task.StepLeaves.{on-turn-after}
 use Rattle.hwp_claim_frame.proofs.of_hwp_core.TaskTells.{Tells, empty-tells}
-use Rattle.hwp_claim_act.proofs.of_hwp_evict.PageStates.{is-cached, state-is}
+use Rattle.hwp_claim_frame.proofs.of_hwp_core.PageStates.{is-cached, state-is}
 use Rattle.hwp_claim_act.specs.declared.abandon.Failed.{Failed}
 use Rattle.hwp_claim_act.specs.declared.act.Act.{Act}
 use Rattle.hwp_claim_act.specs.Abandoned.{HasFailed}

@@ -7,7 +7,7 @@ use Rattle.hwp_claim_frame.specs.hwp_geom.declared.Who.{Who}
 use Rattle.hwp_claim_frame.specs.hwp_kill.declared.Seen.{Seen}
 use Rattle.hwp_claim_frame.specs.hwp_page.History.{BodyValue}
 use Rattle.hwp_claim_frame.specs.hwp_core_rule.Words.{Words}
-use Rattle.hwp_claim_act.specs.hwp_evict.declared.clear.Clear.{Clear}
+use Rattle.hwp_claim_frame.specs.hwp_core.declared.clear.Clear.{Clear}
 use Rattle.hwp_claim_act.specs.declared.act.Act.{Act}
 use Rattle.hwp_claim_act.specs.declared.act.ActAt.{ActAt}
 use Rattle.hwp_claim_act.specs.declared.act.ActAt.TheVariants as act_at

@@ -17,7 +17,7 @@ use Rattle.hwp_claim_act.specs.declared.act.ActAt.TheVariants as act_at
 use Rattle.hwp_claim_act.specs.Acting as acting
 use Rattle.hwp_claim_act.specs.Acts as acts
 use Rattle.hwp_claim_act.specs.Reads as reads
-use Rattle.hwp_claim_act.specs.hwp_evict.Clears as clears
+use Rattle.hwp_claim_frame.specs.hwp_core.Clears as clears
 use Rattle.hwp_claim_frame.specs.declared.claim.Claim.{Claim}
 use Rattle.hwp_claim_frame.specs.declared.claim.ClaimAt.{ClaimAt}
 use Rattle.hwp_claim_frame.specs.declared.claim.ClaimAt.TheVariants as claim_at

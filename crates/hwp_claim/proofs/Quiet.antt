@@ -32,7 +32,7 @@ use Rattle.hwp_claim_frame.specs.hwp_core.GiveUps as give_ups
 use Rattle.hwp_claim_frame.specs.hwp_core.Releases as releases
 use Rattle.hwp_claim_frame.specs.hwp_core.Unholds as unholds
 use Rattle.hwp_claim_frame.specs.hwp_core.Unlocks as unlocks
-use Rattle.hwp_claim_act.specs.hwp_evict.Clears as clears
+use Rattle.hwp_claim_frame.specs.hwp_core.Clears as clears
 use Rattle.hwp_claim_act.specs.declared.abandon.AbandonAt.{AbandonAt}
 use Rattle.hwp_claim_act.specs.declared.abandon.AbandonAt.TheVariants as abandon_at
 use Rattle.hwp_claim_act.specs.declared.act.Act.{Act}

@@ -10,50 +10,49 @@ use Rattle.std.specs.FinSet as set
 use Rattle.std.specs.Int.{from_bool}
 use Rattle.std.specs.List.{find, list_any, sum_by}
 use Rattle.std.specs.Ordering.{nat_cmp}
-use Rattle.hwp_evict.specs.hwp_geom.declared.FileNo.{FileNo}
-use Rattle.hwp_evict.specs.hwp_geom.declared.Frame.{Frame}
-use Rattle.hwp_evict.specs.hwp_geom.declared.Layout.{Layout}
-use Rattle.hwp_evict.specs.hwp_geom.declared.Page.{Page}
-use Rattle.hwp_evict.specs.hwp_geom.declared.PageKind.{PageKind}
-use Rattle.hwp_evict.specs.hwp_geom.declared.PageKind.TheVariants.{Anon, File}
-use Rattle.hwp_evict.specs.hwp_geom.declared.Proc.{Proc}
-use Rattle.hwp_evict.specs.hwp_geom.declared.Thread.{Thread}
-use Rattle.hwp_evict.specs.hwp_geom.declared.TransDecl.{TransDecl}
-use Rattle.hwp_evict.specs.hwp_geom.Layout.{IsBacked, IsSound}
-use Rattle.hwp_evict.specs.hwp_kill.declared.Signal.{Signal}
-use Rattle.hwp_evict.specs.hwp_kill.Kill.{IsIn}
-use Rattle.hwp_evict.proofs.of_hwp_kill.PolicyOwners.{nobody, process_declared, within_threads}
-use Rattle.hwp_evict.specs.hwp_page.declared.Entry.{Entry}
-use Rattle.hwp_evict.specs.hwp_page.declared.PageState.{PageState}
-use Rattle.hwp_evict.specs.hwp_page.Endings.{ends, has_ending, is_ending}
-use Rattle.hwp_evict.specs.hwp_page.History.{BodyValue}
-use Rattle.hwp_evict.specs.hwp_page.Losses.{file_behind, is_loss}
-use Rattle.hwp_evict.specs.hwp_page.Situations.{always_signals, is_signalling}
-use Rattle.hwp_evict.specs.hwp_words.Names.{frame_name}
-use Rattle.hwp_evict.specs.hwp_words.Translations.{pte_word}
-use Rattle.hwp_evict.specs.hwp_words.declared.Pte.TheVariants as ptes
-use Rattle.hwp_evict.specs.hwp_core_rule.declared.FrameLock.{FrameLock}
-use Rattle.hwp_evict.specs.hwp_core_rule.declared.InHand.{InHand}
-use Rattle.hwp_evict.specs.hwp_core_rule.declared.Log.{Log}
-use Rattle.hwp_evict.specs.hwp_core_rule.declared.Made.{Made}
-use Rattle.hwp_evict.specs.hwp_core_rule.declared.Mark.{Mark}
-use Rattle.hwp_evict.specs.hwp_core_rule.declared.Step.{Step}
-use Rattle.hwp_evict.specs.hwp_core_rule.declared.Step.TheVariants as steps
-use Rattle.hwp_evict.specs.hwp_core_rule.declared.View.{View}
-use Rattle.hwp_evict.specs.hwp_core_rule.Asks.{CanUnlockPage, HasPage}
-use Rattle.hwp_evict.specs.hwp_core_rule.Lists.{SomeMember}
-use Rattle.hwp_evict.specs.hwp_core_rule.Logs.{log_of, state_of, file_of, fitting_word}
-use Rattle.hwp_evict.specs.hwp_core_rule.Rule.{losing_of}
-use Rattle.hwp_evict.specs.hwp_core_rule.Views.{is_body_of, listed, listed_of, locks_on, loss_made, losses_made, lost_by, made_from, more_of, refs_on, stamp_of}
-use Rattle.hwp_evict.specs.hwp_core_rule.parts.Counter.{is_poisoning}
-use Rattle.hwp_evict.specs.hwp_core_rule.parts.Losses.{IsPoisonLoss}
-use Rattle.hwp_evict.proofs.of_hwp_core_rule.Lists.{same-number}
-use Rattle.hwp_evict.specs.hwp_core_task.Calls.{CanMake, FitsLayout, logs}
-use Rattle.hwp_evict.specs.hwp_core_task.Hands.{Hand}
-use Rattle.hwp_evict.proofs.of_hwp_core_task.StepLeaves.{can-make, can-put}
-use Rattle.hwp_evict.specs.hwp_core.Holds.{page_lock}
-use Rattle.hwp_evict.proofs.EntryHome.{put-fits-of}
-use Rattle.hwp_evict.proofs.VacateLaws.{can-uncache, lock-held, refs-are}
+use Rattle.hwp_core.specs.hwp_geom.declared.FileNo.{FileNo}
+use Rattle.hwp_core.specs.hwp_geom.declared.Frame.{Frame}
+use Rattle.hwp_core.specs.hwp_geom.declared.Layout.{Layout}
+use Rattle.hwp_core.specs.hwp_geom.declared.Page.{Page}
+use Rattle.hwp_core.specs.hwp_geom.declared.PageKind.{PageKind}
+use Rattle.hwp_core.specs.hwp_geom.declared.PageKind.TheVariants.{Anon, File}
+use Rattle.hwp_core.specs.hwp_geom.declared.Proc.{Proc}
+use Rattle.hwp_core.specs.hwp_geom.declared.Thread.{Thread}
+use Rattle.hwp_core.specs.hwp_geom.declared.TransDecl.{TransDecl}
+use Rattle.hwp_core.specs.hwp_geom.Layout.{IsBacked, IsSound}
+use Rattle.hwp_core.specs.hwp_kill.declared.Signal.{Signal}
+use Rattle.hwp_core.specs.hwp_kill.Kill.{IsIn}
+use Rattle.hwp_core.proofs.of_hwp_kill.PolicyOwners.{nobody, process_declared, within_threads}
+use Rattle.hwp_core.specs.hwp_page.declared.Entry.{Entry}
+use Rattle.hwp_core.specs.hwp_page.declared.PageState.{PageState}
+use Rattle.hwp_core.specs.hwp_page.Endings.{ends, has_ending, is_ending}
+use Rattle.hwp_core.specs.hwp_page.History.{BodyValue}
+use Rattle.hwp_core.specs.hwp_page.Losses.{file_behind, is_loss}
+use Rattle.hwp_core.specs.hwp_page.Situations.{always_signals, is_signalling}
+use Rattle.hwp_core.specs.hwp_words.Names.{frame_name}
+use Rattle.hwp_core.specs.hwp_words.Translations.{pte_word}
+use Rattle.hwp_core.specs.hwp_words.declared.Pte.TheVariants as ptes
+use Rattle.hwp_core.specs.hwp_core_rule.declared.FrameLock.{FrameLock}
+use Rattle.hwp_core.specs.hwp_core_rule.declared.InHand.{InHand}
+use Rattle.hwp_core.specs.hwp_core_rule.declared.Log.{Log}
+use Rattle.hwp_core.specs.hwp_core_rule.declared.Made.{Made}
+use Rattle.hwp_core.specs.hwp_core_rule.declared.Mark.{Mark}
+use Rattle.hwp_core.specs.hwp_core_rule.declared.Step.{Step}
+use Rattle.hwp_core.specs.hwp_core_rule.declared.Step.TheVariants as steps
+use Rattle.hwp_core.specs.hwp_core_rule.declared.View.{View}
+use Rattle.hwp_core.specs.hwp_core_rule.Asks.{CanUnlockPage, HasPage}
+use Rattle.hwp_core.specs.hwp_core_rule.Lists.{SomeMember}
+use Rattle.hwp_core.specs.hwp_core_rule.Logs.{log_of, state_of, file_of, fitting_word}
+use Rattle.hwp_core.specs.hwp_core_rule.Rule.{losing_of}
+use Rattle.hwp_core.specs.hwp_core_rule.Views.{is_body_of, listed, listed_of, locks_on, loss_made, losses_made, lost_by, made_from, more_of, refs_on, stamp_of}
+use Rattle.hwp_core.specs.hwp_core_rule.parts.Counter.{is_poisoning}
+use Rattle.hwp_core.specs.hwp_core_rule.parts.Losses.{IsPoisonLoss}
+use Rattle.hwp_core.proofs.of_hwp_core_rule.Lists.{same-number}
+use Rattle.hwp_core.specs.hwp_core_task.Calls.{CanMake, FitsLayout, logs}
+use Rattle.hwp_core.specs.hwp_core_task.Hands.{Hand}
+use Rattle.hwp_core.proofs.of_hwp_core_task.StepLeaves.{can-make, can-put}
+use Rattle.hwp_core.specs.Holds.{page_lock}
+use Rattle.hwp_core.proofs.VacateLaws.{can-uncache, lock-held, put-fits-of, refs-are}
 use Rattle.hwp_claim_act.specs.declared.abandon.Abandon.{Abandon}
 use Rattle.hwp_claim_act.specs.declared.abandon.AbandonAt.{AbandonAt}
 use Rattle.hwp_claim_act.specs.declared.abandon.AbandonAt.TheVariants as at

@@ -2,23 +2,23 @@
 use Rattle.std.proofs.Common.{◌≡◌, ℕ, ◌+◌, ◌-◌, ◌<◌, ◌≤◌, true, false, List, Option, Some, None, option_map, slice_get, refl, sym, ap, ◌∙◌, subst, arith}
 use Rattle.std.proofs.lemmas.Bool.{both_ways}
 use Rattle.std.proofs.lemmas.Option.{none-some, same_Some, slice_get_within}
-use Rattle.hwp_evict.specs.hwp_geom.declared.FileNo.{FileNo}
-use Rattle.hwp_evict.specs.hwp_geom.declared.Layout.{Layout}
-use Rattle.hwp_evict.specs.hwp_kill.declared.Signal.{Signal}
-use Rattle.hwp_evict.specs.hwp_kill.Limits.{signal_limit}
-use Rattle.hwp_evict.specs.hwp_page.History.{BodyValue}
-use Rattle.hwp_evict.specs.hwp_core_rule.declared.InHand.{InHand}
-use Rattle.hwp_evict.specs.hwp_core_rule.declared.Step.{Step}
-use Rattle.hwp_evict.specs.hwp_core_rule.declared.Step.TheVariants as steps
-use Rattle.hwp_evict.specs.hwp_core_rule.declared.View.{View}
-use Rattle.hwp_evict.specs.hwp_core_rule.Lasting.{IsMild}
-use Rattle.hwp_evict.specs.hwp_core_task.declared.Turn.{Turn}
-use Rattle.hwp_evict.specs.hwp_core_task.declared.Turn.TheVariants.{Moved}
-use Rattle.hwp_evict.specs.hwp_core_task.Boards.{view_of}
-use Rattle.hwp_evict.specs.hwp_core_task.Calls.{Steps, logs}
-use Rattle.hwp_evict.specs.hwp_core_task.Ranks.{IsRanked, is_waits}
-use Rattle.hwp_evict.proofs.of_hwp_core_task.StepRanks.{rank-of}
-use Rattle.hwp_evict.proofs.of_hwp_core_task.StepLeaves.{on-turn-after, steps-planned}
+use Rattle.hwp_core.specs.hwp_geom.declared.FileNo.{FileNo}
+use Rattle.hwp_core.specs.hwp_geom.declared.Layout.{Layout}
+use Rattle.hwp_core.specs.hwp_kill.declared.Signal.{Signal}
+use Rattle.hwp_core.specs.hwp_kill.Limits.{signal_limit}
+use Rattle.hwp_core.specs.hwp_page.History.{BodyValue}
+use Rattle.hwp_core.specs.hwp_core_rule.declared.InHand.{InHand}
+use Rattle.hwp_core.specs.hwp_core_rule.declared.Step.{Step}
+use Rattle.hwp_core.specs.hwp_core_rule.declared.Step.TheVariants as steps
+use Rattle.hwp_core.specs.hwp_core_rule.declared.View.{View}
+use Rattle.hwp_core.specs.hwp_core_rule.Lasting.{IsMild}
+use Rattle.hwp_core.specs.hwp_core_task.declared.Turn.{Turn}
+use Rattle.hwp_core.specs.hwp_core_task.declared.Turn.TheVariants.{Moved}
+use Rattle.hwp_core.specs.hwp_core_task.Boards.{view_of}
+use Rattle.hwp_core.specs.hwp_core_task.Calls.{Steps, logs}
+use Rattle.hwp_core.specs.hwp_core_task.Ranks.{IsRanked, is_waits}
+use Rattle.hwp_core.proofs.of_hwp_core_task.StepRanks.{rank-of}
+use Rattle.hwp_core.proofs.of_hwp_core_task.StepLeaves.{on-turn-after, steps-planned}
 use Rattle.hwp_claim_act.specs.declared.abandon.Abandon.{Abandon}
 use Rattle.hwp_claim_act.specs.declared.abandon.AbandonAt.{AbandonAt}
 use Rattle.hwp_claim_act.specs.declared.abandon.AbandonAt.TheVariants as at

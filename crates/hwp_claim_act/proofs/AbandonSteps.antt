@@ -5,45 +5,45 @@ use Rattle.std.proofs.lemmas.List.{append-nil, drop_all}
 use Rattle.std.proofs.lemmas.Option.{none-some, same_Some, slice_get_within}
 use Rattle.std.specs.Int.{from_bool}
 use Rattle.std.specs.List.{sum_by}
-use Rattle.hwp_evict.specs.hwp_geom.declared.FileNo.{FileNo}
-use Rattle.hwp_evict.specs.hwp_geom.declared.Frame.{Frame}
-use Rattle.hwp_evict.specs.hwp_geom.declared.Layout.{Layout}
-use Rattle.hwp_evict.specs.hwp_geom.declared.Page.{Page}
-use Rattle.hwp_evict.specs.hwp_geom.declared.Proc.{Proc}
-use Rattle.hwp_evict.specs.hwp_geom.declared.Who.{Who}
-use Rattle.hwp_evict.specs.hwp_kill.declared.Signal.{Signal}
-use Rattle.hwp_evict.specs.hwp_page.declared.Entry.{Entry}
-use Rattle.hwp_evict.specs.hwp_page.History.{BodyValue, Leads}
-use Rattle.hwp_evict.specs.hwp_page.Losses.{is_loss}
-use Rattle.hwp_evict.specs.hwp_words.Frames.{count_of, handled_of}
-use Rattle.hwp_evict.specs.hwp_core_rule.declared.InHand.{InHand}
-use Rattle.hwp_evict.specs.hwp_core_rule.declared.Log.{Log}
-use Rattle.hwp_evict.specs.hwp_core_rule.declared.Made.{Made}
-use Rattle.hwp_evict.specs.hwp_core_rule.declared.Mark.{Mark}
-use Rattle.hwp_evict.specs.hwp_core_rule.declared.SharedWord.TheVariants as places
-use Rattle.hwp_evict.specs.hwp_core_rule.declared.Ref.{Ref}
-use Rattle.hwp_evict.specs.hwp_core_rule.declared.Sight.{Sight}
-use Rattle.hwp_evict.specs.hwp_core_rule.declared.Stamp.{Stamp}
-use Rattle.hwp_evict.specs.hwp_core_rule.declared.Step.TheVariants as steps
-use Rattle.hwp_evict.specs.hwp_core_rule.declared.View.{View}
-use Rattle.hwp_evict.specs.hwp_core_rule.Asks.{Extends}
-use Rattle.hwp_evict.specs.hwp_core_rule.Logs.{log_of, state_of, file_of}
-use Rattle.hwp_evict.specs.hwp_core_rule.Steps.{is_last}
-use Rattle.hwp_evict.specs.hwp_core_rule.Views.{body_of, frame_in, hand_found, is_page_lock_of, killed_by, less_refs, listed, loss_made, losses_made, more_of, noted, refs_on, sighted, stamp_of, with_named, without}
-use Rattle.hwp_evict.specs.hwp_core_rule.Words.{words_of}
-use Rattle.hwp_evict.specs.hwp_core_rule.parts.Counter.{is_poisoning}
-use Rattle.hwp_evict.specs.hwp_core_rule.parts.Counts.{named}
-use Rattle.hwp_evict.proofs.of_hwp_core_rule.Lists.{at_map, same-number, some-last, some-push, term-le}
-use Rattle.hwp_evict.proofs.of_hwp_core_rule.MetWords.{cache-word, frame-named, frame-word, lock-knows}
-use Rattle.hwp_evict.specs.hwp_core_task.Calls.{Steps, logs}
-use Rattle.hwp_evict.specs.hwp_core_task.Hands.{Hand, empty, hand_of, killing, listing, listing_of, putting}
-use Rattle.hwp_evict.proofs.of_hwp_core_task.StepLeaves.{hand-planned}
-use Rattle.hwp_evict.specs.hwp_core_task.Known.{HasMade, deeds}
-use Rattle.hwp_evict.proofs.of_hwp_core_task.MadeEntries.{Lists, deeds-none, deeds-one, deeds-same, has-made, has-made-stays, kill-lists, loss-lists, page-lists}
-use Rattle.hwp_evict.specs.hwp_core.Holds.{one_ref, page_lock}
-use Rattle.hwp_evict.specs.Vacates.{page_held, with_frame}
-use Rattle.hwp_evict.proofs.BodyGrows.{Grown, extends-grown, length-grown}
-use Rattle.hwp_evict.proofs.VacateLaws.{refs-are, refs-gone}
+use Rattle.hwp_core.specs.hwp_geom.declared.FileNo.{FileNo}
+use Rattle.hwp_core.specs.hwp_geom.declared.Frame.{Frame}
+use Rattle.hwp_core.specs.hwp_geom.declared.Layout.{Layout}
+use Rattle.hwp_core.specs.hwp_geom.declared.Page.{Page}
+use Rattle.hwp_core.specs.hwp_geom.declared.Proc.{Proc}
+use Rattle.hwp_core.specs.hwp_geom.declared.Who.{Who}
+use Rattle.hwp_core.specs.hwp_kill.declared.Signal.{Signal}
+use Rattle.hwp_core.specs.hwp_page.declared.Entry.{Entry}
+use Rattle.hwp_core.specs.hwp_page.History.{BodyValue, Leads}
+use Rattle.hwp_core.specs.hwp_page.Losses.{is_loss}
+use Rattle.hwp_core.specs.hwp_words.Frames.{count_of, handled_of}
+use Rattle.hwp_core.specs.hwp_core_rule.declared.InHand.{InHand}
+use Rattle.hwp_core.specs.hwp_core_rule.declared.Log.{Log}
+use Rattle.hwp_core.specs.hwp_core_rule.declared.Made.{Made}
+use Rattle.hwp_core.specs.hwp_core_rule.declared.Mark.{Mark}
+use Rattle.hwp_core.specs.hwp_core_rule.declared.SharedWord.TheVariants as places
+use Rattle.hwp_core.specs.hwp_core_rule.declared.Ref.{Ref}
+use Rattle.hwp_core.specs.hwp_core_rule.declared.Sight.{Sight}
+use Rattle.hwp_core.specs.hwp_core_rule.declared.Stamp.{Stamp}
+use Rattle.hwp_core.specs.hwp_core_rule.declared.Step.TheVariants as steps
+use Rattle.hwp_core.specs.hwp_core_rule.declared.View.{View}
+use Rattle.hwp_core.specs.hwp_core_rule.Asks.{Extends}
+use Rattle.hwp_core.specs.hwp_core_rule.Logs.{log_of, state_of, file_of}
+use Rattle.hwp_core.specs.hwp_core_rule.Steps.{is_last}
+use Rattle.hwp_core.specs.hwp_core_rule.Views.{body_of, frame_in, hand_found, is_page_lock_of, killed_by, less_refs, listed, loss_made, losses_made, more_of, noted, refs_on, sighted, stamp_of, with_named, without}
+use Rattle.hwp_core.specs.hwp_core_rule.Words.{words_of}
+use Rattle.hwp_core.specs.hwp_core_rule.parts.Counter.{is_poisoning}
+use Rattle.hwp_core.specs.hwp_core_rule.parts.Counts.{named}
+use Rattle.hwp_core.proofs.of_hwp_core_rule.Lists.{at_map, same-number, some-last, some-push, term-le}
+use Rattle.hwp_core.proofs.of_hwp_core_rule.MetWords.{cache-word, frame-named, frame-word, lock-knows}
+use Rattle.hwp_core.specs.hwp_core_task.Calls.{Steps, logs}
+use Rattle.hwp_core.specs.hwp_core_task.Hands.{Hand, empty, hand_of, killing, listing, listing_of, putting}
+use Rattle.hwp_core.proofs.of_hwp_core_task.StepLeaves.{hand-planned}
+use Rattle.hwp_core.specs.hwp_core_task.Known.{HasMade, deeds}
+use Rattle.hwp_core.proofs.of_hwp_core_task.MadeEntries.{Lists, deeds-none, deeds-one, deeds-same, has-made, has-made-stays, kill-lists, loss-lists, page-lists}
+use Rattle.hwp_core.specs.Holds.{one_ref, page_lock}
+use Rattle.hwp_core.specs.Vacates.{page_held, with_frame}
+use Rattle.hwp_core.proofs.BodyGrows.{Grown, extends-grown, length-grown}
+use Rattle.hwp_core.proofs.VacateLaws.{refs-are, refs-gone}
 use Rattle.hwp_claim_act.specs.declared.abandon.Abandon.{Abandon}
 use Rattle.hwp_claim_act.specs.declared.abandon.AbandonAt.{AbandonAt}
 use Rattle.hwp_claim_act.specs.declared.abandon.AbandonAt.TheVariants as at

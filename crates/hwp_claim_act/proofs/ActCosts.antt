@@ -2,26 +2,26 @@
 use Rattle.std.proofs.Common.{◌≡◌, ℕ, ◌+◌, ◌<◌, ◌≤◌, Bool, true, false, cond, Option, Some, None, is_none, refl, sym, ap, ◌∙◌, subst, arith}
 use Rattle.std.proofs.lemmas.Bool.{both_ways}
 use Rattle.std.proofs.lemmas.Option.{none-some}
-use Rattle.hwp_evict.specs.hwp_geom.declared.Frame.{Frame}
-use Rattle.hwp_evict.specs.hwp_geom.declared.Layout.{Layout}
-use Rattle.hwp_evict.specs.hwp_geom.declared.Page.{Page}
-use Rattle.hwp_evict.specs.hwp_geom.declared.Thread.{Thread}
-use Rattle.hwp_evict.specs.hwp_geom.declared.Who.{Who}
-use Rattle.hwp_evict.specs.hwp_page.History.{BodyValue}
-use Rattle.hwp_evict.specs.hwp_core_rule.declared.Step.{Step}
-use Rattle.hwp_evict.specs.hwp_core_rule.declared.View.{View}
-use Rattle.hwp_evict.specs.hwp_core_rule.Lasting.{IsMild}
-use Rattle.hwp_evict.specs.hwp_core_rule.Words.{Words}
-use Rattle.hwp_evict.specs.hwp_core_task.declared.Turn.{Turn}
-use Rattle.hwp_evict.specs.hwp_core_task.Boards.{view_of}
-use Rattle.hwp_evict.specs.hwp_core_task.Ranks.{IsRanked, is_waits, words_at, pass}
-use Rattle.hwp_evict.proofs.of_hwp_core_task.StepRanks.{rank-of, steps-on}
-use Rattle.hwp_evict.specs.hwp_core.declared.give_up.GiveUp.{GiveUp}
-use Rattle.hwp_evict.specs.hwp_core.GiveUps as give_ups
-use Rattle.hwp_evict.proofs.of_hwp_core.GiveUpCosts.{give-up-falls, give-up-goes, give-up-mild, give-up-ranked, give-up-small}
-use Rattle.hwp_evict.specs.declared.clear.Clear.{Clear}
-use Rattle.hwp_evict.specs.Clears as clears
-use Rattle.hwp_evict.proofs.ClearLaws.{clear-mild, clear-small, clears-fall}
+use Rattle.hwp_core.specs.hwp_geom.declared.Frame.{Frame}
+use Rattle.hwp_core.specs.hwp_geom.declared.Layout.{Layout}
+use Rattle.hwp_core.specs.hwp_geom.declared.Page.{Page}
+use Rattle.hwp_core.specs.hwp_geom.declared.Thread.{Thread}
+use Rattle.hwp_core.specs.hwp_geom.declared.Who.{Who}
+use Rattle.hwp_core.specs.hwp_page.History.{BodyValue}
+use Rattle.hwp_core.specs.hwp_core_rule.declared.Step.{Step}
+use Rattle.hwp_core.specs.hwp_core_rule.declared.View.{View}
+use Rattle.hwp_core.specs.hwp_core_rule.Lasting.{IsMild}
+use Rattle.hwp_core.specs.hwp_core_rule.Words.{Words}
+use Rattle.hwp_core.specs.hwp_core_task.declared.Turn.{Turn}
+use Rattle.hwp_core.specs.hwp_core_task.Boards.{view_of}
+use Rattle.hwp_core.specs.hwp_core_task.Ranks.{IsRanked, is_waits, words_at, pass}
+use Rattle.hwp_core.proofs.of_hwp_core_task.StepRanks.{rank-of, steps-on}
+use Rattle.hwp_core.specs.declared.give_up.GiveUp.{GiveUp}
+use Rattle.hwp_core.specs.GiveUps as give_ups
+use Rattle.hwp_core.proofs.GiveUpCosts.{give-up-falls, give-up-goes, give-up-mild, give-up-ranked, give-up-small}
+use Rattle.hwp_core.specs.declared.clear.Clear.{Clear}
+use Rattle.hwp_core.specs.Clears as clears
+use Rattle.hwp_core.proofs.ClearLaws.{clear-mild, clear-small, clears-fall}
 use Rattle.hwp_claim_act.specs.declared.abandon.Abandon.{Abandon}
 use Rattle.hwp_claim_act.specs.declared.abandon.AbandonAt.{AbandonAt}
 use Rattle.hwp_claim_act.specs.declared.abandon.AbandonAt.TheVariants as abandon_at

@@ -2,44 +2,44 @@
 use Rattle.std.proofs.Common.{◌≡◌, ℕ, ◌<◌, ◌≤◌, Bool, true, false, cond, List, Option, Some, None, is_none, length, drop, refl, sym, ap, ◌∙◌, subst}
 use Rattle.std.proofs.lemmas.Bool.{both_ways}
 use Rattle.std.proofs.lemmas.Option.{none-some}
-use Rattle.hwp_evict.specs.hwp_geom.declared.Frame.{Frame}
-use Rattle.hwp_evict.specs.hwp_geom.declared.Layout.{Layout}
-use Rattle.hwp_evict.specs.hwp_geom.declared.Page.{Page}
-use Rattle.hwp_evict.specs.hwp_geom.declared.Thread.{Thread}
-use Rattle.hwp_evict.specs.hwp_geom.declared.VSlot.{VSlot}
-use Rattle.hwp_evict.specs.hwp_geom.declared.Who.{Who}
-use Rattle.hwp_evict.specs.hwp_kill.declared.Seen.{Seen}
-use Rattle.hwp_evict.specs.hwp_page.History.{BodyValue}
-use Rattle.hwp_evict.specs.hwp_core_rule.declared.Sight.{Sight}
-use Rattle.hwp_evict.specs.hwp_core_rule.declared.Step.{Step}
-use Rattle.hwp_evict.specs.hwp_core_rule.declared.View.{View}
-use Rattle.hwp_evict.specs.hwp_core_rule.Lists.{EachMember}
-use Rattle.hwp_evict.specs.hwp_core_rule.parts.Entries.{HasPolicy, HasSeen}
-use Rattle.hwp_evict.specs.hwp_core_task.declared.Turn.{Turn}
-use Rattle.hwp_evict.specs.hwp_core_task.Calls.{CanMake, IsOnTurn, Steps, logs}
-use Rattle.hwp_evict.specs.hwp_core_task.Hands.{empty, hand_of}
-use Rattle.hwp_evict.proofs.of_hwp_core_task.StepLeaves.{on-turn-after, steps-planned}
-use Rattle.hwp_evict.specs.hwp_core.declared.give_up.GiveUp.{GiveUp}
-use Rattle.hwp_evict.specs.hwp_core.declared.give_up.GiveUpAt.{GiveUpAt}
-use Rattle.hwp_evict.specs.hwp_core.declared.give_up.GiveUpAt.TheVariants as give_up_at
-use Rattle.hwp_evict.specs.hwp_core.declared.release.Release.{Release}
-use Rattle.hwp_evict.specs.hwp_core.declared.release.ReleaseAt.{ReleaseAt}
-use Rattle.hwp_evict.specs.hwp_core.declared.release.ReleaseAt.TheVariants as release_at
-use Rattle.hwp_evict.specs.hwp_core.declared.unhold.Unhold.{Unhold}
-use Rattle.hwp_evict.specs.hwp_core.declared.unhold.UnholdAt.{UnholdAt}
-use Rattle.hwp_evict.specs.hwp_core.declared.unhold.UnholdAt.TheVariants as unhold_at
-use Rattle.hwp_evict.specs.hwp_core.declared.unlock.Unlock.{Unlock}
-use Rattle.hwp_evict.specs.hwp_core.declared.unlock.UnlockAt.{UnlockAt}
-use Rattle.hwp_evict.specs.hwp_core.declared.unlock.UnlockAt.TheVariants as unlock_at
-use Rattle.hwp_evict.specs.hwp_core.GiveUps as give_ups
-use Rattle.hwp_evict.specs.hwp_core.Releases as releases
-use Rattle.hwp_evict.specs.hwp_core.Unholds as unholds
-use Rattle.hwp_evict.specs.hwp_core.Unlocks as unlocks
-use Rattle.hwp_evict.proofs.of_hwp_core.GiveUpLaws as giving-up
-use Rattle.hwp_evict.specs.declared.clear.Clear.{Clear}
-use Rattle.hwp_evict.specs.Clears as clears
-use Rattle.hwp_evict.proofs.ClearLaws as clearing
-use Rattle.hwp_evict.proofs.ClearLaws.{same-clear}
+use Rattle.hwp_core.specs.hwp_geom.declared.Frame.{Frame}
+use Rattle.hwp_core.specs.hwp_geom.declared.Layout.{Layout}
+use Rattle.hwp_core.specs.hwp_geom.declared.Page.{Page}
+use Rattle.hwp_core.specs.hwp_geom.declared.Thread.{Thread}
+use Rattle.hwp_core.specs.hwp_geom.declared.VSlot.{VSlot}
+use Rattle.hwp_core.specs.hwp_geom.declared.Who.{Who}
+use Rattle.hwp_core.specs.hwp_kill.declared.Seen.{Seen}
+use Rattle.hwp_core.specs.hwp_page.History.{BodyValue}
+use Rattle.hwp_core.specs.hwp_core_rule.declared.Sight.{Sight}
+use Rattle.hwp_core.specs.hwp_core_rule.declared.Step.{Step}
+use Rattle.hwp_core.specs.hwp_core_rule.declared.View.{View}
+use Rattle.hwp_core.specs.hwp_core_rule.Lists.{EachMember}
+use Rattle.hwp_core.specs.hwp_core_rule.parts.Entries.{HasPolicy, HasSeen}
+use Rattle.hwp_core.specs.hwp_core_task.declared.Turn.{Turn}
+use Rattle.hwp_core.specs.hwp_core_task.Calls.{CanMake, IsOnTurn, Steps, logs}
+use Rattle.hwp_core.specs.hwp_core_task.Hands.{empty, hand_of}
+use Rattle.hwp_core.proofs.of_hwp_core_task.StepLeaves.{on-turn-after, steps-planned}
+use Rattle.hwp_core.specs.declared.give_up.GiveUp.{GiveUp}
+use Rattle.hwp_core.specs.declared.give_up.GiveUpAt.{GiveUpAt}
+use Rattle.hwp_core.specs.declared.give_up.GiveUpAt.TheVariants as give_up_at
+use Rattle.hwp_core.specs.declared.release.Release.{Release}
+use Rattle.hwp_core.specs.declared.release.ReleaseAt.{ReleaseAt}
+use Rattle.hwp_core.specs.declared.release.ReleaseAt.TheVariants as release_at
+use Rattle.hwp_core.specs.declared.unhold.Unhold.{Unhold}
+use Rattle.hwp_core.specs.declared.unhold.UnholdAt.{UnholdAt}
+use Rattle.hwp_core.specs.declared.unhold.UnholdAt.TheVariants as unhold_at
+use Rattle.hwp_core.specs.declared.unlock.Unlock.{Unlock}
+use Rattle.hwp_core.specs.declared.unlock.UnlockAt.{UnlockAt}
+use Rattle.hwp_core.specs.declared.unlock.UnlockAt.TheVariants as unlock_at
+use Rattle.hwp_core.specs.GiveUps as give_ups
+use Rattle.hwp_core.specs.Releases as releases
+use Rattle.hwp_core.specs.Unholds as unholds
+use Rattle.hwp_core.specs.Unlocks as unlocks
+use Rattle.hwp_core.proofs.GiveUpLaws as giving-up
+use Rattle.hwp_core.specs.declared.clear.Clear.{Clear}
+use Rattle.hwp_core.specs.Clears as clears
+use Rattle.hwp_core.proofs.ClearLaws as clearing
+use Rattle.hwp_core.proofs.ClearLaws.{same-clear}
 use Rattle.hwp_claim_act.specs.declared.abandon.Abandon.{Abandon}
 use Rattle.hwp_claim_act.specs.declared.abandon.AbandonAt.{AbandonAt}
 use Rattle.hwp_claim_act.specs.declared.abandon.AbandonAt.TheVariants as abandon_at

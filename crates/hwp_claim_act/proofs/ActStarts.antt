@@ -3,26 +3,26 @@ use Rattle.std.proofs.Common.{◌≡◌, inl, inr, ℕ, ◌<◌, ◌≤◌, Bool
 use Rattle.std.proofs.lemmas.List.{drop_all}
 use Rattle.std.proofs.lemmas.Option.{none-some, same_Some}
 use Rattle.std.specs.List.{find}
-use Rattle.hwp_evict.specs.hwp_geom.declared.Frame.{Frame}
-use Rattle.hwp_evict.specs.hwp_geom.declared.Layout.{Layout}
-use Rattle.hwp_evict.specs.hwp_geom.declared.Page.{Page}
-use Rattle.hwp_evict.specs.hwp_geom.declared.Thread.{Thread}
-use Rattle.hwp_evict.specs.hwp_geom.declared.Who.{Who}
-use Rattle.hwp_evict.specs.hwp_geom.Layout.{IsSound}
-use Rattle.hwp_evict.specs.hwp_kill.declared.Seen.{Seen}
-use Rattle.hwp_evict.specs.hwp_kill.Next.{IsReadSoFar}
-use Rattle.hwp_evict.proofs.of_hwp_kill.PolicyReads.{read-none}
-use Rattle.hwp_evict.specs.hwp_page.History.{BodyValue}
-use Rattle.hwp_evict.specs.hwp_core_rule.declared.InHand.{InHand}
-use Rattle.hwp_evict.specs.hwp_core_rule.declared.View.{View}
-use Rattle.hwp_evict.specs.hwp_core_rule.Logs.{log_of}
-use Rattle.hwp_evict.specs.hwp_core_rule.Views.{body_of, is_body_of, more_of}
-use Rattle.hwp_evict.proofs.of_hwp_core_rule.Lists.{same-number}
-use Rattle.hwp_evict.specs.hwp_core_task.Calls.{IsOnTurn}
-use Rattle.hwp_evict.specs.hwp_core_task.Hands.{Hand, body_in, empty, hand_of}
-use Rattle.hwp_evict.proofs.of_hwp_core.GiveUpLaws.{page-given-up}
-use Rattle.hwp_evict.proofs.of_hwp_core.HoldEnds.{held-unholds}
-use Rattle.hwp_evict.proofs.of_hwp_core.TaskTells.{Tells, empty-tells, frame-tells, give-up-tells, page-tells}
+use Rattle.hwp_core.specs.hwp_geom.declared.Frame.{Frame}
+use Rattle.hwp_core.specs.hwp_geom.declared.Layout.{Layout}
+use Rattle.hwp_core.specs.hwp_geom.declared.Page.{Page}
+use Rattle.hwp_core.specs.hwp_geom.declared.Thread.{Thread}
+use Rattle.hwp_core.specs.hwp_geom.declared.Who.{Who}
+use Rattle.hwp_core.specs.hwp_geom.Layout.{IsSound}
+use Rattle.hwp_core.specs.hwp_kill.declared.Seen.{Seen}
+use Rattle.hwp_core.specs.hwp_kill.Next.{IsReadSoFar}
+use Rattle.hwp_core.proofs.of_hwp_kill.PolicyReads.{read-none}
+use Rattle.hwp_core.specs.hwp_page.History.{BodyValue}
+use Rattle.hwp_core.specs.hwp_core_rule.declared.InHand.{InHand}
+use Rattle.hwp_core.specs.hwp_core_rule.declared.View.{View}
+use Rattle.hwp_core.specs.hwp_core_rule.Logs.{log_of}
+use Rattle.hwp_core.specs.hwp_core_rule.Views.{body_of, is_body_of, more_of}
+use Rattle.hwp_core.proofs.of_hwp_core_rule.Lists.{same-number}
+use Rattle.hwp_core.specs.hwp_core_task.Calls.{IsOnTurn}
+use Rattle.hwp_core.specs.hwp_core_task.Hands.{Hand, body_in, empty, hand_of}
+use Rattle.hwp_core.proofs.GiveUpLaws.{page-given-up}
+use Rattle.hwp_core.proofs.HoldEnds.{held-unholds}
+use Rattle.hwp_core.proofs.TaskTells.{Tells, empty-tells, frame-tells, give-up-tells, page-tells}
 use Rattle.hwp_claim_act.specs.declared.abandon.Abandon.{Abandon}
 use Rattle.hwp_claim_act.specs.declared.abandon.AbandonAt.{AbandonAt}
 use Rattle.hwp_claim_act.specs.declared.abandon.AbandonAt.TheVariants as abandon_at

@@ -7,38 +7,38 @@ use Rattle.std.specs.Prelude.{option_and_then}
 use Rattle.std.specs.FinSet as set
 use Rattle.std.specs.Ordering.{nat_cmp}
 use Rattle.std.specs.Cmp.{nat_cmp_total}
-use Rattle.hwp_evict.specs.hwp_geom.declared.Frame.{Frame}
-use Rattle.hwp_evict.specs.hwp_geom.declared.Layout.{Layout}
-use Rattle.hwp_evict.specs.hwp_geom.declared.Page.{Page}
-use Rattle.hwp_evict.specs.hwp_geom.declared.PageKind.{PageKind}
-use Rattle.hwp_evict.specs.hwp_geom.declared.PageKind.TheVariants.{Anon, File}
-use Rattle.hwp_evict.specs.hwp_geom.declared.Thread.{Thread}
-use Rattle.hwp_evict.specs.hwp_geom.declared.Who.{Who}
-use Rattle.hwp_evict.specs.hwp_geom.Layout.{is_locked}
-use Rattle.hwp_evict.specs.hwp_kill.declared.Seen.{Seen}
-use Rattle.hwp_evict.specs.hwp_kill.declared.Signal.{Signal}
-use Rattle.hwp_evict.specs.hwp_kill.Limits.{signal_limit}
-use Rattle.hwp_evict.specs.hwp_page.declared.Entry.{Entry}
-use Rattle.hwp_evict.specs.hwp_page.declared.PageState.{PageState}
-use Rattle.hwp_evict.specs.hwp_page.Actions.{acted, situation_by, situation_of}
-use Rattle.hwp_evict.specs.hwp_page.History.{BodyValue, IsReplay, Leads}
-use Rattle.hwp_evict.specs.hwp_page.Losses.{file_behind}
-use Rattle.hwp_evict.specs.hwp_page.Step.{IsFailure, after}
-use Rattle.hwp_evict.specs.hwp_words.Translations.{pte_word}
-use Rattle.hwp_evict.specs.hwp_words.declared.Pte.TheVariants as ptes
-use Rattle.hwp_evict.specs.hwp_core_rule.declared.InHand.{InHand}
-use Rattle.hwp_evict.specs.hwp_core_rule.declared.Log.{Log}
-use Rattle.hwp_evict.specs.hwp_core_rule.declared.Sight.{Sight}
-use Rattle.hwp_evict.specs.hwp_core_rule.Asks.{Extends}
-use Rattle.hwp_evict.specs.hwp_core_rule.Lists.{EachMember}
-use Rattle.hwp_evict.specs.hwp_core_rule.Logs.{file_of, fitting_word, log_of, opening_at, state_of}
-use Rattle.hwp_evict.specs.hwp_core_rule.Views.{more_of}
-use Rattle.hwp_evict.specs.hwp_core_rule.parts.Entries.{HasSeen}
-use Rattle.hwp_evict.proofs.of_hwp_core_rule.OwedLosses.{state-kind}
-use Rattle.hwp_evict.specs.hwp_core_task.Hands.{body_in}
-use Rattle.hwp_evict.specs.hwp_core.Holds.{IsBodyOf}
-use Rattle.hwp_evict.specs.Clears.{word_now}
-use Rattle.hwp_evict.proofs.PageStates.{replay-apart, state-is}
+use Rattle.hwp_core.specs.hwp_geom.declared.Frame.{Frame}
+use Rattle.hwp_core.specs.hwp_geom.declared.Layout.{Layout}
+use Rattle.hwp_core.specs.hwp_geom.declared.Page.{Page}
+use Rattle.hwp_core.specs.hwp_geom.declared.PageKind.{PageKind}
+use Rattle.hwp_core.specs.hwp_geom.declared.PageKind.TheVariants.{Anon, File}
+use Rattle.hwp_core.specs.hwp_geom.declared.Thread.{Thread}
+use Rattle.hwp_core.specs.hwp_geom.declared.Who.{Who}
+use Rattle.hwp_core.specs.hwp_geom.Layout.{is_locked}
+use Rattle.hwp_core.specs.hwp_kill.declared.Seen.{Seen}
+use Rattle.hwp_core.specs.hwp_kill.declared.Signal.{Signal}
+use Rattle.hwp_core.specs.hwp_kill.Limits.{signal_limit}
+use Rattle.hwp_core.specs.hwp_page.declared.Entry.{Entry}
+use Rattle.hwp_core.specs.hwp_page.declared.PageState.{PageState}
+use Rattle.hwp_core.specs.hwp_page.Actions.{acted, situation_by, situation_of}
+use Rattle.hwp_core.specs.hwp_page.History.{BodyValue, IsReplay, Leads}
+use Rattle.hwp_core.specs.hwp_page.Losses.{file_behind}
+use Rattle.hwp_core.specs.hwp_page.Step.{IsFailure, after}
+use Rattle.hwp_core.specs.hwp_words.Translations.{pte_word}
+use Rattle.hwp_core.specs.hwp_words.declared.Pte.TheVariants as ptes
+use Rattle.hwp_core.specs.hwp_core_rule.declared.InHand.{InHand}
+use Rattle.hwp_core.specs.hwp_core_rule.declared.Log.{Log}
+use Rattle.hwp_core.specs.hwp_core_rule.declared.Sight.{Sight}
+use Rattle.hwp_core.specs.hwp_core_rule.Asks.{Extends}
+use Rattle.hwp_core.specs.hwp_core_rule.Lists.{EachMember}
+use Rattle.hwp_core.specs.hwp_core_rule.Logs.{file_of, fitting_word, log_of, opening_at, state_of}
+use Rattle.hwp_core.specs.hwp_core_rule.Views.{more_of}
+use Rattle.hwp_core.specs.hwp_core_rule.parts.Entries.{HasSeen}
+use Rattle.hwp_core.proofs.of_hwp_core_rule.OwedLosses.{state-kind}
+use Rattle.hwp_core.specs.hwp_core_task.Hands.{body_in}
+use Rattle.hwp_core.specs.Holds.{IsBodyOf}
+use Rattle.hwp_core.specs.Clears.{word_now}
+use Rattle.hwp_core.proofs.PageStates.{replay-apart, state-is}
 use Rattle.hwp_claim_act.specs.declared.abandon.Failed.{Failed}
 use Rattle.hwp_claim_act.specs.declared.abandon.Losses.{Losses}
 use Rattle.hwp_claim_act.specs.declared.failing.Entered.{Entered}

@@ -2,36 +2,36 @@
 use Rattle.std.proofs.Common.{◌≡◌, ℕ, ◌+◌, ◌-◌, ◌<◌, Bool, true, false, cond, List, [], ◌∷◌, Option, Some, None, is_none, length, drop, slice_get, refl, sym, ap, ◌∙◌, subst, arith}
 use Rattle.std.proofs.lemmas.Option.{none-some, same_Some}
 use Rattle.std.specs.FinSet as set
-use Rattle.hwp_evict.specs.hwp_geom.declared.Frame.{Frame}
-use Rattle.hwp_evict.specs.hwp_geom.declared.Layout.{Layout}
-use Rattle.hwp_evict.specs.hwp_geom.declared.Page.{Page}
-use Rattle.hwp_evict.specs.hwp_geom.declared.Thread.{Thread}
-use Rattle.hwp_evict.specs.hwp_geom.declared.TransDecl.{TransDecl}
-use Rattle.hwp_evict.specs.hwp_geom.declared.VSlot.{VSlot}
-use Rattle.hwp_evict.specs.hwp_geom.declared.Who.{Who}
-use Rattle.hwp_evict.specs.hwp_geom.Layout.{IsSound}
-use Rattle.hwp_evict.specs.hwp_kill.declared.Seen.{Seen}
-use Rattle.hwp_evict.specs.hwp_page.declared.PageState.{PageState}
-use Rattle.hwp_evict.specs.hwp_page.Actions.{situation_of}
-use Rattle.hwp_evict.specs.hwp_page.History.{BodyValue}
-use Rattle.hwp_evict.specs.hwp_words.Translations.{pte_word}
-use Rattle.hwp_evict.specs.hwp_words.declared.Pte.TheVariants as ptes
-use Rattle.hwp_evict.specs.hwp_core_rule.declared.FrameLock.{FrameLock}
-use Rattle.hwp_evict.specs.hwp_core_rule.declared.InHand.{InHand}
-use Rattle.hwp_evict.specs.hwp_core_rule.declared.View.{View}
-use Rattle.hwp_evict.specs.hwp_core_rule.Lists.{EachMember}
-use Rattle.hwp_evict.specs.hwp_core_rule.Logs.{fitting, fitting_word, log_of, state_of}
-use Rattle.hwp_evict.specs.hwp_core_rule.parts.Entries.{HasPolicy}
-use Rattle.hwp_evict.specs.hwp_core_rule.parts.Fits.{FitsWords}
-use Rattle.hwp_evict.proofs.of_hwp_core_rule.PageWords.{fitting-at}
-use Rattle.hwp_evict.specs.hwp_core_task.Calls.{IsOnTurn}
-use Rattle.hwp_evict.specs.hwp_core_task.Hands.{Hand, body_in, hand_of}
-use Rattle.hwp_evict.specs.declared.clear.Clear.{Clear}
-use Rattle.hwp_evict.specs.Clears as clears
-use Rattle.hwp_evict.specs.Clears.{IsNextFrom, is_done, pte_of, word_now}
-use Rattle.hwp_evict.specs.Vacates.{page_held, with_frame}
-use Rattle.hwp_evict.proofs.TranslationWrites.{declared-of}
-use Rattle.hwp_evict.proofs.PageStates.{replay-is, replay-own, state-is}
+use Rattle.hwp_core.specs.hwp_geom.declared.Frame.{Frame}
+use Rattle.hwp_core.specs.hwp_geom.declared.Layout.{Layout}
+use Rattle.hwp_core.specs.hwp_geom.declared.Page.{Page}
+use Rattle.hwp_core.specs.hwp_geom.declared.Thread.{Thread}
+use Rattle.hwp_core.specs.hwp_geom.declared.TransDecl.{TransDecl}
+use Rattle.hwp_core.specs.hwp_geom.declared.VSlot.{VSlot}
+use Rattle.hwp_core.specs.hwp_geom.declared.Who.{Who}
+use Rattle.hwp_core.specs.hwp_geom.Layout.{IsSound}
+use Rattle.hwp_core.specs.hwp_kill.declared.Seen.{Seen}
+use Rattle.hwp_core.specs.hwp_page.declared.PageState.{PageState}
+use Rattle.hwp_core.specs.hwp_page.Actions.{situation_of}
+use Rattle.hwp_core.specs.hwp_page.History.{BodyValue}
+use Rattle.hwp_core.specs.hwp_words.Translations.{pte_word}
+use Rattle.hwp_core.specs.hwp_words.declared.Pte.TheVariants as ptes
+use Rattle.hwp_core.specs.hwp_core_rule.declared.FrameLock.{FrameLock}
+use Rattle.hwp_core.specs.hwp_core_rule.declared.InHand.{InHand}
+use Rattle.hwp_core.specs.hwp_core_rule.declared.View.{View}
+use Rattle.hwp_core.specs.hwp_core_rule.Lists.{EachMember}
+use Rattle.hwp_core.specs.hwp_core_rule.Logs.{fitting, fitting_word, log_of, state_of}
+use Rattle.hwp_core.specs.hwp_core_rule.parts.Entries.{HasPolicy}
+use Rattle.hwp_core.specs.hwp_core_rule.parts.Fits.{FitsWords}
+use Rattle.hwp_core.proofs.of_hwp_core_rule.PageWords.{fitting-at}
+use Rattle.hwp_core.specs.hwp_core_task.Calls.{IsOnTurn}
+use Rattle.hwp_core.specs.hwp_core_task.Hands.{Hand, body_in, hand_of}
+use Rattle.hwp_core.specs.declared.clear.Clear.{Clear}
+use Rattle.hwp_core.specs.Clears as clears
+use Rattle.hwp_core.specs.Clears.{IsNextFrom, is_done, pte_of, word_now}
+use Rattle.hwp_core.specs.Vacates.{page_held, with_frame}
+use Rattle.hwp_core.proofs.TranslationWrites.{declared-of}
+use Rattle.hwp_core.proofs.PageStates.{replay-is, replay-own, state-is}
 use Rattle.hwp_claim_act.specs.declared.abandon.Failed.{Failed}
 use Rattle.hwp_claim_act.specs.declared.abandon.Losses.{Losses}
 use Rattle.hwp_claim_act.specs.declared.act.ActAt.{ActAt}
@@ -43,7 +43,7 @@ use Rattle.hwp_claim_act.specs.Acts.{Enters, after_clear}
 use Rattle.hwp_claim_act.specs.Failing.{bars_of, failure_of}
 use Rattle.hwp_claim_act.specs.Reads.{HoldsFailed}
 use Rattle.hwp_claim_act.proofs.FailureEntry.{acts-after, extends, has-failure, one-more, written-fits}
-use Rattle.hwp_evict.proofs.ClearLaws.{none-done}
+use Rattle.hwp_core.proofs.ClearLaws.{none-done}
 
 module _ {layout : Layout} {view : View} {who : Who} {page : Page} {frame : Frame} (on : IsOnTurn view who) (inside : page.0 < length layout.pages) (within : frame.0 < layout.frames) where
   -- ---- all translations are written

@@ -12,4 +12,3 @@ pub mod Snapshots
 pub mod ActStarts
 pub mod ActNeeds
 pub mod ActAdds
-pub use Rattle.hwp_evict.proofs as of_hwp_evict

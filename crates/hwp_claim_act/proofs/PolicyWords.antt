@@ -5,26 +5,26 @@ use Rattle.std.proofs.lemmas.List.Elements.{All-get_or}
 use Rattle.std.proofs.lemmas.Option.{slice_get-get_or}
 use Rattle.std.specs.Int.{from_bool}
 use Rattle.std.specs.List.{sum_by}
-use Rattle.hwp_evict.specs.hwp_geom.declared.Cpu.{Cpu}
-use Rattle.hwp_evict.specs.hwp_geom.declared.Layout.{Layout}
-use Rattle.hwp_evict.specs.hwp_geom.declared.Thread.{Thread}
-use Rattle.hwp_evict.specs.hwp_geom.declared.ThreadDecl.{ThreadDecl}
-use Rattle.hwp_evict.specs.hwp_geom.Limits.{command_limit}
-use Rattle.hwp_evict.specs.hwp_kill.declared.Policy.{Policy}
-use Rattle.hwp_evict.specs.hwp_kill.declared.Policy.TheVariants as policy_names
-use Rattle.hwp_evict.specs.hwp_words.Policies as words
-use Rattle.hwp_evict.specs.hwp_core_rule.declared.Part.{Part}
-use Rattle.hwp_evict.specs.hwp_core_rule.declared.SharedWord.TheVariants as places
-use Rattle.hwp_evict.specs.hwp_core_rule.declared.State.{State}
-use Rattle.hwp_evict.specs.hwp_core_rule.declared.View.{View}
-use Rattle.hwp_evict.specs.hwp_core_rule.Rule.{Holds}
-use Rattle.hwp_evict.specs.hwp_core_rule.Steps.{policy_at}
-use Rattle.hwp_evict.specs.hwp_core_rule.Words.{index, words_of}
-use Rattle.hwp_evict.specs.hwp_core_rule.parts.Policies.{last_policy, settings_of}
-use Rattle.hwp_evict.proofs.of_hwp_core_rule.CountsBelow.{some-term}
-use Rattle.hwp_evict.proofs.of_hwp_core_rule.Lists.{at_map, map-was}
-use Rattle.hwp_evict.proofs.of_hwp_core_rule.MoveKeeps.{shaped}
-use Rattle.hwp_evict.proofs.of_hwp_core_rule.WordsByKind.{word-there, words-read}
+use Rattle.hwp_core.specs.hwp_geom.declared.Cpu.{Cpu}
+use Rattle.hwp_core.specs.hwp_geom.declared.Layout.{Layout}
+use Rattle.hwp_core.specs.hwp_geom.declared.Thread.{Thread}
+use Rattle.hwp_core.specs.hwp_geom.declared.ThreadDecl.{ThreadDecl}
+use Rattle.hwp_core.specs.hwp_geom.Limits.{command_limit}
+use Rattle.hwp_core.specs.hwp_kill.declared.Policy.{Policy}
+use Rattle.hwp_core.specs.hwp_kill.declared.Policy.TheVariants as policy_names
+use Rattle.hwp_core.specs.hwp_words.Policies as words
+use Rattle.hwp_core.specs.hwp_core_rule.declared.Part.{Part}
+use Rattle.hwp_core.specs.hwp_core_rule.declared.SharedWord.TheVariants as places
+use Rattle.hwp_core.specs.hwp_core_rule.declared.State.{State}
+use Rattle.hwp_core.specs.hwp_core_rule.declared.View.{View}
+use Rattle.hwp_core.specs.hwp_core_rule.Rule.{Holds}
+use Rattle.hwp_core.specs.hwp_core_rule.Steps.{policy_at}
+use Rattle.hwp_core.specs.hwp_core_rule.Words.{index, words_of}
+use Rattle.hwp_core.specs.hwp_core_rule.parts.Policies.{last_policy, settings_of}
+use Rattle.hwp_core.proofs.of_hwp_core_rule.CountsBelow.{some-term}
+use Rattle.hwp_core.proofs.of_hwp_core_rule.Lists.{at_map, map-was}
+use Rattle.hwp_core.proofs.of_hwp_core_rule.MoveKeeps.{shaped}
+use Rattle.hwp_core.proofs.of_hwp_core_rule.WordsByKind.{word-there, words-read}
 
 same-cpu : (c d : Cpu) → c.0 ≡ d.0 → c ≡ d
 same-cpu c d e = λ i. record { 0 = e i }

@@ -3,40 +3,40 @@ use Rattle.std.proofs.Common.{◌≡◌, ℕ, ◌+◌, ◌-◌, ◌^◌, ◌<◌
 use Rattle.std.proofs.lemmas.Bool.{both_ways}
 use Rattle.std.proofs.lemmas.List.{drop-append-le, length-append, length_push}
 use Rattle.std.proofs.lemmas.Option.{none-some, same_Some}
-use Rattle.hwp_evict.specs.hwp_geom.declared.Layout.{Layout}
-use Rattle.hwp_evict.specs.hwp_geom.declared.Thread.{Thread}
-use Rattle.hwp_evict.specs.hwp_geom.declared.Who.{Who}
-use Rattle.hwp_evict.specs.hwp_geom.Limits.{thread_limit}
-use Rattle.hwp_evict.specs.hwp_kill.declared.Seen.{Seen}
-use Rattle.hwp_evict.specs.hwp_kill.Next.{IsNextToRead, IsReadSoFar}
-use Rattle.hwp_evict.proofs.of_hwp_kill.PolicyOwners.{within_threads}
-use Rattle.hwp_evict.proofs.of_hwp_kill.PolicyReads.{next-few, read-more}
-use Rattle.hwp_evict.specs.hwp_page.declared.Situation.TheVariants as situations
-use Rattle.hwp_evict.specs.hwp_page.declared.What.TheVariants as entries
-use Rattle.hwp_evict.specs.hwp_page.History.{BodyValue}
-use Rattle.hwp_evict.specs.hwp_core_rule.declared.FrameLock.{FrameLock}
-use Rattle.hwp_evict.specs.hwp_core_rule.declared.SharedWord.TheVariants as places
-use Rattle.hwp_evict.specs.hwp_core_rule.declared.Sight.{Sight}
-use Rattle.hwp_evict.specs.hwp_core_rule.declared.Step.{Step}
-use Rattle.hwp_evict.specs.hwp_core_rule.declared.Step.TheVariants as steps
-use Rattle.hwp_evict.specs.hwp_core_rule.declared.View.{View}
-use Rattle.hwp_evict.specs.hwp_core_rule.Lists.{EachMember, SomeMember}
-use Rattle.hwp_evict.specs.hwp_core_rule.Lasting.{IsMild}
-use Rattle.hwp_evict.specs.hwp_core_rule.Steps.{policy_at}
-use Rattle.hwp_evict.specs.hwp_core_rule.Views.{noted, stamp_of}
-use Rattle.hwp_evict.specs.hwp_core_rule.parts.Entries.{HasPolicy, Shows as ShowsWord}
-use Rattle.hwp_evict.proofs.of_hwp_core_rule.Lists.{each-push, some-last}
-use Rattle.hwp_evict.proofs.of_hwp_core_rule.Sights.{seen-more}
-use Rattle.hwp_evict.specs.hwp_core_task.declared.Turn.{Turn}
-use Rattle.hwp_evict.specs.hwp_core_task.declared.Turn.TheVariants.{Moved}
-use Rattle.hwp_evict.specs.hwp_core_task.Boards.{view_of}
-use Rattle.hwp_evict.specs.hwp_core_task.Calls.{CanMake, Steps}
-use Rattle.hwp_evict.specs.hwp_core_task.Hands.{Hand}
-use Rattle.hwp_evict.specs.hwp_core_task.Ranks.{IsRanked, is_waits}
-use Rattle.hwp_evict.proofs.of_hwp_core_task.StepRanks.{rank-of}
-use Rattle.hwp_evict.proofs.of_hwp_core_task.StepLeaves.{can-make, hand-planned, on-turn-after, steps-planned}
-use Rattle.hwp_evict.proofs.of_hwp_core_task.MadeEntries.{ListsNone}
-use Rattle.hwp_evict.specs.hwp_core.Holds.{HoldsPage}
+use Rattle.hwp_core.specs.hwp_geom.declared.Layout.{Layout}
+use Rattle.hwp_core.specs.hwp_geom.declared.Thread.{Thread}
+use Rattle.hwp_core.specs.hwp_geom.declared.Who.{Who}
+use Rattle.hwp_core.specs.hwp_geom.Limits.{thread_limit}
+use Rattle.hwp_core.specs.hwp_kill.declared.Seen.{Seen}
+use Rattle.hwp_core.specs.hwp_kill.Next.{IsNextToRead, IsReadSoFar}
+use Rattle.hwp_core.proofs.of_hwp_kill.PolicyOwners.{within_threads}
+use Rattle.hwp_core.proofs.of_hwp_kill.PolicyReads.{next-few, read-more}
+use Rattle.hwp_core.specs.hwp_page.declared.Situation.TheVariants as situations
+use Rattle.hwp_core.specs.hwp_page.declared.What.TheVariants as entries
+use Rattle.hwp_core.specs.hwp_page.History.{BodyValue}
+use Rattle.hwp_core.specs.hwp_core_rule.declared.FrameLock.{FrameLock}
+use Rattle.hwp_core.specs.hwp_core_rule.declared.SharedWord.TheVariants as places
+use Rattle.hwp_core.specs.hwp_core_rule.declared.Sight.{Sight}
+use Rattle.hwp_core.specs.hwp_core_rule.declared.Step.{Step}
+use Rattle.hwp_core.specs.hwp_core_rule.declared.Step.TheVariants as steps
+use Rattle.hwp_core.specs.hwp_core_rule.declared.View.{View}
+use Rattle.hwp_core.specs.hwp_core_rule.Lists.{EachMember, SomeMember}
+use Rattle.hwp_core.specs.hwp_core_rule.Lasting.{IsMild}
+use Rattle.hwp_core.specs.hwp_core_rule.Steps.{policy_at}
+use Rattle.hwp_core.specs.hwp_core_rule.Views.{noted, stamp_of}
+use Rattle.hwp_core.specs.hwp_core_rule.parts.Entries.{HasPolicy, Shows as ShowsWord}
+use Rattle.hwp_core.proofs.of_hwp_core_rule.Lists.{each-push, some-last}
+use Rattle.hwp_core.proofs.of_hwp_core_rule.Sights.{seen-more}
+use Rattle.hwp_core.specs.hwp_core_task.declared.Turn.{Turn}
+use Rattle.hwp_core.specs.hwp_core_task.declared.Turn.TheVariants.{Moved}
+use Rattle.hwp_core.specs.hwp_core_task.Boards.{view_of}
+use Rattle.hwp_core.specs.hwp_core_task.Calls.{CanMake, Steps}
+use Rattle.hwp_core.specs.hwp_core_task.Hands.{Hand}
+use Rattle.hwp_core.specs.hwp_core_task.Ranks.{IsRanked, is_waits}
+use Rattle.hwp_core.proofs.of_hwp_core_task.StepRanks.{rank-of}
+use Rattle.hwp_core.proofs.of_hwp_core_task.StepLeaves.{can-make, hand-planned, on-turn-after, steps-planned}
+use Rattle.hwp_core.proofs.of_hwp_core_task.MadeEntries.{ListsNone}
+use Rattle.hwp_core.specs.Holds.{HoldsPage}
 use Rattle.hwp_claim_act.specs.declared.read_policies.ReadPolicies.{ReadPolicies}
 use Rattle.hwp_claim_act.specs.Reads.{CanReadMore, Fits, Follows, FollowsAt, HoldsFailed, IsNextOf, ReadsMore, Shows, ShowsAt, cost, cost_at, plan, plan_at, seen_in, task as read-policies-task}
 use Rattle.hwp_claim_act.proofs.PolicyWords.{IsPolicyWord, policy-word, reads-back, small-word}

@@ -6,18 +6,18 @@ use Rattle.std.specs.List.{filter, list_any}
 use Rattle.std.specs.Prelude.{Contains, IsSomeAnd}
 use Rattle.std.specs.Ordering.{nat_cmp}
 use Rattle.std.specs.FinSet as set
-use Rattle.hwp_evict.specs.hwp_geom.declared.Layout.{Layout}
-use Rattle.hwp_evict.specs.hwp_geom.declared.Proc.{Proc}
-use Rattle.hwp_evict.specs.hwp_geom.declared.Thread.{Thread}
-use Rattle.hwp_evict.specs.hwp_geom.declared.ThreadDecl.{ThreadDecl}
-use Rattle.hwp_evict.specs.hwp_kill.declared.Code.{Code}
-use Rattle.hwp_evict.specs.hwp_kill.declared.Code.TheVariants as codes
-use Rattle.hwp_evict.specs.hwp_kill.declared.Seen.{Seen}
-use Rattle.hwp_evict.specs.hwp_kill.declared.Signal.{Signal}
-use Rattle.hwp_evict.specs.hwp_kill.Kill.{IsIn, Killed, Reaches}
-use Rattle.hwp_evict.specs.hwp_page.Endings.{ends, is_ended_by}
-use Rattle.hwp_evict.specs.hwp_core_rule.Lists.{SomeMember}
-use Rattle.hwp_evict.proofs.of_hwp_core_rule.Lists.{same-number}
+use Rattle.hwp_core.specs.hwp_geom.declared.Layout.{Layout}
+use Rattle.hwp_core.specs.hwp_geom.declared.Proc.{Proc}
+use Rattle.hwp_core.specs.hwp_geom.declared.Thread.{Thread}
+use Rattle.hwp_core.specs.hwp_geom.declared.ThreadDecl.{ThreadDecl}
+use Rattle.hwp_core.specs.hwp_kill.declared.Code.{Code}
+use Rattle.hwp_core.specs.hwp_kill.declared.Code.TheVariants as codes
+use Rattle.hwp_core.specs.hwp_kill.declared.Seen.{Seen}
+use Rattle.hwp_core.specs.hwp_kill.declared.Signal.{Signal}
+use Rattle.hwp_core.specs.hwp_kill.Kill.{IsIn, Killed, Reaches}
+use Rattle.hwp_core.specs.hwp_page.Endings.{ends, is_ended_by}
+use Rattle.hwp_core.specs.hwp_core_rule.Lists.{SomeMember}
+use Rattle.hwp_core.proofs.of_hwp_core_rule.Lists.{same-number}
 use Rattle.hwp_claim_act.specs.Abandons.{endings_of, is_unhandled, unhandled_at}
 
 -- a member of a filtered list is one of the list that passes

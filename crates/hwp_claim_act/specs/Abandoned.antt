@@ -3,42 +3,42 @@ use Rattle.std.specs.Prelude.{◌≡◌, ◌⊎◌, ℕ, ◌+◌, ◌-◌, ◌<�
 use Rattle.std.specs.FinSet as set
 use Rattle.std.specs.List.{sum_by}
 use Rattle.std.specs.Int.{from_bool}
-use Rattle.hwp_evict.specs.hwp_geom.declared.FileNo.{FileNo}
-use Rattle.hwp_evict.specs.hwp_geom.declared.Frame.{Frame}
-use Rattle.hwp_evict.specs.hwp_geom.declared.Layout.{Layout}
-use Rattle.hwp_evict.specs.hwp_geom.declared.Page.{Page}
-use Rattle.hwp_evict.specs.hwp_geom.declared.Proc.{Proc}
-use Rattle.hwp_evict.specs.hwp_geom.declared.Thread.{Thread}
-use Rattle.hwp_evict.specs.hwp_geom.declared.Who.{Who}
-use Rattle.hwp_evict.specs.hwp_geom.Layout.{IsSound}
-use Rattle.hwp_evict.specs.hwp_kill.declared.Seen.{Seen}
-use Rattle.hwp_evict.specs.hwp_kill.declared.Signal.{Signal}
-use Rattle.hwp_evict.specs.hwp_kill.Limits.{signal_limit}
-use Rattle.hwp_evict.specs.hwp_page.declared.Entry.{Entry}
-use Rattle.hwp_evict.specs.hwp_page.declared.Situation.{Situation}
-use Rattle.hwp_evict.specs.hwp_page.declared.Situation.TheVariants as situations
-use Rattle.hwp_evict.specs.hwp_page.declared.What.{What}
-use Rattle.hwp_evict.specs.hwp_page.declared.What.TheVariants as entries
-use Rattle.hwp_evict.specs.hwp_page.History.{BodyValue}
-use Rattle.hwp_evict.specs.hwp_page.Losses.{is_loss}
-use Rattle.hwp_evict.specs.hwp_page.Step.{IsFailure}
-use Rattle.hwp_evict.specs.hwp_core_rule.declared.InHand.{InHand}
-use Rattle.hwp_evict.specs.hwp_core_rule.declared.Log.{Log}
-use Rattle.hwp_evict.specs.hwp_core_rule.declared.Made.{Made}
-use Rattle.hwp_evict.specs.hwp_core_rule.declared.Mark.{Mark}
-use Rattle.hwp_evict.specs.hwp_core_rule.declared.View.{View}
-use Rattle.hwp_evict.specs.hwp_core_rule.Asks.{Extends}
-use Rattle.hwp_evict.specs.hwp_core_rule.Lists.{SomeMember}
-use Rattle.hwp_evict.specs.hwp_core_rule.Logs.{file_of, log_of, state_of}
-use Rattle.hwp_evict.specs.hwp_core_rule.Views.{more_of}
-use Rattle.hwp_evict.specs.hwp_core_rule.parts.Counter.{is_poisoning}
-use Rattle.hwp_evict.specs.hwp_core_rule.parts.Fits.{FitsWords}
-use Rattle.hwp_evict.specs.hwp_core_task.Calls.{IsOnTurn}
-use Rattle.hwp_evict.specs.hwp_core_task.Hands.{Hand, hand_of, empty}
-use Rattle.hwp_evict.specs.hwp_core_task.Known.{HasMade, deeds}
-use Rattle.hwp_evict.specs.hwp_core_task.Turns.{Member}
-use Rattle.hwp_evict.specs.hwp_core_task.declared.Turn.TheVariants.{Moved}
-use Rattle.hwp_evict.specs.Vacates.{page_held, with_frame}
+use Rattle.hwp_core.specs.hwp_geom.declared.FileNo.{FileNo}
+use Rattle.hwp_core.specs.hwp_geom.declared.Frame.{Frame}
+use Rattle.hwp_core.specs.hwp_geom.declared.Layout.{Layout}
+use Rattle.hwp_core.specs.hwp_geom.declared.Page.{Page}
+use Rattle.hwp_core.specs.hwp_geom.declared.Proc.{Proc}
+use Rattle.hwp_core.specs.hwp_geom.declared.Thread.{Thread}
+use Rattle.hwp_core.specs.hwp_geom.declared.Who.{Who}
+use Rattle.hwp_core.specs.hwp_geom.Layout.{IsSound}
+use Rattle.hwp_core.specs.hwp_kill.declared.Seen.{Seen}
+use Rattle.hwp_core.specs.hwp_kill.declared.Signal.{Signal}
+use Rattle.hwp_core.specs.hwp_kill.Limits.{signal_limit}
+use Rattle.hwp_core.specs.hwp_page.declared.Entry.{Entry}
+use Rattle.hwp_core.specs.hwp_page.declared.Situation.{Situation}
+use Rattle.hwp_core.specs.hwp_page.declared.Situation.TheVariants as situations
+use Rattle.hwp_core.specs.hwp_page.declared.What.{What}
+use Rattle.hwp_core.specs.hwp_page.declared.What.TheVariants as entries
+use Rattle.hwp_core.specs.hwp_page.History.{BodyValue}
+use Rattle.hwp_core.specs.hwp_page.Losses.{is_loss}
+use Rattle.hwp_core.specs.hwp_page.Step.{IsFailure}
+use Rattle.hwp_core.specs.hwp_core_rule.declared.InHand.{InHand}
+use Rattle.hwp_core.specs.hwp_core_rule.declared.Log.{Log}
+use Rattle.hwp_core.specs.hwp_core_rule.declared.Made.{Made}
+use Rattle.hwp_core.specs.hwp_core_rule.declared.Mark.{Mark}
+use Rattle.hwp_core.specs.hwp_core_rule.declared.View.{View}
+use Rattle.hwp_core.specs.hwp_core_rule.Asks.{Extends}
+use Rattle.hwp_core.specs.hwp_core_rule.Lists.{SomeMember}
+use Rattle.hwp_core.specs.hwp_core_rule.Logs.{file_of, log_of, state_of}
+use Rattle.hwp_core.specs.hwp_core_rule.Views.{more_of}
+use Rattle.hwp_core.specs.hwp_core_rule.parts.Counter.{is_poisoning}
+use Rattle.hwp_core.specs.hwp_core_rule.parts.Fits.{FitsWords}
+use Rattle.hwp_core.specs.hwp_core_task.Calls.{IsOnTurn}
+use Rattle.hwp_core.specs.hwp_core_task.Hands.{Hand, hand_of, empty}
+use Rattle.hwp_core.specs.hwp_core_task.Known.{HasMade, deeds}
+use Rattle.hwp_core.specs.hwp_core_task.Turns.{Member}
+use Rattle.hwp_core.specs.hwp_core_task.declared.Turn.TheVariants.{Moved}
+use Rattle.hwp_core.specs.Vacates.{page_held, with_frame}
 use Rattle.hwp_claim_act.specs.declared.abandon.Abandon.{Abandon}
 use Rattle.hwp_claim_act.specs.declared.abandon.AbandonAt.{AbandonAt}
 use Rattle.hwp_claim_act.specs.declared.abandon.AbandonAt.TheVariants as at

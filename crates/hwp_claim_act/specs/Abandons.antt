@@ -2,19 +2,19 @@
 use Rattle.std.specs.Prelude.{ℕ, ◌+◌, ◌-◌, ◌<◌, ◌==◌, ◌||◌, Bool, true, false, not, cond, List, [], ◌∷◌, Option, Some, None, is_some, length, option_map, slice_get}
 use Rattle.std.specs.List.{filter, list_any}
 use Rattle.std.specs.declared.snapshot.Snapshot.{Snapshot}
-use Rattle.hwp_evict.specs.hwp_geom.declared.FileNo.{FileNo}
-use Rattle.hwp_evict.specs.hwp_geom.declared.Frame.{Frame}
-use Rattle.hwp_evict.specs.hwp_geom.declared.Layout.{Layout}
-use Rattle.hwp_evict.specs.hwp_geom.declared.Page.{Page}
-use Rattle.hwp_evict.specs.hwp_geom.declared.ThreadDecl.{ThreadDecl}
-use Rattle.hwp_evict.specs.hwp_geom.declared.Who.{Who}
-use Rattle.hwp_evict.specs.hwp_kill.declared.Code.{Code}
-use Rattle.hwp_evict.specs.hwp_kill.declared.Code.TheVariants as codes
-use Rattle.hwp_evict.specs.hwp_kill.declared.Signal.{Signal}
-use Rattle.hwp_evict.specs.hwp_kill.Limits.{signal_limit}
-use Rattle.hwp_evict.specs.hwp_page.History.{BodyValue}
-use Rattle.hwp_evict.specs.hwp_core_rule.declared.Step.{Step}
-use Rattle.hwp_evict.specs.hwp_core_rule.declared.Step.TheVariants as steps
+use Rattle.hwp_core.specs.hwp_geom.declared.FileNo.{FileNo}
+use Rattle.hwp_core.specs.hwp_geom.declared.Frame.{Frame}
+use Rattle.hwp_core.specs.hwp_geom.declared.Layout.{Layout}
+use Rattle.hwp_core.specs.hwp_geom.declared.Page.{Page}
+use Rattle.hwp_core.specs.hwp_geom.declared.ThreadDecl.{ThreadDecl}
+use Rattle.hwp_core.specs.hwp_geom.declared.Who.{Who}
+use Rattle.hwp_core.specs.hwp_kill.declared.Code.{Code}
+use Rattle.hwp_core.specs.hwp_kill.declared.Code.TheVariants as codes
+use Rattle.hwp_core.specs.hwp_kill.declared.Signal.{Signal}
+use Rattle.hwp_core.specs.hwp_kill.Limits.{signal_limit}
+use Rattle.hwp_core.specs.hwp_page.History.{BodyValue}
+use Rattle.hwp_core.specs.hwp_core_rule.declared.Step.{Step}
+use Rattle.hwp_core.specs.hwp_core_rule.declared.Step.TheVariants as steps
 use Rattle.hwp_claim_act.specs.declared.abandon.Abandon.{Abandon}
 use Rattle.hwp_claim_act.specs.declared.abandon.AbandonAt.{AbandonAt}
 use Rattle.hwp_claim_act.specs.declared.abandon.AbandonAt.TheVariants as at

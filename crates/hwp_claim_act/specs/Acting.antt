@@ -1,24 +1,24 @@
 -- What is held and known while a memory failure acts on the page in its frame.
 use Rattle.std.specs.Prelude.{◌≡◌, ℕ, ◌+◌, ◌<◌, ◌≤◌, true, false, [], ◌∷◌, Option, Some, None, is_none, length, drop}
-use Rattle.hwp_evict.specs.hwp_geom.declared.Frame.{Frame}
-use Rattle.hwp_evict.specs.hwp_geom.declared.Layout.{Layout}
-use Rattle.hwp_evict.specs.hwp_geom.declared.Page.{Page}
-use Rattle.hwp_evict.specs.hwp_geom.declared.Thread.{Thread}
-use Rattle.hwp_evict.specs.hwp_geom.declared.Who.{Who}
-use Rattle.hwp_evict.specs.hwp_page.History.{BodyValue, IsReplay}
-use Rattle.hwp_evict.specs.hwp_core_rule.declared.InHand.{InHand}
-use Rattle.hwp_evict.specs.hwp_core_rule.declared.Log.{Log}
-use Rattle.hwp_evict.specs.hwp_core_rule.declared.View.{View}
-use Rattle.hwp_evict.specs.hwp_core_rule.Logs.{log_of, state_of}
-use Rattle.hwp_evict.specs.hwp_core_rule.Views.{body_of, more_of}
-use Rattle.hwp_evict.specs.hwp_core_rule.parts.Entries.{HasSeen}
-use Rattle.hwp_evict.specs.hwp_core_task.Calls.{IsOnTurn}
-use Rattle.hwp_evict.specs.hwp_core_task.Hands.{hand_of, empty, body_in}
-use Rattle.hwp_evict.specs.hwp_core_task.Turns.{Member}
-use Rattle.hwp_evict.specs.hwp_core.declared.give_up.GiveUp.{GiveUp}
-use Rattle.hwp_evict.specs.hwp_core.GiveUps as give_ups
-use Rattle.hwp_evict.specs.declared.clear.Clear.{Clear}
-use Rattle.hwp_evict.specs.Clears as clears
+use Rattle.hwp_core.specs.hwp_geom.declared.Frame.{Frame}
+use Rattle.hwp_core.specs.hwp_geom.declared.Layout.{Layout}
+use Rattle.hwp_core.specs.hwp_geom.declared.Page.{Page}
+use Rattle.hwp_core.specs.hwp_geom.declared.Thread.{Thread}
+use Rattle.hwp_core.specs.hwp_geom.declared.Who.{Who}
+use Rattle.hwp_core.specs.hwp_page.History.{BodyValue, IsReplay}
+use Rattle.hwp_core.specs.hwp_core_rule.declared.InHand.{InHand}
+use Rattle.hwp_core.specs.hwp_core_rule.declared.Log.{Log}
+use Rattle.hwp_core.specs.hwp_core_rule.declared.View.{View}
+use Rattle.hwp_core.specs.hwp_core_rule.Logs.{log_of, state_of}
+use Rattle.hwp_core.specs.hwp_core_rule.Views.{body_of, more_of}
+use Rattle.hwp_core.specs.hwp_core_rule.parts.Entries.{HasSeen}
+use Rattle.hwp_core.specs.hwp_core_task.Calls.{IsOnTurn}
+use Rattle.hwp_core.specs.hwp_core_task.Hands.{hand_of, empty, body_in}
+use Rattle.hwp_core.specs.hwp_core_task.Turns.{Member}
+use Rattle.hwp_core.specs.declared.give_up.GiveUp.{GiveUp}
+use Rattle.hwp_core.specs.GiveUps as give_ups
+use Rattle.hwp_core.specs.declared.clear.Clear.{Clear}
+use Rattle.hwp_core.specs.Clears as clears
 use Rattle.hwp_claim_act.specs.declared.abandon.Abandon.{Abandon}
 use Rattle.hwp_claim_act.specs.declared.abandon.Failed.{Failed}
 use Rattle.hwp_claim_act.specs.declared.abandon.Losses.{Losses}

@@ -1,22 +1,22 @@
 -- A memory failure that acts on the page in its frame: the task's states and its steps.
 use Rattle.std.specs.Prelude.{◌≡◌, ◌⊎◌, ℕ, ◌+◌, ◌<◌, ◌≤◌, true, cond, List, [], ◌∷◌, Option, Some, None, is_none, length}
-use Rattle.hwp_evict.specs.hwp_geom.declared.Frame.{Frame}
-use Rattle.hwp_evict.specs.hwp_geom.declared.Page.{Page}
-use Rattle.hwp_evict.specs.hwp_geom.declared.Thread.{Thread}
-use Rattle.hwp_evict.specs.hwp_geom.declared.Who.{Who}
-use Rattle.hwp_evict.specs.hwp_kill.declared.Seen.{Seen}
-use Rattle.hwp_evict.specs.hwp_page.Actions.{situation_of}
-use Rattle.hwp_evict.specs.hwp_page.History.{BodyValue}
-use Rattle.hwp_evict.specs.hwp_page.Situations.{is_signalling}
-use Rattle.hwp_evict.specs.hwp_core_rule.declared.Step.{Step}
-use Rattle.hwp_evict.specs.hwp_core_rule.Words.{Words}
-use Rattle.hwp_evict.specs.hwp_core_task.declared.Turn.{Turn}
-use Rattle.hwp_evict.specs.hwp_core_task.declared.Turn.TheVariants.{Moved}
-use Rattle.hwp_evict.specs.hwp_core.declared.give_up.GiveUp.{GiveUp}
-use Rattle.hwp_evict.specs.hwp_core.GiveUps as give_ups
-use Rattle.hwp_evict.specs.declared.clear.Clear.{Clear}
-use Rattle.hwp_evict.specs.Clears as clears
-use Rattle.hwp_evict.specs.hwp_core_task.Ranks.{pass}
+use Rattle.hwp_core.specs.hwp_geom.declared.Frame.{Frame}
+use Rattle.hwp_core.specs.hwp_geom.declared.Page.{Page}
+use Rattle.hwp_core.specs.hwp_geom.declared.Thread.{Thread}
+use Rattle.hwp_core.specs.hwp_geom.declared.Who.{Who}
+use Rattle.hwp_core.specs.hwp_kill.declared.Seen.{Seen}
+use Rattle.hwp_core.specs.hwp_page.Actions.{situation_of}
+use Rattle.hwp_core.specs.hwp_page.History.{BodyValue}
+use Rattle.hwp_core.specs.hwp_page.Situations.{is_signalling}
+use Rattle.hwp_core.specs.hwp_core_rule.declared.Step.{Step}
+use Rattle.hwp_core.specs.hwp_core_rule.Words.{Words}
+use Rattle.hwp_core.specs.hwp_core_task.declared.Turn.{Turn}
+use Rattle.hwp_core.specs.hwp_core_task.declared.Turn.TheVariants.{Moved}
+use Rattle.hwp_core.specs.declared.give_up.GiveUp.{GiveUp}
+use Rattle.hwp_core.specs.GiveUps as give_ups
+use Rattle.hwp_core.specs.declared.clear.Clear.{Clear}
+use Rattle.hwp_core.specs.Clears as clears
+use Rattle.hwp_core.specs.hwp_core_task.Ranks.{pass}
 use Rattle.hwp_claim_act.specs.declared.abandon.Abandon.{Abandon}
 use Rattle.hwp_claim_act.specs.declared.abandon.AbandonAt.{AbandonAt}
 use Rattle.hwp_claim_act.specs.declared.abandon.AbandonAt.TheVariants as abandon_at

@@ -1,21 +1,21 @@
 -- The entry of a memory failure, as the code makes it.
 use Rattle.std.specs.Prelude.{◌≡◌, ℕ, ◌<◌, ◌≤◌, ◌++◌, Bool, true, false, List, [], ◌∷◌, Option, Some, None, length}
-use Rattle.hwp_evict.specs.hwp_geom.declared.FileNo.{FileNo}
-use Rattle.hwp_evict.specs.hwp_geom.declared.PageKind.{PageKind}
-use Rattle.hwp_evict.specs.hwp_geom.declared.PageKind.TheVariants as page_kinds
-use Rattle.hwp_evict.specs.hwp_geom.declared.Thread.{Thread}
-use Rattle.hwp_evict.specs.hwp_geom.declared.Who.{Who}
-use Rattle.hwp_evict.specs.hwp_kill.declared.Seen.{Seen}
-use Rattle.hwp_evict.specs.hwp_kill.declared.Signal.{Signal}
-use Rattle.hwp_evict.specs.hwp_kill.Kill.{Killed}
-use Rattle.hwp_evict.specs.hwp_kill.Limits.{signal_limit}
-use Rattle.hwp_evict.specs.hwp_page.declared.PageState.{PageState}
-use Rattle.hwp_evict.specs.hwp_page.declared.Situation.{Situation}
-use Rattle.hwp_evict.specs.hwp_page.declared.Situation.TheVariants as situations
-use Rattle.hwp_evict.specs.hwp_page.Actions.{acted, situation_of}
-use Rattle.hwp_evict.specs.hwp_page.History.{BodyValue}
-use Rattle.hwp_evict.specs.hwp_page.Situations.{always_signals, is_signalling}
-use Rattle.hwp_evict.specs.hwp_page.Step.{IsSeenList}
+use Rattle.hwp_core.specs.hwp_geom.declared.FileNo.{FileNo}
+use Rattle.hwp_core.specs.hwp_geom.declared.PageKind.{PageKind}
+use Rattle.hwp_core.specs.hwp_geom.declared.PageKind.TheVariants as page_kinds
+use Rattle.hwp_core.specs.hwp_geom.declared.Thread.{Thread}
+use Rattle.hwp_core.specs.hwp_geom.declared.Who.{Who}
+use Rattle.hwp_core.specs.hwp_kill.declared.Seen.{Seen}
+use Rattle.hwp_core.specs.hwp_kill.declared.Signal.{Signal}
+use Rattle.hwp_core.specs.hwp_kill.Kill.{Killed}
+use Rattle.hwp_core.specs.hwp_kill.Limits.{signal_limit}
+use Rattle.hwp_core.specs.hwp_page.declared.PageState.{PageState}
+use Rattle.hwp_core.specs.hwp_page.declared.Situation.{Situation}
+use Rattle.hwp_core.specs.hwp_page.declared.Situation.TheVariants as situations
+use Rattle.hwp_core.specs.hwp_page.Actions.{acted, situation_of}
+use Rattle.hwp_core.specs.hwp_page.History.{BodyValue}
+use Rattle.hwp_core.specs.hwp_page.Situations.{always_signals, is_signalling}
+use Rattle.hwp_core.specs.hwp_page.Step.{IsSeenList}
 use Rattle.hwp_claim_act.specs.declared.abandon.Failed.{Failed}
 use Rattle.hwp_claim_act.specs.declared.abandon.Losses.{Losses}
 use Rattle.hwp_claim_act.specs.declared.failing.Entered.{Entered}

@@ -4,4 +4,3 @@ pub mod Acting
 pub mod Acts
 pub mod Failing
 pub mod Reads
-pub use Rattle.hwp_evict.specs as hwp_evict

@@ -1,7 +1,7 @@
 ghost use Rattle.std.specs.Prelude.{◌≡◌, is_none};
 ghost use Rattle.hwp_claim_act.specs.Abandons.{begin, answer, kill_at, after_owner};
 
-use hwp_evict::{
+use hwp_core::{
     At, Body, FileNo, Frame, Layout, Page, Proc, Ranked, SignalList, Situation, Step, Task, Thread,
     Turn, Who,
 };

@@ -1,5 +1,5 @@
 ghost use Rattle.std.specs.Prelude.{◌≡◌, ◌<◌, true, None};
-ghost use Rattle.hwp_evict.specs.hwp_core_task.declared.Turn.TheVariants.{Moved};
+ghost use Rattle.hwp_core.specs.hwp_core_task.declared.Turn.TheVariants.{Moved};
 ghost use Rattle.hwp_claim_act.specs.declared.act.ActAt.TheVariants as states;
 ghost use Rattle.hwp_claim_act.specs.Failing.{CanEnter};
 ghost use Rattle.hwp_claim_act.specs.Acts.{AfterRead, Begins, CanReadOn, Enters, Follows, IsAtClear, Shows, Starts, abandoned, after_clear, answer, given_up};
@@ -7,7 +7,7 @@ ghost use Rattle.hwp_claim_act.specs.Acts.{AfterRead, Begins, CanReadOn, Enters,
 use crate::abandon::{Abandon, Failed, Losses};
 use crate::failing::{Entered, bars, enter};
 use crate::read_policies::{ReadPolicies, Rooms};
-use hwp_evict::{
+use hwp_core::{
     Body, Clear, Frame, GiveUp, Layout, List, Page, Ranked, Seen, Step, Task, Thread, Turn, Who,
 };
 use std::alloc::Global;

@@ -1,13 +1,13 @@
 ghost use Rattle.std.specs.Prelude.{◌≡◌, ◌≤◌, length};
-ghost use Rattle.hwp_evict.specs.hwp_kill.Kill.{Killed};
-ghost use Rattle.hwp_evict.specs.hwp_kill.Limits.{signal_limit};
-ghost use Rattle.hwp_evict.specs.hwp_page.Actions.{situation_of};
-ghost use Rattle.hwp_evict.specs.hwp_page.Situations.{always_signals, is_signalling};
+ghost use Rattle.hwp_core.specs.hwp_kill.Kill.{Killed};
+ghost use Rattle.hwp_core.specs.hwp_kill.Limits.{signal_limit};
+ghost use Rattle.hwp_core.specs.hwp_page.Actions.{situation_of};
+ghost use Rattle.hwp_core.specs.hwp_page.Situations.{always_signals, is_signalling};
 ghost use Rattle.hwp_claim_act.specs.Abandons.{endings_of, is_unhandled, signals_now};
 ghost use Rattle.hwp_claim_act.specs.Failing.{CanEnter, HasMadeEntry, bars_of, lost_of};
 
 use crate::abandon::{Failed, Losses};
-use hwp_evict::{
+use hwp_core::{
     At, Body, Code, Entry, FileNo, Layout, List, PageKind, PageState, Seen, Signal, SignalList,
     SignalRoom, Situation, Thread, What, Who, signals,
 };

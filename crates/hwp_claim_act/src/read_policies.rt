@@ -1,7 +1,7 @@
 ghost use Rattle.std.specs.Prelude.{◌≡◌, [], is_none, vec_capacity};
 ghost use Rattle.hwp_claim_act.specs.Reads.{IsBegun};
 
-use hwp_evict::{
+use hwp_core::{
     Body, Frame, Layout, List, OutOfMemory, PolicyWord, Ranked, Seen, SharedWord, SignalRoom,
     SlotRoom, Step, Task, Thread, Turn, Who, next_to_read,
 };

@@ -9,8 +9,8 @@ mod meet;
 pub use claim::{Claim, ClaimAnswer};
 pub use grab::{Grab, GrabAnswer};
 pub use hwp_core::{
-    At, Board, Body, CacheWord, CounterWord, Cpu, Entry, FileNo, Frame, FrameWord, Kind, Layout,
-    Line, List, Mask, Mode, Ops, OutOfMemory, Outcome, Page, PageWord, PolicyWord, Proc,
+    At, Board, Body, CacheWord, CounterWord, Cpu, Entry, FileNo, Frame, FrameWord, HeldSlots, Kind,
+    Layout, Line, List, Mask, Mode, Ops, OutOfMemory, Outcome, Page, PageWord, PolicyWord, Proc,
     ProcessWord, Pte, Ranked, Refer, Release, Scheduled, SharedWord, Situation, Slots, Step,
     StopWord, Task, Text, Thread, Turn, Unlock, VSlot, Who, index, is_stopped, lowest_bit,
 };

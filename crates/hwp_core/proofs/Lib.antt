@@ -12,6 +12,12 @@ pub mod GiveUpLaws
 pub mod ReferCosts
 pub mod GiveUpCosts
 pub mod TaskTells
+pub mod BodyGrows
+pub mod VacateLaws
+pub mod VacateCosts
+pub mod PageStates
+pub mod TranslationWrites
+pub mod ClearLaws
 pub use Rattle.hwp_core_task.proofs.of_hwp_core_rule as of_hwp_core_rule
 pub use Rattle.hwp_core_task.proofs as of_hwp_core_task
 pub use Rattle.hwp_core_task.proofs.of_hwp_kill as of_hwp_kill

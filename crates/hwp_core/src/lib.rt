@@ -1,6 +1,8 @@
-//! The first tasks: a reference taken and given back, a page held and let go, a frame let go, and a command given up.
+//! The first tasks: a reference taken and given back, a page held and let go, a frame let go, a page's translations written and
+//! the page taken out of its frame, and a command given up.
 #![tactic(auto)]
 
+mod clear;
 mod give_up;
 mod hold;
 mod pin;
@@ -8,7 +10,9 @@ mod refer;
 mod release;
 mod unhold;
 mod unlock;
+mod vacate;
 
+pub use clear::Clear;
 pub use give_up::GiveUp;
 pub use hold::Hold;
 pub use hwp_core_task::{
@@ -24,3 +28,4 @@ pub use refer::Refer;
 pub use release::{Release, ReleaseAnswer};
 pub use unhold::{Unhold, UnholdAnswer};
 pub use unlock::Unlock;
+pub use vacate::Vacate;

@@ -8,10 +8,10 @@ use Rattle.hwp_cpu_command.specs.hwp_cpu_control.declared.read_stop.ReadStopAt.T
 use Rattle.hwp_cpu_command.specs.hwp_cpu_control.ReadStops as read_stops
 use Rattle.hwp_cpu_command.specs.hwp_evict.declared.evict.EvictAt.{EvictAt}
 use Rattle.hwp_cpu_command.specs.hwp_evict.declared.evict.EvictAt.TheVariants as evict_at
-use Rattle.hwp_cpu_command.specs.hwp_evict.declared.vacate.VacateAt.{VacateAt}
-use Rattle.hwp_cpu_command.specs.hwp_evict.declared.vacate.VacateAt.TheVariants as vacate_at
+use Rattle.hwp_cpu_command.specs.hwp_core.declared.vacate.VacateAt.{VacateAt}
+use Rattle.hwp_cpu_command.specs.hwp_core.declared.vacate.VacateAt.TheVariants as vacate_at
 use Rattle.hwp_cpu_command.specs.hwp_evict.Evicts as evicts
-use Rattle.hwp_cpu_command.specs.hwp_evict.Vacates as vacates
+use Rattle.hwp_cpu_command.specs.hwp_core.Vacates as vacates
 use Rattle.hwp_cpu_command.specs.hwp_claim_frame.declared.claim.ClaimAt.{ClaimAt}
 use Rattle.hwp_cpu_command.specs.hwp_claim_frame.declared.claim.ClaimAt.TheVariants as claim_at
 use Rattle.hwp_cpu_command.specs.hwp_claim_frame.declared.grab.GrabAt.{GrabAt}

@@ -37,13 +37,13 @@ use Rattle.hwp_evict.specs.declared.evict.EvictAt.{EvictAt}
 use Rattle.hwp_evict.specs.declared.evict.EvictAt.TheVariants as at
 use Rattle.hwp_evict.specs.declared.evict.Eviction.{Eviction}
 use Rattle.hwp_evict.specs.declared.evict.Eviction.TheVariants as evictions
-use Rattle.hwp_evict.specs.declared.vacate.Vacate.{Vacate}
-use Rattle.hwp_evict.specs.declared.vacate.VacateAt.{VacateAt}
-use Rattle.hwp_evict.specs.declared.vacate.VacateAt.TheVariants as vacate_at
+use Rattle.hwp_evict.specs.hwp_core.declared.vacate.Vacate.{Vacate}
+use Rattle.hwp_evict.specs.hwp_core.declared.vacate.VacateAt.{VacateAt}
+use Rattle.hwp_evict.specs.hwp_core.declared.vacate.VacateAt.TheVariants as vacate_at
 use Rattle.hwp_evict.specs.Evictions.{entry_of}
 use Rattle.hwp_evict.specs.Evicts.{FitsAt, FitsFrom, IsVacating, plan, plan_at, put, put_at}
-use Rattle.hwp_evict.specs.Vacates as vacates
-use Rattle.hwp_evict.proofs.ClearLaws.{clear-lists}
+use Rattle.hwp_evict.specs.hwp_core.Vacates as vacates
+use Rattle.hwp_evict.proofs.of_hwp_core.ClearLaws.{clear-lists}
 use Rattle.hwp_cpu_access.proofs.of_hwp_cpu_check.of_hwp_claim.Quiet.{Alike, PlansQuiet, clear, give-up, leaves, release, unhold}
 use Rattle.hwp_cpu_access.specs.Done.{failures_by}
 use Rattle.hwp_cpu_access.proofs.CommandGrows.{failures-listed}

@@ -40,7 +40,7 @@ use Rattle.hwp_evict.specs.declared.evict.Eviction.{Eviction}
 use Rattle.hwp_evict.specs.declared.evict.Eviction.TheVariants as evictions
 use Rattle.hwp_evict.specs.Evictions.{copies}
 use Rattle.hwp_evict.specs.Evicts.{AfterHeld, AfterHoldAt, FitsAt, FitsFrom, FollowsAt, bare_at, plan, plan_at, put, put_at}
-use Rattle.hwp_evict.specs.Vacates as vacates
+use Rattle.hwp_evict.specs.hwp_core.Vacates as vacates
 use Rattle.hwp_evict.specs.hwp_words.Stops.{is_stopped}
 use Rattle.hwp_cpu_copy.specs.Looks.{HasInBody, HasInHold, HasInView, StandBefore}
 use Rattle.hwp_cpu_copy.proofs.HomePlaces.{stands-before}

@@ -11,7 +11,6 @@ pub use Rattle.hwp_cpu_check.specs.hwp_core as hwp_core
 pub use Rattle.hwp_cpu_check.specs.hwp_core_rule as hwp_core_rule
 pub use Rattle.hwp_cpu_check.specs.hwp_core_task as hwp_core_task
 pub use Rattle.hwp_cpu_check.specs as hwp_cpu_check
-pub use Rattle.hwp_cpu_check.specs.hwp_evict as hwp_evict
 pub use Rattle.hwp_cpu_check.specs.hwp_geom as hwp_geom
 pub use Rattle.hwp_cpu_check.specs.hwp_law_commands as hwp_law_commands
 pub use Rattle.hwp_cpu_check.specs.hwp_page as hwp_page

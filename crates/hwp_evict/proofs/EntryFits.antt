@@ -22,7 +22,7 @@ use Rattle.hwp_evict.specs.Evictions.{entry_of, IsOfKind, Passes}
 use Rattle.hwp_evict.specs.Evicts.{Enters, FitsAt, GoesOut, HasEntry, place}
 use Rattle.hwp_evict.proofs.EvictBegins.{given-up-fits, has-entry, leaves, let-go}
 use Rattle.hwp_evict.proofs.EntryHome.{same-words, shelf-words, state-after}
-use Rattle.hwp_evict.proofs.PageStates.{is-cached, state-is}
+use Rattle.hwp_core.proofs.PageStates.{is-cached, state-is}
 use Rattle.hwp_evict.proofs.SwapOut.{starts}
 
 module _ {base : List Made} {layout : Layout} {view : View} {who : Who} {page : Page} (on : IsOnTurn view who) (inside : page.0 < length layout.pages) (sound : IsSound layout) (frame : Frame) (body : BodyValue) (has : HoldsPage layout view page (Some frame) body) (none : HasMadeNoneBeside base view who) where

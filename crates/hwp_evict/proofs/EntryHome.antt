@@ -25,19 +25,19 @@ use Rattle.hwp_core.specs.hwp_words.Translations.{pte_word}
 use Rattle.hwp_core.specs.hwp_words.declared.Pte.TheVariants as ptes
 use Rattle.hwp_core.specs.hwp_core_rule.declared.InHand.{InHand}
 use Rattle.hwp_core.specs.hwp_core_rule.declared.Log.{Log}
-use Rattle.hwp_core.specs.hwp_core_rule.declared.PageLock.{PageLock}
 use Rattle.hwp_core.specs.hwp_core_rule.declared.Sight.{Sight}
 use Rattle.hwp_core.specs.hwp_core_rule.declared.View.{View}
-use Rattle.hwp_core.specs.hwp_core_rule.Asks.{CanGoHome, Extends, PutFits}
+use Rattle.hwp_core.specs.hwp_core_rule.Asks.{CanGoHome, Extends}
 use Rattle.hwp_core.specs.hwp_core_rule.Lists.{EachMember, SomeMember}
 use Rattle.hwp_core.specs.hwp_core_rule.Logs.{log_of, opening_at, state_of, fitting, fitting_word}
-use Rattle.hwp_core.specs.hwp_core_rule.Views.{is_body_of, more_of, page_locks_on}
+use Rattle.hwp_core.specs.hwp_core_rule.Views.{is_body_of, more_of}
 use Rattle.hwp_core.specs.hwp_core_rule.parts.Entries.{HasSeen}
 use Rattle.hwp_core.specs.hwp_core_rule.parts.Fits.{FitsWords}
 use Rattle.hwp_core.proofs.of_hwp_core_rule.PageWords.{fitting-at}
 use Rattle.hwp_core.proofs.of_hwp_core_rule.Lists.{same-number}
 use Rattle.hwp_core.specs.hwp_core_task.Hands.{body_in}
 use Rattle.hwp_core.specs.Holds.{page_lock}
+use Rattle.hwp_core.proofs.VacateLaws.{put-fits-of}
 use Rattle.hwp_evict.specs.declared.evict.Eviction.{Eviction}
 use Rattle.hwp_evict.specs.declared.evict.Eviction.TheVariants as evictions
 use Rattle.hwp_evict.specs.Evictions.{entry_of}
@@ -57,20 +57,6 @@ ends-none layout process who (evictions.Free slot) = refl
 ends-none layout process who evictions.Sync = refl
 ends-none layout process who evictions.Drop = refl
 ends-none layout process who evictions.Out = refl
-
--- the page's lock is in the first place, and what it lists fits
-pub put-fits-of : {layout : Layout} {view : View} {page : Page} (frame : Option Frame) (trans : List ℕ) (taken : InHand) (log : Log) → log.page ≡ page → view.pages ≡ page_lock page frame (Some trans) ∷ [] → FitsWords layout log (frame_name frame) trans
-    → PutFits layout view taken log
-put-fits-of {layout} {view} {page} frame trans taken log own pages fits = record {
-  unlocked = λ none.
-      let one : page_locks_on log.page.0 view.pages ≡ cond {A = ℕ} (page.0 == log.page.0) 1 0 + 0 = ap (page_locks_on log.page.0) pages ∙ grind arith in
-      let this : cond {A = ℕ} (page.0 == log.page.0) 1 0 ≡ 1 = ap (λ (b : Bool). cond {A = ℕ} b 1 0) (same-number page.0 log.page.0 (sym (ap (λ (p : Page). p.0) own))) in
-      absurd (omega (arith, none, one, this));
-  locked = λ other cache words at its cache_is trans_is.
-      let same : page_lock page frame (Some trans) ≡ other = same_Some (page_lock page frame (Some trans)) other (sym (ap (λ l. slice_get l 0) pages) ∙ at) in
-      subst (λ (c : ℕ). FitsWords layout log c words) (same_Some (frame_name frame) cache (ap (λ (l : PageLock). l.cache) same ∙ cache_is))
-      (subst (λ (ws : List ℕ). FitsWords layout log (frame_name frame) ws) (same_Some trans words (ap (λ (l : PageLock). l.trans) same ∙ trans_is)) fits);
-}
 
 module _ {layout : Layout} {who : Who} {page : Page} {what : Eviction} {log : Log} {done : At} {body : BodyValue} (has : HasEntry layout who page what log done body) (frame : Frame) (seen : ℕ) where
   abbrev taken : InHand

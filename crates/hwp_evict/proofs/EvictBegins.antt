@@ -32,9 +32,10 @@ use Rattle.hwp_evict.specs.declared.evict.Eviction.{Eviction}
 use Rattle.hwp_evict.specs.declared.evict.Refusal.{Refusal}
 use Rattle.hwp_evict.specs.Evictions.{entry_of, IsOfKind, IsWhy, Passes, SawLines}
 use Rattle.hwp_evict.specs.Evicts.{HasEntry, IsAhead, KnowsPut, FitsAt, given_up, place, refused, with_entry}
-use Rattle.hwp_evict.specs.Vacates as vacates
+use Rattle.hwp_core.specs.Vacates as vacates
 use Rattle.hwp_evict.proofs.EntryHome.{extends, goes-home, kills-none, one-more, words}
-use Rattle.hwp_evict.proofs.PageStates.{allows, is-cached, replay-is}
+use Rattle.hwp_core.proofs.PageStates.{is-cached, replay-is}
+use Rattle.hwp_evict.proofs.EvictStates.{allows}
 
 -- the body that is in hand is the page's
 in-hand : (view : View) {page : Page} (taken : InHand) → view.bodies ≡ taken ∷ [] → taken.log.page ≡ page → find (is_body_of page) view.bodies ≡ Some taken

@@ -42,7 +42,7 @@ use Rattle.hwp_core.specs.Unlocks as unlocks
 use Rattle.hwp_core.proofs.GiveUpCosts.{give-up-falls, give-up-goes, give-up-mild, give-up-ranked, give-up-small}
 use Rattle.hwp_core.proofs.TaskCosts.{hold-falls, hold-mild, hold-small, hold-class, hold-ranked, unhold-falls, unhold-mild, unhold-small, unhold-class}
 use Rattle.hwp_core.proofs.TaskTells.{Tells, hold-tells, unhold-tells, give-up-tells, frame-tells, no-frame, no-page}
-use Rattle.hwp_evict.specs.declared.clear.Clear.{Clear}
+use Rattle.hwp_core.specs.declared.clear.Clear.{Clear}
 use Rattle.hwp_evict.specs.declared.evict.Evict.{Evict}
 use Rattle.hwp_evict.specs.declared.evict.EvictAnswer.{EvictAnswer}
 use Rattle.hwp_evict.specs.declared.evict.EvictAnswer.TheVariants as answers
@@ -52,14 +52,14 @@ use Rattle.hwp_evict.specs.declared.evict.Eviction.{Eviction}
 use Rattle.hwp_evict.specs.declared.evict.Eviction.TheVariants as evictions
 use Rattle.hwp_evict.specs.declared.evict.Refusal.{Refusal}
 use Rattle.hwp_evict.specs.declared.evict.Refusal.TheVariants as refusals
-use Rattle.hwp_evict.specs.declared.vacate.Vacate.{Vacate}
+use Rattle.hwp_core.specs.declared.vacate.Vacate.{Vacate}
 use Rattle.hwp_evict.specs.Evictions.{copies, absence}
 use Rattle.hwp_evict.specs.Evicts.{AfterBad, AfterHeld, AfterHold, AfterHoldAt, Enters, Fits, FitsAt, Follows, FollowsAt, Shows, ShowsAt, after_clear, after_stop, after_unhold, after_vacate, bare, bare_at, class, class_at, cost, cost_at, GoesOut, place, plan, plan_at, refused, turn_after, task as evict-task}
-use Rattle.hwp_evict.specs.Clears as clears
-use Rattle.hwp_evict.specs.Vacates as vacates
-use Rattle.hwp_evict.proofs.ClearLaws.{clear-mild, clear-small, clears-fall}
+use Rattle.hwp_core.specs.Clears as clears
+use Rattle.hwp_core.specs.Vacates as vacates
+use Rattle.hwp_core.proofs.ClearLaws.{clear-mild, clear-small, clears-fall}
 use Rattle.hwp_evict.proofs.EvictLaws.{both}
-use Rattle.hwp_evict.proofs.VacateCosts.{vacate-falls, vacate-mild, vacate-small, vacate-class, vacate-tells}
+use Rattle.hwp_core.proofs.VacateCosts.{vacate-falls, vacate-mild, vacate-small, vacate-class, vacate-tells}
 
 -- ---- what the next states cost
 

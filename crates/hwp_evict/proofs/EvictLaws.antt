@@ -43,20 +43,21 @@ use Rattle.hwp_evict.specs.declared.evict.EvictAnswer.TheVariants as answers
 use Rattle.hwp_evict.specs.declared.evict.EvictAt.{EvictAt}
 use Rattle.hwp_evict.specs.declared.evict.EvictAt.TheVariants as at
 use Rattle.hwp_evict.specs.declared.evict.Eviction.{Eviction}
-use Rattle.hwp_evict.specs.declared.vacate.Vacate.{Vacate}
-use Rattle.hwp_evict.specs.declared.vacate.VacateAt.{VacateAt}
-use Rattle.hwp_evict.specs.declared.vacate.VacateAt.TheVariants as vacate_at
+use Rattle.hwp_core.specs.declared.vacate.Vacate.{Vacate}
+use Rattle.hwp_core.specs.declared.vacate.VacateAt.{VacateAt}
+use Rattle.hwp_core.specs.declared.vacate.VacateAt.TheVariants as vacate_at
 use Rattle.hwp_evict.specs.Evictions.{IsCaused, IsOfKind}
 use Rattle.hwp_evict.specs.Evicts.{plan, plan_at, put, put_at, bare, bare_at, after_stop, after_unhold, after_vacate, Follows, FollowsAt, Shows, ShowsAt, IsAhead, IsFreeing, IsLettingGo, IsVacating, KnowsPut, PutsNoMore, FitsAt, FitsFrom, task as evict-task}
-use Rattle.hwp_evict.specs.Vacates as vacates
+use Rattle.hwp_core.specs.Vacates as vacates
 use Rattle.hwp_evict.proofs.AnswerCauses.{ahead-stays, given-up-after, home-after, home-by-page, unhold-causes}
 use Rattle.hwp_evict.proofs.EvictSteps.{bad-fits, held-enters, hold-fits, recent-held}
-use Rattle.hwp_evict.proofs.TranslationWrites.{can-write, declared-of, freed}
-use Rattle.hwp_evict.proofs.PageStates.{can-enter}
-use Rattle.hwp_evict.proofs.ClearLaws as clearing
+use Rattle.hwp_core.proofs.TranslationWrites.{declared-of}
+use Rattle.hwp_evict.proofs.SlotFreed.{can-write, freed}
+use Rattle.hwp_evict.proofs.EvictStates.{can-enter}
+use Rattle.hwp_core.proofs.ClearLaws as clearing
 use Rattle.hwp_evict.proofs.SwapOut.{clear-fits, clear-shows}
-use Rattle.hwp_evict.proofs.VacateCosts.{vacate-lists}
-use Rattle.hwp_evict.proofs.VacateLaws as vacating
+use Rattle.hwp_core.proofs.VacateCosts.{vacate-lists}
+use Rattle.hwp_core.proofs.VacateLaws as vacating
 
 -- ---- the steps can be made
 

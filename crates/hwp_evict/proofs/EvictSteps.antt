@@ -49,7 +49,8 @@ use Rattle.hwp_evict.specs.Evictions.{absence, copies, entry_of, Bars, IsOfKind,
 use Rattle.hwp_evict.specs.Evicts.{AfterBad, AfterHeld, AfterHold, AfterHoldAt, CanEnterHeld, Enters, FitsAt, IsReading, refused}
 use Rattle.hwp_evict.proofs.EvictBegins.{refused-fits}
 use Rattle.hwp_evict.proofs.EntryFits.{enters-fits}
-use Rattle.hwp_evict.proofs.PageStates.{away-why, bars-why, can-enter, is-cached, state-is}
+use Rattle.hwp_core.proofs.PageStates.{is-cached, state-is}
+use Rattle.hwp_evict.proofs.EvictStates.{away-why, bars-why, can-enter}
 
 -- a body taken with its frame's lock has been in hand since no later sight
 abbrev IsRecent : View → HoldAt → Type 0

@@ -1,14 +1,10 @@
 pub mod FsyncLaws
-pub mod BodyGrows
-pub mod VacateLaws
-pub mod VacateCosts
-pub mod PageStates
+pub mod EvictStates
 pub mod EntryHome
 pub mod AnswerCauses
 pub mod EvictBegins
 pub mod EntryFits
-pub mod TranslationWrites
-pub mod ClearLaws
+pub mod SlotFreed
 pub mod SwapOut
 pub mod EvictSteps
 pub mod EvictLaws

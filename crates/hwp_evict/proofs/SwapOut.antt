@@ -35,23 +35,23 @@ use Rattle.hwp_core.proofs.of_hwp_core_task.StepLeaves.{steps-planned}
 use Rattle.hwp_core.specs.hwp_core_task.Known.{HasMadeNoneBeside}
 use Rattle.hwp_core.proofs.of_hwp_core_task.MadeEntries.{deeds-same}
 use Rattle.hwp_core.specs.Holds.{HoldsPage}
-use Rattle.hwp_evict.specs.declared.clear.Clear.{Clear}
+use Rattle.hwp_core.specs.declared.clear.Clear.{Clear}
 use Rattle.hwp_evict.specs.declared.evict.EvictAnswer.TheVariants as answers
 use Rattle.hwp_evict.specs.declared.evict.EvictAt.{EvictAt}
 use Rattle.hwp_evict.specs.declared.evict.EvictAt.TheVariants as at
 use Rattle.hwp_evict.specs.declared.evict.Eviction.{Eviction}
 use Rattle.hwp_evict.specs.declared.evict.Eviction.TheVariants as evictions
-use Rattle.hwp_evict.specs.Clears as clears
-use Rattle.hwp_evict.specs.Clears.{IsClearing, IsNextFrom, is_done, word_now}
+use Rattle.hwp_core.specs.Clears as clears
+use Rattle.hwp_core.specs.Clears.{IsClearing, IsNextFrom, is_done, word_now}
 use Rattle.hwp_evict.specs.Evictions.{entry_of}
 use Rattle.hwp_evict.specs.Evicts.{FitsAt, HasEntry, IsAhead, IsClearingOut, IsCleared, StartsClearing, after_clear, place}
-use Rattle.hwp_evict.specs.Vacates as vacates
-use Rattle.hwp_evict.specs.Vacates.{page_held, with_frame}
-use Rattle.hwp_evict.proofs.ClearLaws as clearing
-use Rattle.hwp_evict.proofs.ClearLaws.{IsSameClear, none-done, same-clear}
+use Rattle.hwp_core.specs.Vacates as vacates
+use Rattle.hwp_core.specs.Vacates.{page_held, with_frame}
+use Rattle.hwp_core.proofs.ClearLaws as clearing
+use Rattle.hwp_core.proofs.ClearLaws.{IsSameClear, none-done, same-clear}
 use Rattle.hwp_evict.proofs.EntryHome.{body-page, extends, kills-none, one-more, state-after, words}
-use Rattle.hwp_evict.proofs.TranslationWrites.{declared-of}
-use Rattle.hwp_evict.proofs.PageStates.{replay-apart, replay-own, state-is}
+use Rattle.hwp_core.proofs.TranslationWrites.{declared-of}
+use Rattle.hwp_core.proofs.PageStates.{replay-apart, replay-own, state-is}
 
 module _ {layout : Layout} {view : View} {who : Who} {page : Page} {log : Log} {done : At} {body : BodyValue} (on : IsOnTurn view who) (inside : page.0 < length layout.pages) (entry : HasEntry layout who page evictions.Out log done body) where
   -- ---- all translations are written

@@ -40,7 +40,7 @@ use Rattle.hwp_core.specs.GiveUps as give_ups
 use Rattle.hwp_core.specs.Holds as holds
 use Rattle.hwp_core.specs.Holds.{HoldsPage, held}
 use Rattle.hwp_core.specs.Unholds as unholds
-use Rattle.hwp_evict.specs.declared.clear.Clear.{Clear}
+use Rattle.hwp_core.specs.declared.clear.Clear.{Clear}
 use Rattle.hwp_evict.specs.declared.evict.Evict.{Evict}
 use Rattle.hwp_evict.specs.declared.evict.EvictAnswer.{EvictAnswer}
 use Rattle.hwp_evict.specs.declared.evict.EvictAnswer.TheVariants as answers
@@ -50,10 +50,10 @@ use Rattle.hwp_evict.specs.declared.evict.Eviction.{Eviction}
 use Rattle.hwp_evict.specs.declared.evict.Eviction.TheVariants as evictions
 use Rattle.hwp_evict.specs.declared.evict.Refusal.{Refusal}
 use Rattle.hwp_evict.specs.declared.evict.Refusal.TheVariants as refusals
-use Rattle.hwp_evict.specs.declared.vacate.Vacate.{Vacate}
+use Rattle.hwp_core.specs.declared.vacate.Vacate.{Vacate}
 use Rattle.hwp_evict.specs.Evictions.{entry_of, copies, absence, IsOfKind, Passes, Bars, SawRefusal, IsCaused}
-use Rattle.hwp_evict.specs.Clears as clears
-use Rattle.hwp_evict.specs.Vacates as vacates
+use Rattle.hwp_core.specs.Clears as clears
+use Rattle.hwp_core.specs.Vacates as vacates
 
 abbrev pub begin : Who → Page → Eviction → Evict
 begin who page what = record { who = who; page = page; what = what; at = at.LoadStop }

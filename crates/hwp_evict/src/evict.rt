@@ -5,11 +5,10 @@ ghost use Rattle.hwp_evict.specs.declared.evict.Eviction.TheVariants as eviction
 ghost use Rattle.hwp_evict.specs.Evictions.{entry_of, copies, absence, IsJudged};
 ghost use Rattle.hwp_evict.specs.Evicts.{begin, answer, CanEnter, CanEnterHeld, CanMakeEntry, after_stop, AfterHold, AfterHeld, AfterBad, Enters, GoesOut, Follows, IsLeaving, Shows, StartsClearing, freed, given_up, refused, with_entry, after_clear, turn_after};
 
-use crate::clear::Clear;
-use crate::vacate::Vacate;
 use hwp_core::{
-    At, Body, Entry, Frame, GiveUp, HeldSlots, Hold, Layout, Mask, Page, PageState, Pte, Ranked,
-    Scheduled, SharedWord, SlotRoom, Slots, Step, Task, Turn, Unhold, VSlot, What, Who, is_stopped,
+    At, Body, Clear, Entry, Frame, GiveUp, HeldSlots, Hold, Layout, Mask, Page, PageState, Pte,
+    Ranked, Scheduled, SharedWord, SlotRoom, Slots, Step, Task, Turn, Unhold, VSlot, Vacate, What,
+    Who, is_stopped,
 };
 use std::mem;
 

@@ -17,7 +17,7 @@ pub use Rattle.hwp_law_run.specs.hwp_core_rule as hwp_core_rule
 pub use Rattle.hwp_law_run.specs.hwp_core_task as hwp_core_task
 pub use Rattle.hwp_cpu_row.specs.hwp_cpu_check as hwp_cpu_check
 pub use Rattle.hwp_cpu_row.specs as hwp_cpu_row
-pub use Rattle.hwp_soft.specs.hwp_evict as hwp_evict
+pub use Rattle.hwp_cpu_copy.specs.hwp_evict as hwp_evict
 pub use Rattle.hwp_law_run.specs.hwp_geom as hwp_geom
 pub use Rattle.hwp_law_run.specs.hwp_kill as hwp_kill
 pub use Rattle.hwp_law_run.specs.hwp_law as hwp_law

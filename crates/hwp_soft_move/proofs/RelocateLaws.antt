@@ -49,12 +49,12 @@ use Rattle.hwp_claim_frame.specs.hwp_core.Releases as releases
 use Rattle.hwp_claim_frame.proofs.of_hwp_core.TaskCosts.{release-lists}
 use Rattle.hwp_claim_frame.proofs.of_hwp_core.ReferLaws as referring
 use Rattle.hwp_claim_frame.proofs.of_hwp_core.ReleaseLaws as releasing_laws
-use Rattle.hwp_evict.specs.Clears.{IsNextFrom, is_done}
-use Rattle.hwp_evict.specs.Vacates.{page_held}
-use Rattle.hwp_evict.proofs.TranslationWrites.{declared-of}
-use Rattle.hwp_evict.proofs.BodyGrows.{Grown}
-use Rattle.hwp_evict.proofs.PageStates.{replay-own}
-use Rattle.hwp_evict.proofs.VacateLaws.{lock-held, refs-are}
+use Rattle.hwp_claim_frame.specs.hwp_core.Clears.{IsNextFrom, is_done}
+use Rattle.hwp_claim_frame.specs.hwp_core.Vacates.{page_held}
+use Rattle.hwp_claim_frame.proofs.of_hwp_core.TranslationWrites.{declared-of}
+use Rattle.hwp_claim_frame.proofs.of_hwp_core.BodyGrows.{Grown}
+use Rattle.hwp_claim_frame.proofs.of_hwp_core.PageStates.{replay-own}
+use Rattle.hwp_claim_frame.proofs.of_hwp_core.VacateLaws.{lock-held, refs-are}
 use Rattle.hwp_soft_move.specs.declared.relocate.Relocate.{Relocate}
 use Rattle.hwp_soft_move.specs.declared.relocate.RelocateAt.{RelocateAt}
 use Rattle.hwp_soft_move.specs.declared.relocate.RelocateAt.TheVariants as at
@@ -69,7 +69,7 @@ use Rattle.hwp_soft_move.proofs.RelocateSteps.{ahead-on, cache-set, carry-on, co
 use Rattle.hwp_soft_move.proofs.RemapLaws as remapping
 use Rattle.hwp_soft_move.proofs.RemapLaws.{lock-one, lock-two, refs-from, refs-to}
 use Rattle.hwp_soft_move.proofs.SoftEntry.{body-page, goes-home, words-fit}
-use Rattle.hwp_evict.proofs.ClearLaws.{none-done}
+use Rattle.hwp_claim_frame.proofs.of_hwp_core.ClearLaws.{none-done}
 
 -- ---- the steps can be made
 

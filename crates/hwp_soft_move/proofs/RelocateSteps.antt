@@ -45,9 +45,9 @@ use Rattle.hwp_claim_frame.specs.hwp_core.Holds.{named, one_ref, page_lock, refs
 use Rattle.hwp_claim_frame.specs.hwp_core.Refers as refers
 use Rattle.hwp_claim_frame.specs.hwp_core.Releases as releases
 use Rattle.hwp_claim_frame.specs.hwp_core.Releases.{new_lock}
-use Rattle.hwp_evict.specs.Vacates.{page_held}
-use Rattle.hwp_evict.proofs.BodyGrows.{Grown, length-grown}
-use Rattle.hwp_evict.proofs.VacateLaws.{refs-are, refs-gone}
+use Rattle.hwp_claim_frame.specs.hwp_core.Vacates.{page_held}
+use Rattle.hwp_claim_frame.proofs.of_hwp_core.BodyGrows.{Grown, length-grown}
+use Rattle.hwp_claim_frame.proofs.of_hwp_core.VacateLaws.{refs-are, refs-gone}
 use Rattle.hwp_soft_move.specs.declared.relocate.RelocateAt.{RelocateAt}
 use Rattle.hwp_soft_move.specs.declared.relocate.RelocateAt.TheVariants as at
 use Rattle.hwp_soft_move.specs.declared.relocate.Transfer.{Transfer}

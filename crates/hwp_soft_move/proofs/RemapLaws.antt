@@ -32,10 +32,10 @@ use Rattle.hwp_claim_frame.specs.hwp_core_task.Ranks.{translation_room}
 use Rattle.hwp_claim_frame.proofs.of_hwp_core_task.StepLeaves.{on-turn-after, hand-planned, steps-planned, can-make}
 use Rattle.hwp_claim_frame.proofs.of_hwp_core_task.MadeEntries.{ListsNone}
 use Rattle.hwp_claim_frame.specs.hwp_core.Holds.{page_lock}
-use Rattle.hwp_evict.specs.Clears.{IsNextFrom, is_done}
-use Rattle.hwp_evict.specs.Vacates.{page_held}
-use Rattle.hwp_evict.proofs.ClearLaws.{done-behind, done-same}
-use Rattle.hwp_evict.proofs.TranslationWrites.{trans-word}
+use Rattle.hwp_claim_frame.specs.hwp_core.Clears.{IsNextFrom, is_done}
+use Rattle.hwp_claim_frame.specs.hwp_core.Vacates.{page_held}
+use Rattle.hwp_claim_frame.proofs.of_hwp_core.ClearLaws.{done-behind, done-same}
+use Rattle.hwp_claim_frame.proofs.of_hwp_core.TranslationWrites.{trans-word}
 use Rattle.hwp_soft_move.specs.declared.remap.Remap.{Remap}
 use Rattle.hwp_soft_move.specs.Remaps.{CountsOn, plan, plan_at, Follows, FollowsAt, Shows, ShowsAt, word_now, with_both, IsRemapping, Fits, cost, cost_at}
 use Rattle.hwp_soft_move.proofs.SetCounts.{one-fewer}

@@ -6,7 +6,7 @@ use Rattle.std.specs.Ordering.{nat_cmp}
 use Rattle.hwp_claim_frame.specs.hwp_geom.declared.VSlot.{VSlot}
 use Rattle.hwp_claim_frame.specs.hwp_kill.Lowest.{HasNoneFrom, IsLowestFrom}
 use Rattle.hwp_claim_frame.specs.hwp_kill.Limits.{slot_limit}
-use Rattle.hwp_evict.specs.Clears.{IsNextFrom}
+use Rattle.hwp_claim_frame.specs.hwp_core.Clears.{IsNextFrom}
 use Rattle.hwp_soft_move.specs.Remaps.{CountsOn, IsCount}
 
 -- so many members below `at` were counted: whatever number follows, all are the sum

@@ -32,7 +32,7 @@ use Rattle.hwp_claim_frame.specs.hwp_core_rule.parts.Fits.{FitsWords}
 use Rattle.hwp_claim_frame.proofs.of_hwp_core_rule.Lists.{same-number}
 use Rattle.hwp_claim_frame.specs.hwp_core_task.Hands.{body_in}
 use Rattle.hwp_claim_frame.specs.hwp_core.Holds.{page_lock}
-use Rattle.hwp_evict.proofs.EntryHome.{put-fits-of}
+use Rattle.hwp_claim_frame.proofs.of_hwp_core.VacateLaws.{put-fits-of}
 use Rattle.hwp_soft_move.specs.Relocating.{HasEntry}
 
 module _ {layout : Layout} {who : Who} {page : Page} {log : Log} {done : At} {body : BodyValue} (has : HasEntry layout who page log done body) (frame : Frame) (seen : ℕ) where

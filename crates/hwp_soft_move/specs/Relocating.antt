@@ -32,7 +32,7 @@ use Rattle.hwp_claim_frame.specs.hwp_core.declared.release.ReleaseAt.TheVariants
 use Rattle.hwp_claim_frame.specs.hwp_core.Holds.{named, refs_to}
 use Rattle.hwp_claim_frame.specs.hwp_core.Refers as refers
 use Rattle.hwp_claim_frame.specs.hwp_core.Releases as releases
-use Rattle.hwp_evict.specs.Vacates.{page_held}
+use Rattle.hwp_claim_frame.specs.hwp_core.Vacates.{page_held}
 use Rattle.hwp_soft_move.specs.declared.relocate.Relocate.{Relocate}
 use Rattle.hwp_soft_move.specs.declared.relocate.RelocateAt.{RelocateAt}
 use Rattle.hwp_soft_move.specs.declared.relocate.RelocateAt.TheVariants as at

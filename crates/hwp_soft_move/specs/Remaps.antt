@@ -24,8 +24,8 @@ use Rattle.hwp_claim_frame.specs.hwp_core_rule.Words.{Words}
 use Rattle.hwp_claim_frame.specs.hwp_core_task.Calls.{IsOnTurn}
 use Rattle.hwp_claim_frame.specs.hwp_core_task.Hands.{Hand, hand_of}
 use Rattle.hwp_claim_frame.specs.hwp_core.Releases.{new_lock}
-use Rattle.hwp_evict.specs.Clears.{IsNextFrom, is_done}
-use Rattle.hwp_evict.specs.Vacates.{page_held}
+use Rattle.hwp_claim_frame.specs.hwp_core.Clears.{IsNextFrom, is_done}
+use Rattle.hwp_claim_frame.specs.hwp_core.Vacates.{page_held}
 use Rattle.hwp_soft_move.specs.declared.remap.Remap.{Remap}
 
 -- the members from this one on, one after the other, are so many

@@ -6,9 +6,8 @@ ghost use Rattle.hwp_soft_move.specs.Relocations.{IsBegun, plan, StartsRemap, af
 
 use crate::remap::{Remap, count};
 use hwp_claim_frame::{
-    At, Body, Frame, Layout, Page, Ranked, Refer, Release, Step, Task, Turn, Who,
+    At, Body, Frame, HeldSlots, Layout, Page, Ranked, Refer, Release, Step, Task, Turn, Who,
 };
-use hwp_evict::HeldSlots;
 
 /// Puts a page that is held into another frame, which is held too, and its old frame out of use: the poison of that is counted,
 /// the translations and the page's cache word lead to the other frame, to which the page's body goes home, and then the old

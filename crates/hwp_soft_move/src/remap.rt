@@ -2,8 +2,7 @@ ghost use Rattle.std.specs.Prelude.{◌≡◌, ◌≤◌, is_none};
 ghost use Rattle.hwp_claim_frame.specs.hwp_kill.Limits.{slot_limit};
 ghost use Rattle.hwp_soft_move.specs.Remaps.{Follows, IsBegun, IsCount, Shows, plan};
 
-use hwp_claim_frame::{Frame, Page, Pte, Step, VSlot, Who};
-use hwp_evict::HeldSlots;
+use hwp_claim_frame::{Frame, HeldSlots, Page, Pte, Step, VSlot, Who};
 use std::snapshot::Snapshot;
 
 /// Writes the translations that lead to the frame of a page, in rising order, so that they lead to another one (Linux

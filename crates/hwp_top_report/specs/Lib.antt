@@ -11,7 +11,6 @@ pub use Rattle.hwp_cpu_row.specs.hwp_cpu_check as hwp_cpu_check
 pub use Rattle.hwp_cpu.specs.hwp_cpu_command as hwp_cpu_command
 pub use Rattle.hwp_cpu.specs.hwp_cpu_control as hwp_cpu_control
 pub use Rattle.hwp_cpu_row.specs as hwp_cpu_row
-pub use Rattle.hwp_cpu_row.specs.hwp_evict as hwp_evict
 pub use Rattle.hwp_cpu.specs.hwp_fault as hwp_fault
 pub use Rattle.hwp_cpu.specs.hwp_law as hwp_law
 pub use Rattle.hwp_cpu.specs.hwp_law_served as hwp_law_served

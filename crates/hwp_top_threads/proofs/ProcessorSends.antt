@@ -25,9 +25,9 @@ use Rattle.hwp_top_turns.specs.hwp_claim_frame.contracts.claim.ClaimAt as ClaimA
 use Rattle.hwp_top_turns.specs.hwp_claim_act.contracts.act.ActAt as ActAt
 use Rattle.hwp_top_turns.specs.hwp_cpu_check.contracts.handler.Handler as Handler
 use Rattle.hwp_top_turns.specs.hwp_cpu_access.contracts.instruction.Instruction as Instruction
-use Rattle.hwp_top_turns.specs.hwp_evict.contracts.evict.EvictAt as EvictAt
-use Rattle.hwp_top_turns.specs.hwp_evict.contracts.evict.Evict as Evict
-use Rattle.hwp_top_turns.specs.hwp_evict.contracts.fsync.Fsync as Fsync
+use Rattle.hwp_top_turns.specs.hwp_cpu_command.hwp_evict.contracts.evict.EvictAt as EvictAt
+use Rattle.hwp_top_turns.specs.hwp_cpu_command.hwp_evict.contracts.evict.Evict as Evict
+use Rattle.hwp_top_turns.specs.hwp_cpu_command.hwp_evict.contracts.fsync.Fsync as Fsync
 use Rattle.hwp_top_turns.specs.hwp_cpu_command.hwp_fork.contracts.cow.Cow as Cow
 use Rattle.hwp_top_turns.specs.hwp_cpu_command.hwp_cpu_copy.contracts.copying.CopyingAt as CopyingAt
 use Rattle.hwp_top_turns.specs.hwp_cpu_command.hwp_cpu_copy.contracts.copying.Copying as Copying

@@ -12,7 +12,6 @@ pub use Rattle.hwp_top_report.specs.hwp_cpu_check as hwp_cpu_check
 pub use Rattle.hwp_top_report.specs.hwp_cpu_command as hwp_cpu_command
 pub use Rattle.hwp_top_report.specs.hwp_cpu_control as hwp_cpu_control
 pub use Rattle.hwp_top_report.specs.hwp_cpu_row as hwp_cpu_row
-pub use Rattle.hwp_top_report.specs.hwp_evict as hwp_evict
 pub use Rattle.hwp_top_report.specs.hwp_fault as hwp_fault
 pub use Rattle.hwp_table_words.specs.hwp_geom as hwp_geom
 pub use Rattle.hwp_table_words.specs.hwp_kill as hwp_kill

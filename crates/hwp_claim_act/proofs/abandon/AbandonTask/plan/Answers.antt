@@ -1,5 +1,5 @@
 use Rattle.std.proofs.Common.{Some, ap}
-use Rattle.hwp_evict.specs.hwp_core_rule.declared.Step.TheVariants as steps
+use Rattle.hwp_core.specs.hwp_core_rule.declared.Step.TheVariants as steps
 use Rattle.hwp_claim_act.proofs.Snapshots.{snapshot-is}
 use Rattle.hwp_claim_act.proofs.abandon.AbandonTask.plan.Goals as goal
 

@@ -1,8 +1,9 @@
 ghost use Rattle.std.specs.Prelude.{◌≡◌, is_none};
-ghost use Rattle.hwp_evict.specs.Vacates.{begin, plan};
+ghost use Rattle.hwp_core.specs.Vacates.{begin, plan};
 
-use crate::evict::let_go_of;
-use hwp_core::{Body, Frame, Layout, Page, Ranked, Release, Step, Task, Turn, Who};
+use crate::clear::let_go_of;
+use crate::release::Release;
+use hwp_core_task::{Body, Frame, Layout, Page, Ranked, Step, Task, Turn, Who};
 use std::cmp::min;
 
 /// Takes a page that is held out of its frame: the page's cache word names no frame and the frame gets no owner, the frame is
@@ -58,7 +59,7 @@ impl Vacate {
 }
 
 impl Task for Vacate {
-    ghost use Rattle.hwp_evict.specs.Vacates as vacates;
+    ghost use Rattle.hwp_core.specs.Vacates as vacates;
 
     ghost task = { vacates.task };
 

@@ -5,49 +5,49 @@ use Rattle.std.proofs.lemmas.Option.{none-some, same_Some}
 use Rattle.std.specs.FinSet as set
 use Rattle.std.specs.List.{find}
 use Rattle.std.specs.Ordering.{nat_cmp}
-use Rattle.hwp_core.specs.hwp_geom.declared.Frame.{Frame}
-use Rattle.hwp_core.specs.hwp_geom.declared.Layout.{Layout}
-use Rattle.hwp_core.specs.hwp_geom.declared.Page.{Page}
-use Rattle.hwp_core.specs.hwp_geom.declared.TransDecl.{TransDecl}
-use Rattle.hwp_core.specs.hwp_geom.declared.Who.{Who}
-use Rattle.hwp_core.specs.hwp_page.declared.PageState.{PageState}
-use Rattle.hwp_core.specs.hwp_page.History.{BodyValue}
-use Rattle.hwp_core.specs.hwp_words.Frames.{is_poisoned}
-use Rattle.hwp_core.specs.hwp_words.Names.{frame_name}
-use Rattle.hwp_core.specs.hwp_words.Translations.{pte_word}
-use Rattle.hwp_core.specs.hwp_words.declared.Pte.TheVariants as ptes
-use Rattle.hwp_core.specs.hwp_core_rule.declared.FrameLock.{FrameLock}
-use Rattle.hwp_core.specs.hwp_core_rule.declared.InHand.{InHand}
-use Rattle.hwp_core.specs.hwp_core_rule.declared.Log.{Log}
-use Rattle.hwp_core.specs.hwp_core_rule.declared.PageLock.{PageLock}
-use Rattle.hwp_core.specs.hwp_core_rule.declared.Ref.{Ref}
-use Rattle.hwp_core.specs.hwp_core_rule.declared.Step.{Step}
-use Rattle.hwp_core.specs.hwp_core_rule.declared.Step.TheVariants as steps
-use Rattle.hwp_core.specs.hwp_core_rule.declared.View.{View}
-use Rattle.hwp_core.specs.hwp_core_rule.Asks.{HasLock, HasPage, CanChange, CanFree, CanGoHome, CanUnlockPage, PutFits}
-use Rattle.hwp_core.specs.hwp_core_rule.Logs.{log_of, state_of, fitting_word}
-use Rattle.hwp_core.specs.hwp_core_rule.Steps.{is_last}
-use Rattle.hwp_core.specs.hwp_core_rule.Views.{refs_on, locks_on, is_body_of, is_page_lock_of, without, frame_in, with_named, less_refs, page_locks_on}
-use Rattle.hwp_core.specs.hwp_core_rule.parts.Fits.{FitsWords}
-use Rattle.hwp_core.proofs.of_hwp_core_rule.Lists.{same-number}
-use Rattle.hwp_core.proofs.of_hwp_core_rule.MetWords.{cache-word, frame-named, lock-knows}
-use Rattle.hwp_core.proofs.of_hwp_core_rule.Refs.{refs-cons}
-use Rattle.hwp_core.specs.hwp_core_task.declared.Turn.{Turn}
-use Rattle.hwp_core.specs.hwp_core_task.declared.Turn.TheVariants.{Moved}
-use Rattle.hwp_core.specs.hwp_core_task.Calls.{CanMake, FitsLayout, Steps, IsOnTurn, logs}
-use Rattle.hwp_core.specs.hwp_core_task.Hands.{Hand, hand_of, empty, putting}
-use Rattle.hwp_core.proofs.of_hwp_core_task.StepLeaves.{on-turn-after, hand-planned, steps-planned, can-make, can-put}
+use Rattle.hwp_core_task.specs.hwp_geom.declared.Frame.{Frame}
+use Rattle.hwp_core_task.specs.hwp_geom.declared.Layout.{Layout}
+use Rattle.hwp_core_task.specs.hwp_geom.declared.Page.{Page}
+use Rattle.hwp_core_task.specs.hwp_geom.declared.TransDecl.{TransDecl}
+use Rattle.hwp_core_task.specs.hwp_geom.declared.Who.{Who}
+use Rattle.hwp_core_task.specs.hwp_page.declared.PageState.{PageState}
+use Rattle.hwp_core_task.specs.hwp_page.History.{BodyValue}
+use Rattle.hwp_core_task.specs.hwp_words.Frames.{is_poisoned}
+use Rattle.hwp_core_task.specs.hwp_words.Names.{frame_name}
+use Rattle.hwp_core_task.specs.hwp_words.Translations.{pte_word}
+use Rattle.hwp_core_task.specs.hwp_words.declared.Pte.TheVariants as ptes
+use Rattle.hwp_core_task.specs.hwp_core_rule.declared.FrameLock.{FrameLock}
+use Rattle.hwp_core_task.specs.hwp_core_rule.declared.InHand.{InHand}
+use Rattle.hwp_core_task.specs.hwp_core_rule.declared.Log.{Log}
+use Rattle.hwp_core_task.specs.hwp_core_rule.declared.PageLock.{PageLock}
+use Rattle.hwp_core_task.specs.hwp_core_rule.declared.Ref.{Ref}
+use Rattle.hwp_core_task.specs.hwp_core_rule.declared.Step.{Step}
+use Rattle.hwp_core_task.specs.hwp_core_rule.declared.Step.TheVariants as steps
+use Rattle.hwp_core_task.specs.hwp_core_rule.declared.View.{View}
+use Rattle.hwp_core_task.specs.hwp_core_rule.Asks.{HasLock, HasPage, CanChange, CanFree, CanGoHome, CanUnlockPage, PutFits}
+use Rattle.hwp_core_task.specs.hwp_core_rule.Logs.{log_of, state_of, fitting_word}
+use Rattle.hwp_core_task.specs.hwp_core_rule.Steps.{is_last}
+use Rattle.hwp_core_task.specs.hwp_core_rule.Views.{refs_on, locks_on, is_body_of, is_page_lock_of, without, frame_in, with_named, less_refs, page_locks_on}
+use Rattle.hwp_core_task.specs.hwp_core_rule.parts.Fits.{FitsWords}
+use Rattle.hwp_core_task.proofs.of_hwp_core_rule.Lists.{same-number}
+use Rattle.hwp_core_task.proofs.of_hwp_core_rule.MetWords.{cache-word, frame-named, lock-knows}
+use Rattle.hwp_core_task.proofs.of_hwp_core_rule.Refs.{refs-cons}
+use Rattle.hwp_core_task.specs.declared.Turn.{Turn}
+use Rattle.hwp_core_task.specs.declared.Turn.TheVariants.{Moved}
+use Rattle.hwp_core_task.specs.Calls.{CanMake, FitsLayout, Steps, IsOnTurn, logs}
+use Rattle.hwp_core_task.specs.Hands.{Hand, hand_of, empty, putting}
+use Rattle.hwp_core_task.proofs.StepLeaves.{on-turn-after, hand-planned, steps-planned, can-make, can-put}
 use Rattle.hwp_core.specs.declared.release.Release.{Release}
 use Rattle.hwp_core.specs.declared.release.ReleaseAt.{ReleaseAt}
 use Rattle.hwp_core.specs.declared.release.ReleaseAt.TheVariants as release_at
 use Rattle.hwp_core.specs.Holds.{page_lock}
 use Rattle.hwp_core.specs.Releases as releases
 use Rattle.hwp_core.proofs.ReleaseLaws as releasing_laws
-use Rattle.hwp_evict.specs.declared.vacate.Vacate.{Vacate}
-use Rattle.hwp_evict.specs.declared.vacate.VacateAt.{VacateAt}
-use Rattle.hwp_evict.specs.declared.vacate.VacateAt.TheVariants as at
-use Rattle.hwp_evict.specs.Vacates.{plan, plan_at, put, put_at, bare, left_at, after_release, next, next_at, page_held, with_frame, releasing, GoesToShelf, IsLeaving, IsReleasing, Fits, FitsAt}
-use Rattle.hwp_evict.proofs.BodyGrows.{Grown, extends-grown, length-grown}
+use Rattle.hwp_core.specs.declared.vacate.Vacate.{Vacate}
+use Rattle.hwp_core.specs.declared.vacate.VacateAt.{VacateAt}
+use Rattle.hwp_core.specs.declared.vacate.VacateAt.TheVariants as at
+use Rattle.hwp_core.specs.Vacates.{plan, plan_at, put, put_at, bare, left_at, after_release, next, next_at, page_held, with_frame, releasing, GoesToShelf, IsLeaving, IsReleasing, Fits, FitsAt}
+use Rattle.hwp_core.proofs.BodyGrows.{Grown, extends-grown, length-grown}
 
 -- ---- what is held
 
@@ -93,6 +93,20 @@ module _ {view : View} {page : Page} (frame : Option Frame) {trans : List ℕ} {
     trans = trans;
     trans_is = refl;
   }
+
+-- the page's lock is in the first place, and what it lists fits
+pub put-fits-of : {layout : Layout} {view : View} {page : Page} (frame : Option Frame) (trans : List ℕ) (taken : InHand) (log : Log) → log.page ≡ page → view.pages ≡ page_lock page frame (Some trans) ∷ [] → FitsWords layout log (frame_name frame) trans
+    → PutFits layout view taken log
+put-fits-of {layout} {view} {page} frame trans taken log own pages fits = record {
+  unlocked = λ none.
+      let one : page_locks_on log.page.0 view.pages ≡ cond {A = ℕ} (page.0 == log.page.0) 1 0 + 0 = ap (page_locks_on log.page.0) pages ∙ grind arith in
+      let this : cond {A = ℕ} (page.0 == log.page.0) 1 0 ≡ 1 = ap (λ (b : Bool). cond {A = ℕ} b 1 0) (same-number page.0 log.page.0 (sym (ap (λ (p : Page). p.0) own))) in
+      absurd (omega (arith, none, one, this));
+  locked = λ other cache words at its cache_is trans_is.
+      let same : page_lock page frame (Some trans) ≡ other = same_Some (page_lock page frame (Some trans)) other (sym (ap (λ l. slice_get l 0) pages) ∙ at) in
+      subst (λ (c : ℕ). FitsWords layout log c words) (same_Some (frame_name frame) cache (ap (λ (l : PageLock). l.cache) same ∙ cache_is))
+      (subst (λ (ws : List ℕ). FitsWords layout log (frame_name frame) ws) (same_Some trans words (ap (λ (l : PageLock). l.trans) same ∙ trans_is)) fits);
+}
 
 abbrev pub lock-held : {view : View} {frame : Frame} (lock : FrameLock) → view.locks ≡ lock ∷ [] → lock.frame ≡ frame → HasLock view frame
 lock-held lock locks is = record { lock = lock; listed = (0, lock, ap (λ l. slice_get l 0) locks, refl); frame_is = is }

@@ -1,8 +1,9 @@
 ghost use Rattle.std.specs.Prelude.{◌≡◌, is_none};
-ghost use Rattle.hwp_evict.specs.Clears.{IsBegun, pte_of};
+ghost use Rattle.hwp_core.specs.Clears.{IsBegun, pte_of};
 
-use crate::evict::let_go_of;
-use hwp_core::{Body, Frame, HeldSlots, Layout, Page, Pte, Ranked, Step, Task, Turn, VSlot, Who};
+use hwp_core_task::{
+    Body, Frame, HeldSlots, Layout, Page, Pte, Ranked, Step, Task, Turn, VSlot, Who,
+};
 
 /// Writes the translations that lead to a page's frame, in rising order, so that they no longer do: empty, or with a poison
 /// entry (Linux try_to_unmap).
@@ -44,8 +45,8 @@ impl Clear {
         self.next.is_none()
     }
 
-    /// The frame.
-    pub(crate) fn frame(&self) -> Frame
+    /// The frame to which they lead.
+    pub fn frame(&self) -> Frame
         ensures { result ≡ self.now.frame }
     {
         self.frame
@@ -65,8 +66,11 @@ fn pte_of(barred: bool) -> Pte
     if barred { Pte::Poison } else { Pte::Empty }
 }
 
+/// Lets the body go that a step met. Each way out of a function that lets it go itself proves anew how it goes.
+pub(crate) fn let_go_of(_body: Option<Body>) {}
+
 impl Task for Clear {
-    ghost use Rattle.hwp_evict.specs.Clears as clears;
+    ghost use Rattle.hwp_core.specs.Clears as clears;
 
     ghost task = { clears.task };
 

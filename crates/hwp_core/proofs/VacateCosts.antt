@@ -2,27 +2,27 @@
 use Rattle.std.proofs.Common.{◌≡◌, ℕ, ◌+◌, ◌<◌, ◌≤◌, min, true, false, List, Some, None, is_none, refl, sym, ap, ◌∙◌, subst, arith}
 use Rattle.std.proofs.lemmas.Bool.{both_ways}
 use Rattle.std.proofs.lemmas.Option.{none-some, same_Some}
-use Rattle.hwp_core.specs.hwp_geom.declared.Layout.{Layout}
-use Rattle.hwp_core.specs.hwp_core_rule.declared.Step.{Step}
-use Rattle.hwp_core.specs.hwp_core_rule.declared.Step.TheVariants as steps
-use Rattle.hwp_core.specs.hwp_core_rule.declared.View.{View}
-use Rattle.hwp_core.specs.hwp_core_rule.Lasting.{IsMild}
-use Rattle.hwp_core.specs.hwp_core_rule.Words.{Words}
-use Rattle.hwp_core.specs.hwp_core_rule.declared.InHand.{InHand}
-use Rattle.hwp_core.specs.hwp_core_task.Hands.{hand_of}
-use Rattle.hwp_core.specs.hwp_core_task.Ranks.{IsRanked, is_waits, words_at}
-use Rattle.hwp_core.proofs.of_hwp_core_task.StepRanks.{rank-of}
-use Rattle.hwp_core.proofs.of_hwp_core_task.MadeEntries.{ListsNone}
+use Rattle.hwp_core_task.specs.hwp_geom.declared.Layout.{Layout}
+use Rattle.hwp_core_task.specs.hwp_core_rule.declared.Step.{Step}
+use Rattle.hwp_core_task.specs.hwp_core_rule.declared.Step.TheVariants as steps
+use Rattle.hwp_core_task.specs.hwp_core_rule.declared.View.{View}
+use Rattle.hwp_core_task.specs.hwp_core_rule.Lasting.{IsMild}
+use Rattle.hwp_core_task.specs.hwp_core_rule.Words.{Words}
+use Rattle.hwp_core_task.specs.hwp_core_rule.declared.InHand.{InHand}
+use Rattle.hwp_core_task.specs.Hands.{hand_of}
+use Rattle.hwp_core_task.specs.Ranks.{IsRanked, is_waits, words_at}
+use Rattle.hwp_core_task.proofs.StepRanks.{rank-of}
+use Rattle.hwp_core_task.proofs.MadeEntries.{ListsNone}
 use Rattle.hwp_core.specs.declared.release.Release.{Release}
 use Rattle.hwp_core.specs.declared.release.ReleaseAt.{ReleaseAt}
 use Rattle.hwp_core.specs.declared.release.ReleaseAt.TheVariants as release_at
 use Rattle.hwp_core.specs.Releases as releases
 use Rattle.hwp_core.proofs.TaskCosts.{release-falls, release-lists, release-mild, release-small}
 use Rattle.hwp_core.proofs.TaskTells.{Tells, frame-tells, page-tells}
-use Rattle.hwp_evict.specs.declared.vacate.Vacate.{Vacate}
-use Rattle.hwp_evict.specs.declared.vacate.VacateAt.{VacateAt}
-use Rattle.hwp_evict.specs.declared.vacate.VacateAt.TheVariants as at
-use Rattle.hwp_evict.specs.Vacates.{plan, plan_at, bare, after_release, next, next_at, page_held, releasing, Fits, FitsAt, class, class_at, cost, cost_at, task as vacate-task}
+use Rattle.hwp_core.specs.declared.vacate.Vacate.{Vacate}
+use Rattle.hwp_core.specs.declared.vacate.VacateAt.{VacateAt}
+use Rattle.hwp_core.specs.declared.vacate.VacateAt.TheVariants as at
+use Rattle.hwp_core.specs.Vacates.{plan, plan_at, bare, after_release, next, next_at, page_held, releasing, Fits, FitsAt, class, class_at, cost, cost_at, task as vacate-task}
 
 -- the state after a step of the release costs one more than the release
 release-cost : (r : Release) (w : Words) → cost_at (after_release r) w ≡ releases.cost r w + 1

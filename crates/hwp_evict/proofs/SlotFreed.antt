@@ -1,7 +1,7 @@
 -- A translation written when it is no longer in use.
-use Rattle.std.proofs.Common.{◌≡◌, ◌≢◌, ◌⊎◌, inl, inr, ℕ, ◌+◌, ◌^◌, ◌<◌, ◌≤◌, ◌==◌, ◌&&◌, Bool, true, false, not, cond, List, [], ◌∷◌, Option, Some, None, IsSomeAnd, length, slice_get, slice_index, slice_set, refl, sym, ap, ◌∙◌, subst, arith}
+use Rattle.std.proofs.Common.{◌≡◌, ◌≢◌, ◌⊎◌, inl, inr, ℕ, ◌+◌, ◌^◌, ◌<◌, ◌≤◌, ◌==◌, ◌&&◌, Bool, true, false, not, cond, List, [], ◌∷◌, Option, Some, None, length, slice_get, slice_set, refl, sym, ap, ◌∙◌, subst, arith}
 use Rattle.std.proofs.lemmas.Bool.{ne_eqb}
-use Rattle.std.proofs.lemmas.Option.{none-some, same_Some, slice_get-get_or}
+use Rattle.std.proofs.lemmas.Option.{none-some, same_Some}
 use Rattle.std.specs.FinSet as set
 use Rattle.std.specs.List.{find}
 use Rattle.hwp_core.specs.hwp_geom.declared.Frame.{Frame}
@@ -19,21 +19,15 @@ use Rattle.hwp_core.specs.hwp_words.declared.Pte.TheVariants as ptes
 use Rattle.hwp_core.specs.hwp_core_rule.declared.Made.{Made}
 use Rattle.hwp_core.specs.hwp_core_rule.declared.InHand.{InHand}
 use Rattle.hwp_core.specs.hwp_core_rule.declared.Log.{Log}
-use Rattle.hwp_core.specs.hwp_core_rule.declared.SharedWord.TheVariants as places
-use Rattle.hwp_core.specs.hwp_core_rule.declared.State.{State}
 use Rattle.hwp_core.specs.hwp_core_rule.declared.Step.TheVariants as steps
 use Rattle.hwp_core.specs.hwp_core_rule.declared.View.{View}
 use Rattle.hwp_core.specs.hwp_core_rule.Asks.{CanFree, CanSetPte}
 use Rattle.hwp_core.specs.hwp_core_rule.Logs.{log_of, state_of, fitting_word}
-use Rattle.hwp_core.specs.hwp_core_rule.Rule.{Holds}
 use Rattle.hwp_core.specs.hwp_core_rule.Views.{frame_in, is_body_of, refs_on, with_named}
-use Rattle.hwp_core.specs.hwp_core_rule.Words.{index, words_of}
 use Rattle.hwp_core.specs.hwp_core_rule.parts.Fits.{FitsWords}
 use Rattle.hwp_core.proofs.of_hwp_core_rule.PageWords.{fitting-at}
 use Rattle.hwp_core.proofs.of_hwp_core_rule.Lists.{same-number, same-or, set_here, set_else}
 use Rattle.hwp_core.proofs.of_hwp_core_rule.MetWords.{frame-named, lock-knows}
-use Rattle.hwp_core.proofs.of_hwp_core_rule.MoveKeeps.{shaped}
-use Rattle.hwp_core.proofs.of_hwp_core_rule.WordsByKind.{words-read}
 use Rattle.hwp_core.specs.hwp_core_task.Calls.{IsOnTurn, Steps}
 use Rattle.hwp_core.specs.hwp_core_task.Hands.{Hand, hand_of, body_in}
 use Rattle.hwp_core.proofs.of_hwp_core_task.StepLeaves.{hand-planned}
@@ -42,23 +36,14 @@ use Rattle.hwp_core.specs.Holds.{page_lock, refs_to}
 use Rattle.hwp_core.specs.Unholds as unholds
 use Rattle.hwp_core.specs.Unholds.{holding}
 use Rattle.hwp_core.proofs.HoldEnds.{ahead-unholds}
+use Rattle.hwp_core.proofs.TranslationWrites.{declared-of, trans-word}
 use Rattle.hwp_evict.specs.declared.evict.EvictAnswer.TheVariants as answers
 use Rattle.hwp_evict.specs.declared.evict.EvictAt.TheVariants as at
 use Rattle.hwp_evict.specs.declared.evict.Eviction.TheVariants as evictions
 use Rattle.hwp_evict.specs.Evicts.{IsFreeing, FitsAt}
 use Rattle.hwp_evict.proofs.EntryHome.{goes-home, one-more, state-after, word-is, words}
-use Rattle.hwp_evict.proofs.PageStates.{has-less, replay-apart}
-use Rattle.hwp_evict.proofs.VacateLaws.{lock-held, refs-are}
-
--- the translation is declared
-pub declared-of : {A : Type 0} (P : A → Type 0) (o : Option A) → IsSomeAnd o P → (x : A) × (o ≡ Some x) × P x
-declared-of P None has = absurd has
-declared-of P (Some x) has = (x, refl, has)
-
--- the word of a translation that a step met
-pub trans-word : (layout : Layout) (s : State) (h : Holds layout s) (slot : VSlot) (found : ℕ) → slot.0 < length layout.trans → found ≡ slice_index s.words (index layout (places.Trans slot)) → slice_get (words_of layout s.words).trans slot.0 ≡ Some found
-trans-word layout s h slot found inside met =
-    slice_get-get_or (words_of layout s.words).trans slot.0 0 (subst (λ (n : ℕ). slot.0 < n) (sym (shaped layout s h).trans) inside) ∙ ap (λ (n : ℕ). Some n) (words-read layout s.words (places.Trans slot) inside ∙ sym met)
+use Rattle.hwp_core.proofs.PageStates.{has-less, replay-apart}
+use Rattle.hwp_core.proofs.VacateLaws.{lock-held, refs-are}
 
 module _ {base : List Made} {layout : Layout} {old : View} {who : Who} {page : Page} {slot : VSlot} {frame : Frame} {body : BodyValue} {done : At} (has : IsFreeing base layout old who page (evictions.Free slot) frame body done) (own : IsOf layout page slot) where
   abbrev state : PageState

@@ -1,5 +1,0 @@
-use Rattle.hwp_evict.proofs.vacate.VacateTask.who.Goals as goal
-use Rattle.hwp_evict.proofs.VacateLaws.{can, stays}
-
-pub returns-clause-law : goal.returns-clause-law
-returns-clause-law c = record { can = can; stays = stays }
