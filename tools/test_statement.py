@@ -24,7 +24,7 @@ KNOWN = (
     ("hwp_top_turns", "Runs", "IsTableRun"),
     ("hwp_core_rule", "Rule", "FrameRule"),
     ("hwp_core_rule", "parts.Handled", "HandledIsPoisoned"),
-    ("hwp_core_task", "Known", "Saw"),
+    ("hwp_core_rule", "Known", "Saw"),
     ("hwp_soft", "Unpoisons", "plan_at"),
     ("hwp_check_rules", "Verdicts", "IsVerdict"),
     ("hwp_script", "Generated", "many"),

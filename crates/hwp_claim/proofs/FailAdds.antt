@@ -9,9 +9,9 @@ use Rattle.hwp_claim_frame.specs.hwp_page.History.{BodyValue}
 use Rattle.hwp_claim_frame.specs.hwp_core_rule.declared.Mark.{Mark}
 use Rattle.hwp_claim_frame.specs.hwp_core_rule.declared.Step.{Step}
 use Rattle.hwp_claim_frame.specs.hwp_core_rule.declared.View.{View}
-use Rattle.hwp_claim_frame.specs.hwp_core_task.declared.Turn.{Turn}
-use Rattle.hwp_claim_frame.specs.hwp_core_task.Calls.{Steps, logs}
-use Rattle.hwp_claim_frame.specs.hwp_core_task.Known.{is_by}
+use Rattle.hwp_claim_frame.specs.hwp_core_rule.declared.Turn.{Turn}
+use Rattle.hwp_claim_frame.specs.hwp_core_rule.Calls.{Steps, logs}
+use Rattle.hwp_claim_frame.specs.hwp_core_rule.Known.{is_by}
 use Rattle.hwp_claim_act.specs.declared.abandon.Failed.{Failed}
 use Rattle.hwp_claim_act.specs.declared.act.Act.{Act}
 use Rattle.hwp_claim_act.specs.declared.act.ActAt.{ActAt}

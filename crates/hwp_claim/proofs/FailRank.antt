@@ -14,13 +14,13 @@ use Rattle.hwp_claim_frame.specs.hwp_core_rule.declared.Step.TheVariants as step
 use Rattle.hwp_claim_frame.specs.hwp_core_rule.Moves.{Move}
 use Rattle.hwp_claim_frame.specs.hwp_core_rule.Lasting.{LeavesPoison}
 use Rattle.hwp_claim_frame.specs.hwp_core_rule.Words.{Words}
-use Rattle.hwp_claim_frame.specs.hwp_core_task.declared.Turn.{Turn}
-use Rattle.hwp_claim_frame.specs.hwp_core_task.Boards.{view_of}
-use Rattle.hwp_claim_frame.specs.hwp_core_task.Calls.{logs, rec_of}
-use Rattle.hwp_claim_frame.specs.hwp_core_task.Hands.{Hand}
-use Rattle.hwp_claim_frame.specs.hwp_core_task.Ranks.{IsRanked, Made, OtherHand, Pending, Quiet, failures_left, is_refused, is_waits, words_at}
-use Rattle.hwp_claim_frame.proofs.of_hwp_core_task.Failures.{mild-leaves}
-use Rattle.hwp_claim_frame.proofs.of_hwp_core_task.StepRanks.{failed, pending-kept, steps-on}
+use Rattle.hwp_claim_frame.specs.hwp_core_rule.declared.Turn.{Turn}
+use Rattle.hwp_claim_frame.specs.hwp_core_rule.Boards.{view_of}
+use Rattle.hwp_claim_frame.specs.hwp_core_rule.Calls.{logs, rec_of}
+use Rattle.hwp_claim_frame.specs.hwp_core_rule.Hands.{Hand}
+use Rattle.hwp_claim_frame.specs.hwp_core_rule.Ranks.{IsRanked, Made, OtherHand, Pending, Quiet, failures_left, is_refused, is_waits, words_at}
+use Rattle.hwp_claim_frame.proofs.of_hwp_core_rule.Failures.{mild-leaves}
+use Rattle.hwp_claim_frame.proofs.of_hwp_core_rule.StepRanks.{failed, pending-kept, steps-on}
 use Rattle.hwp_claim_frame.specs.hwp_core.declared.give_up.GiveUp.{GiveUp}
 use Rattle.hwp_claim_frame.specs.hwp_core.declared.give_up.GiveUpAt.{GiveUpAt}
 use Rattle.hwp_claim_frame.specs.hwp_core.declared.give_up.GiveUpAt.TheVariants as give_up_at

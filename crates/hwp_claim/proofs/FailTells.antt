@@ -8,8 +8,8 @@ use Rattle.hwp_claim_frame.specs.hwp_geom.declared.Thread.{Thread}
 use Rattle.hwp_claim_frame.specs.hwp_geom.declared.VSlot.{VSlot}
 use Rattle.hwp_claim_frame.specs.hwp_core_rule.declared.Step.{Step}
 use Rattle.hwp_claim_frame.specs.hwp_core_rule.declared.View.{View}
-use Rattle.hwp_claim_frame.specs.hwp_core_task.Classes.{TellsClass}
-use Rattle.hwp_claim_frame.specs.hwp_core_task.Hands.{empty, hand_of}
+use Rattle.hwp_claim_frame.specs.hwp_core_rule.Classes.{TellsClass}
+use Rattle.hwp_claim_frame.specs.hwp_core_rule.Hands.{empty, hand_of}
 use Rattle.hwp_claim_frame.proofs.of_hwp_core.TaskTells.{no-frame, no-page}
 use Rattle.hwp_claim_act.specs.declared.act.Act.{Act}
 use Rattle.hwp_claim_act.specs.declared.act.ActAt.{ActAt}

@@ -10,7 +10,7 @@ use Rattle.hwp_claim_frame.specs.hwp_geom.declared.Who.{Who}
 use Rattle.hwp_claim_frame.specs.hwp_page.declared.At.{At}
 use Rattle.hwp_claim_frame.specs.hwp_core_rule.declared.Made.{Made}
 use Rattle.hwp_claim_frame.specs.hwp_core_rule.declared.View.{View}
-use Rattle.hwp_claim_frame.specs.hwp_core_task.Known.{deeds}
+use Rattle.hwp_claim_frame.specs.hwp_core_rule.Known.{deeds}
 use Rattle.hwp_claim_act.specs.declared.abandon.Failed.{Failed}
 use Rattle.hwp_claim_act.specs.Abandoned.{failed_in}
 use Rattle.hwp_claim_frame.specs.Claims.{marks_by}

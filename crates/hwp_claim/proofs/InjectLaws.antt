@@ -18,12 +18,12 @@ use Rattle.hwp_claim_frame.specs.hwp_core_rule.declared.Step.{Step}
 use Rattle.hwp_claim_frame.specs.hwp_core_rule.declared.Step.TheVariants as steps
 use Rattle.hwp_claim_frame.specs.hwp_core_rule.declared.View.{View}
 use Rattle.hwp_claim_frame.proofs.of_hwp_core_rule.Lists.{same-number}
-use Rattle.hwp_claim_frame.specs.hwp_core_task.Known.{deeds}
-use Rattle.hwp_claim_frame.specs.hwp_core_task.declared.Turn.{Turn}
-use Rattle.hwp_claim_frame.specs.hwp_core_task.Calls.{CanMake, IsOnTurn, Steps, logs}
-use Rattle.hwp_claim_frame.proofs.of_hwp_core_task.StepLeaves.{can-make, hand-planned, on-turn-after, steps-planned}
-use Rattle.hwp_claim_frame.proofs.of_hwp_core_task.MadeEntries.{deeds-same}
-use Rattle.hwp_claim_frame.proofs.of_hwp_core_task.SightKeeps.{saw-load}
+use Rattle.hwp_claim_frame.specs.hwp_core_rule.Known.{deeds}
+use Rattle.hwp_claim_frame.specs.hwp_core_rule.declared.Turn.{Turn}
+use Rattle.hwp_claim_frame.specs.hwp_core_rule.Calls.{CanMake, IsOnTurn, Steps, logs}
+use Rattle.hwp_claim_frame.proofs.of_hwp_core_rule.StepLeaves.{can-make, hand-planned, on-turn-after, steps-planned}
+use Rattle.hwp_claim_frame.proofs.of_hwp_core_rule.MadeEntries.{deeds-same}
+use Rattle.hwp_claim_frame.proofs.of_hwp_core_rule.SightKeeps.{saw-load}
 use Rattle.hwp_claim_frame.specs.hwp_core.declared.unlock.Unlock.{Unlock}
 use Rattle.hwp_claim_frame.specs.hwp_core.Unlocks as unlocks
 use Rattle.hwp_claim_act.specs.declared.abandon.Failed.{Failed}

@@ -15,13 +15,13 @@ use Rattle.hwp_claim_frame.specs.hwp_core_rule.declared.View.{View}
 use Rattle.hwp_claim_frame.specs.hwp_core_rule.Moves.{Move}
 use Rattle.hwp_claim_frame.specs.hwp_core_rule.Lasting.{IsMild, LeavesPoison}
 use Rattle.hwp_claim_frame.specs.hwp_core_rule.Words.{Words}
-use Rattle.hwp_claim_frame.specs.hwp_core_task.declared.Turn.{Turn}
-use Rattle.hwp_claim_frame.specs.hwp_core_task.declared.Turn.TheVariants.{Moved}
-use Rattle.hwp_claim_frame.specs.hwp_core_task.Boards.{view_of}
-use Rattle.hwp_claim_frame.specs.hwp_core_task.Calls.{logs, rec_of}
-use Rattle.hwp_claim_frame.specs.hwp_core_task.Classes.{TellsClass}
-use Rattle.hwp_claim_frame.specs.hwp_core_task.Ranks.{CostFalls, HasFailed, HasFrame, HasPage, IsRanked, Made, OtherHand, Pending, Quiet, failure_weight, failures_left, is_refused, is_waits, words_at}
-use Rattle.hwp_claim_frame.proofs.of_hwp_core_task.StepRanks.{part-made, pending-kept}
+use Rattle.hwp_claim_frame.specs.hwp_core_rule.declared.Turn.{Turn}
+use Rattle.hwp_claim_frame.specs.hwp_core_rule.declared.Turn.TheVariants.{Moved}
+use Rattle.hwp_claim_frame.specs.hwp_core_rule.Boards.{view_of}
+use Rattle.hwp_claim_frame.specs.hwp_core_rule.Calls.{logs, rec_of}
+use Rattle.hwp_claim_frame.specs.hwp_core_rule.Classes.{TellsClass}
+use Rattle.hwp_claim_frame.specs.hwp_core_rule.Ranks.{CostFalls, HasFailed, HasFrame, HasPage, IsRanked, Made, OtherHand, Pending, Quiet, failure_weight, failures_left, is_refused, is_waits, words_at}
+use Rattle.hwp_claim_frame.proofs.of_hwp_core_rule.StepRanks.{part-made, pending-kept}
 use Rattle.hwp_claim_frame.proofs.of_hwp_core.TaskTells.{no-frame, no-page}
 use Rattle.hwp_claim.specs.declared.fail.Fail.{Fail}
 use Rattle.hwp_claim.specs.declared.inject.Inject.{Inject}

@@ -14,11 +14,11 @@ use Rattle.hwp_claim_frame.specs.hwp_page.History.{BodyValue}
 use Rattle.hwp_claim_frame.specs.hwp_core_rule.declared.Step.{Step}
 use Rattle.hwp_claim_frame.specs.hwp_core_rule.declared.View.{View}
 use Rattle.hwp_claim_frame.specs.hwp_core_rule.Words.{Words}
-use Rattle.hwp_claim_frame.specs.hwp_core_task.declared.Turn.{Turn}
-use Rattle.hwp_claim_frame.specs.hwp_core_task.declared.Turn.TheVariants.{Moved}
-use Rattle.hwp_claim_frame.specs.hwp_core_task.Calls.{IsOnTurn}
-use Rattle.hwp_claim_frame.specs.hwp_core_task.Hands.{hand_of, empty}
-use Rattle.hwp_claim_frame.specs.hwp_core_task.Turns.{Member}
+use Rattle.hwp_claim_frame.specs.hwp_core_rule.declared.Turn.{Turn}
+use Rattle.hwp_claim_frame.specs.hwp_core_rule.declared.Turn.TheVariants.{Moved}
+use Rattle.hwp_claim_frame.specs.hwp_core_rule.Calls.{IsOnTurn}
+use Rattle.hwp_claim_frame.specs.hwp_core_rule.Hands.{hand_of, empty}
+use Rattle.hwp_claim_frame.specs.hwp_core_rule.Turns.{Member}
 use Rattle.hwp_claim_act.specs.declared.abandon.Failed.{Failed}
 use Rattle.hwp_claim_act.specs.declared.abandon.AbandonAt.{AbandonAt}
 use Rattle.hwp_claim_act.specs.declared.abandon.AbandonAt.TheVariants as abandon_at

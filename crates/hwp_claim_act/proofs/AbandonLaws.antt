@@ -12,13 +12,13 @@ use Rattle.hwp_core.specs.hwp_core_rule.declared.Step.{Step}
 use Rattle.hwp_core.specs.hwp_core_rule.declared.Step.TheVariants as steps
 use Rattle.hwp_core.specs.hwp_core_rule.declared.View.{View}
 use Rattle.hwp_core.specs.hwp_core_rule.Lasting.{IsMild}
-use Rattle.hwp_core.specs.hwp_core_task.declared.Turn.{Turn}
-use Rattle.hwp_core.specs.hwp_core_task.declared.Turn.TheVariants.{Moved}
-use Rattle.hwp_core.specs.hwp_core_task.Boards.{view_of}
-use Rattle.hwp_core.specs.hwp_core_task.Calls.{Steps, logs}
-use Rattle.hwp_core.specs.hwp_core_task.Ranks.{IsRanked, is_waits}
-use Rattle.hwp_core.proofs.of_hwp_core_task.StepRanks.{rank-of}
-use Rattle.hwp_core.proofs.of_hwp_core_task.StepLeaves.{on-turn-after, steps-planned}
+use Rattle.hwp_core.specs.hwp_core_rule.declared.Turn.{Turn}
+use Rattle.hwp_core.specs.hwp_core_rule.declared.Turn.TheVariants.{Moved}
+use Rattle.hwp_core.specs.hwp_core_rule.Boards.{view_of}
+use Rattle.hwp_core.specs.hwp_core_rule.Calls.{Steps, logs}
+use Rattle.hwp_core.specs.hwp_core_rule.Ranks.{IsRanked, is_waits}
+use Rattle.hwp_core.proofs.of_hwp_core_rule.StepRanks.{rank-of}
+use Rattle.hwp_core.proofs.of_hwp_core_rule.StepLeaves.{on-turn-after, steps-planned}
 use Rattle.hwp_claim_act.specs.declared.abandon.Abandon.{Abandon}
 use Rattle.hwp_claim_act.specs.declared.abandon.AbandonAt.{AbandonAt}
 use Rattle.hwp_claim_act.specs.declared.abandon.AbandonAt.TheVariants as at

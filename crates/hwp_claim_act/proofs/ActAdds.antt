@@ -22,12 +22,12 @@ use Rattle.hwp_core.specs.hwp_core_rule.declared.View.{View}
 use Rattle.hwp_core.specs.hwp_core_rule.Lists.{EachMember}
 use Rattle.hwp_core.specs.hwp_core_rule.Logs.{log_of}
 use Rattle.hwp_core.proofs.of_hwp_core_rule.Lists.{each-push}
-use Rattle.hwp_core.specs.hwp_core_task.declared.Turn.{Turn}
-use Rattle.hwp_core.specs.hwp_core_task.Calls.{Steps, logs}
-use Rattle.hwp_core.specs.hwp_core_task.Hands.{Hand}
-use Rattle.hwp_core.proofs.of_hwp_core_task.StepLeaves.{steps-planned}
-use Rattle.hwp_core.specs.hwp_core_task.Known.{HasOnly, IsAt, deeds, is_failure}
-use Rattle.hwp_core.proofs.of_hwp_core_task.MadeEntries.{Lists, deeds-none, deeds-one, deeds-same, frame-lists, kill-lists, loss-lists, page-lists}
+use Rattle.hwp_core.specs.hwp_core_rule.declared.Turn.{Turn}
+use Rattle.hwp_core.specs.hwp_core_rule.Calls.{Steps, logs}
+use Rattle.hwp_core.specs.hwp_core_rule.Hands.{Hand}
+use Rattle.hwp_core.proofs.of_hwp_core_rule.StepLeaves.{steps-planned}
+use Rattle.hwp_core.specs.hwp_core_rule.Known.{HasOnly, IsAt, deeds, is_failure}
+use Rattle.hwp_core.proofs.of_hwp_core_rule.MadeEntries.{Lists, deeds-none, deeds-one, deeds-same, frame-lists, kill-lists, loss-lists, page-lists}
 use Rattle.hwp_core.specs.declared.give_up.GiveUp.{GiveUp}
 use Rattle.hwp_core.specs.declared.give_up.GiveUpAt.{GiveUpAt}
 use Rattle.hwp_core.specs.declared.give_up.GiveUpAt.TheVariants as give_up_at

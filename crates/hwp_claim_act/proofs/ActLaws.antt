@@ -15,10 +15,10 @@ use Rattle.hwp_core.specs.hwp_core_rule.declared.Step.{Step}
 use Rattle.hwp_core.specs.hwp_core_rule.declared.View.{View}
 use Rattle.hwp_core.specs.hwp_core_rule.Lists.{EachMember}
 use Rattle.hwp_core.specs.hwp_core_rule.parts.Entries.{HasPolicy, HasSeen}
-use Rattle.hwp_core.specs.hwp_core_task.declared.Turn.{Turn}
-use Rattle.hwp_core.specs.hwp_core_task.Calls.{CanMake, IsOnTurn, Steps, logs}
-use Rattle.hwp_core.specs.hwp_core_task.Hands.{empty, hand_of}
-use Rattle.hwp_core.proofs.of_hwp_core_task.StepLeaves.{on-turn-after, steps-planned}
+use Rattle.hwp_core.specs.hwp_core_rule.declared.Turn.{Turn}
+use Rattle.hwp_core.specs.hwp_core_rule.Calls.{CanMake, IsOnTurn, Steps, logs}
+use Rattle.hwp_core.specs.hwp_core_rule.Hands.{empty, hand_of}
+use Rattle.hwp_core.proofs.of_hwp_core_rule.StepLeaves.{on-turn-after, steps-planned}
 use Rattle.hwp_core.specs.declared.give_up.GiveUp.{GiveUp}
 use Rattle.hwp_core.specs.declared.give_up.GiveUpAt.{GiveUpAt}
 use Rattle.hwp_core.specs.declared.give_up.GiveUpAt.TheVariants as give_up_at

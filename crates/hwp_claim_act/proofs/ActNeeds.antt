@@ -7,7 +7,7 @@ use Rattle.hwp_core.specs.hwp_geom.declared.Thread.{Thread}
 use Rattle.hwp_core.specs.hwp_geom.declared.Who.{Who}
 use Rattle.hwp_core.specs.hwp_kill.declared.Seen.{Seen}
 use Rattle.hwp_core.specs.hwp_page.History.{BodyValue}
-use Rattle.hwp_core.specs.hwp_core_task.declared.Turn.{Turn}
+use Rattle.hwp_core.specs.hwp_core_rule.declared.Turn.{Turn}
 use Rattle.hwp_core.specs.declared.give_up.GiveUp.{GiveUp}
 use Rattle.hwp_core.specs.GiveUps as give_ups
 use Rattle.hwp_core.specs.declared.clear.Clear.{Clear}

@@ -18,8 +18,8 @@ use Rattle.hwp_core.specs.hwp_core_rule.declared.View.{View}
 use Rattle.hwp_core.specs.hwp_core_rule.Logs.{log_of}
 use Rattle.hwp_core.specs.hwp_core_rule.Views.{body_of, is_body_of, more_of}
 use Rattle.hwp_core.proofs.of_hwp_core_rule.Lists.{same-number}
-use Rattle.hwp_core.specs.hwp_core_task.Calls.{IsOnTurn}
-use Rattle.hwp_core.specs.hwp_core_task.Hands.{Hand, body_in, empty, hand_of}
+use Rattle.hwp_core.specs.hwp_core_rule.Calls.{IsOnTurn}
+use Rattle.hwp_core.specs.hwp_core_rule.Hands.{Hand, body_in, empty, hand_of}
 use Rattle.hwp_core.proofs.GiveUpLaws.{page-given-up}
 use Rattle.hwp_core.proofs.HoldEnds.{held-unholds}
 use Rattle.hwp_core.proofs.TaskTells.{Tells, empty-tells, frame-tells, give-up-tells, page-tells}

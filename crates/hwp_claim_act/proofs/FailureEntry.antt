@@ -35,7 +35,7 @@ use Rattle.hwp_core.specs.hwp_core_rule.Logs.{file_of, fitting_word, log_of, ope
 use Rattle.hwp_core.specs.hwp_core_rule.Views.{more_of}
 use Rattle.hwp_core.specs.hwp_core_rule.parts.Entries.{HasSeen}
 use Rattle.hwp_core.proofs.of_hwp_core_rule.OwedLosses.{state-kind}
-use Rattle.hwp_core.specs.hwp_core_task.Hands.{body_in}
+use Rattle.hwp_core.specs.hwp_core_rule.Hands.{body_in}
 use Rattle.hwp_core.specs.Holds.{IsBodyOf}
 use Rattle.hwp_core.specs.Clears.{word_now}
 use Rattle.hwp_core.proofs.PageStates.{replay-apart, state-is}

@@ -24,8 +24,8 @@ use Rattle.hwp_core.specs.hwp_core_rule.Logs.{fitting, fitting_word, log_of, sta
 use Rattle.hwp_core.specs.hwp_core_rule.parts.Entries.{HasPolicy}
 use Rattle.hwp_core.specs.hwp_core_rule.parts.Fits.{FitsWords}
 use Rattle.hwp_core.proofs.of_hwp_core_rule.PageWords.{fitting-at}
-use Rattle.hwp_core.specs.hwp_core_task.Calls.{IsOnTurn}
-use Rattle.hwp_core.specs.hwp_core_task.Hands.{Hand, body_in, hand_of}
+use Rattle.hwp_core.specs.hwp_core_rule.Calls.{IsOnTurn}
+use Rattle.hwp_core.specs.hwp_core_rule.Hands.{Hand, body_in, hand_of}
 use Rattle.hwp_core.specs.declared.clear.Clear.{Clear}
 use Rattle.hwp_core.specs.Clears as clears
 use Rattle.hwp_core.specs.Clears.{IsNextFrom, is_done, pte_of, word_now}

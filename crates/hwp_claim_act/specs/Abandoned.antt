@@ -33,11 +33,11 @@ use Rattle.hwp_core.specs.hwp_core_rule.Logs.{file_of, log_of, state_of}
 use Rattle.hwp_core.specs.hwp_core_rule.Views.{more_of}
 use Rattle.hwp_core.specs.hwp_core_rule.parts.Counter.{is_poisoning}
 use Rattle.hwp_core.specs.hwp_core_rule.parts.Fits.{FitsWords}
-use Rattle.hwp_core.specs.hwp_core_task.Calls.{IsOnTurn}
-use Rattle.hwp_core.specs.hwp_core_task.Hands.{Hand, hand_of, empty}
-use Rattle.hwp_core.specs.hwp_core_task.Known.{HasMade, deeds}
-use Rattle.hwp_core.specs.hwp_core_task.Turns.{Member}
-use Rattle.hwp_core.specs.hwp_core_task.declared.Turn.TheVariants.{Moved}
+use Rattle.hwp_core.specs.hwp_core_rule.Calls.{IsOnTurn}
+use Rattle.hwp_core.specs.hwp_core_rule.Hands.{Hand, hand_of, empty}
+use Rattle.hwp_core.specs.hwp_core_rule.Known.{HasMade, deeds}
+use Rattle.hwp_core.specs.hwp_core_rule.Turns.{Member}
+use Rattle.hwp_core.specs.hwp_core_rule.declared.Turn.TheVariants.{Moved}
 use Rattle.hwp_core.specs.Vacates.{page_held, with_frame}
 use Rattle.hwp_claim_act.specs.declared.abandon.Abandon.{Abandon}
 use Rattle.hwp_claim_act.specs.declared.abandon.AbandonAt.{AbandonAt}

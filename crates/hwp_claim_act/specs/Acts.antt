@@ -10,13 +10,13 @@ use Rattle.hwp_core.specs.hwp_page.History.{BodyValue}
 use Rattle.hwp_core.specs.hwp_page.Situations.{is_signalling}
 use Rattle.hwp_core.specs.hwp_core_rule.declared.Step.{Step}
 use Rattle.hwp_core.specs.hwp_core_rule.Words.{Words}
-use Rattle.hwp_core.specs.hwp_core_task.declared.Turn.{Turn}
-use Rattle.hwp_core.specs.hwp_core_task.declared.Turn.TheVariants.{Moved}
+use Rattle.hwp_core.specs.hwp_core_rule.declared.Turn.{Turn}
+use Rattle.hwp_core.specs.hwp_core_rule.declared.Turn.TheVariants.{Moved}
 use Rattle.hwp_core.specs.declared.give_up.GiveUp.{GiveUp}
 use Rattle.hwp_core.specs.GiveUps as give_ups
 use Rattle.hwp_core.specs.declared.clear.Clear.{Clear}
 use Rattle.hwp_core.specs.Clears as clears
-use Rattle.hwp_core.specs.hwp_core_task.Ranks.{pass}
+use Rattle.hwp_core.specs.hwp_core_rule.Ranks.{pass}
 use Rattle.hwp_claim_act.specs.declared.abandon.Abandon.{Abandon}
 use Rattle.hwp_claim_act.specs.declared.abandon.AbandonAt.{AbandonAt}
 use Rattle.hwp_claim_act.specs.declared.abandon.AbandonAt.TheVariants as abandon_at

@@ -18,9 +18,9 @@ use Rattle.hwp_core.specs.hwp_core_rule.declared.Step.TheVariants as steps
 use Rattle.hwp_core.specs.hwp_core_rule.declared.View.{View}
 use Rattle.hwp_core.specs.hwp_core_rule.Lists.{EachMember}
 use Rattle.hwp_core.specs.hwp_core_rule.parts.Entries.{HasPolicy}
-use Rattle.hwp_core.specs.hwp_core_task.Calls.{IsOnTurn}
-use Rattle.hwp_core.specs.hwp_core_task.Turns.{Member}
-use Rattle.hwp_core.specs.hwp_core_task.declared.Turn.TheVariants.{Moved}
+use Rattle.hwp_core.specs.hwp_core_rule.Calls.{IsOnTurn}
+use Rattle.hwp_core.specs.hwp_core_rule.Turns.{Member}
+use Rattle.hwp_core.specs.hwp_core_rule.declared.Turn.TheVariants.{Moved}
 use Rattle.hwp_core.specs.Holds.{HoldsPage}
 use Rattle.hwp_claim_act.specs.declared.read_policies.ReadPolicies.{ReadPolicies}
 

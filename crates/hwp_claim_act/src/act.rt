@@ -1,5 +1,5 @@
 ghost use Rattle.std.specs.Prelude.{◌≡◌, ◌<◌, true, None};
-ghost use Rattle.hwp_core.specs.hwp_core_task.declared.Turn.TheVariants.{Moved};
+ghost use Rattle.hwp_core.specs.hwp_core_rule.declared.Turn.TheVariants.{Moved};
 ghost use Rattle.hwp_claim_act.specs.declared.act.ActAt.TheVariants as states;
 ghost use Rattle.hwp_claim_act.specs.Failing.{CanEnter};
 ghost use Rattle.hwp_claim_act.specs.Acts.{AfterRead, Begins, CanReadOn, Enters, Follows, IsAtClear, Shows, Starts, abandoned, after_clear, answer, given_up};

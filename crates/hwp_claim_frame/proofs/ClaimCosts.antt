@@ -16,13 +16,13 @@ use Rattle.hwp_core.specs.hwp_core_rule.Moves.{Move}
 use Rattle.hwp_core.specs.hwp_core_rule.Lasting.{LeavesPoison}
 use Rattle.hwp_core.specs.hwp_core_rule.Steps.{place_of, word_after}
 use Rattle.hwp_core.specs.hwp_core_rule.Words.{Words, read}
-use Rattle.hwp_core.specs.hwp_core_task.declared.Turn.{Turn}
-use Rattle.hwp_core.specs.hwp_core_task.declared.Turn.TheVariants.{Moved, Changed, NoMemory}
-use Rattle.hwp_core.specs.hwp_core_task.Boards.{view_of}
-use Rattle.hwp_core.specs.hwp_core_task.Calls.{logs, rec_of}
-use Rattle.hwp_core.specs.hwp_core_task.Ranks.{Made, Quiet, OtherHand, failures_left, is_waits, stale, words_at, stale_weight}
-use Rattle.hwp_core.proofs.of_hwp_core_task.Failures.{mild-leaves}
-use Rattle.hwp_core.proofs.of_hwp_core_task.StepRanks.{met, poison-fails, words-kept}
+use Rattle.hwp_core.specs.hwp_core_rule.declared.Turn.{Turn}
+use Rattle.hwp_core.specs.hwp_core_rule.declared.Turn.TheVariants.{Moved, Changed, NoMemory}
+use Rattle.hwp_core.specs.hwp_core_rule.Boards.{view_of}
+use Rattle.hwp_core.specs.hwp_core_rule.Calls.{logs, rec_of}
+use Rattle.hwp_core.specs.hwp_core_rule.Ranks.{Made, Quiet, OtherHand, failures_left, is_waits, stale, words_at, stale_weight}
+use Rattle.hwp_core.proofs.of_hwp_core_rule.Failures.{mild-leaves}
+use Rattle.hwp_core.proofs.of_hwp_core_rule.StepRanks.{met, poison-fails, words-kept}
 use Rattle.hwp_core.specs.declared.unlock.Unlock.{Unlock}
 use Rattle.hwp_core.specs.Unlocks as unlocks
 use Rattle.hwp_core.proofs.TaskCosts.{met-own}

@@ -14,11 +14,11 @@ use Rattle.hwp_core.specs.hwp_core_rule.Words.{Words}
 use Rattle.hwp_core.specs.hwp_core_rule.parts.Locks.{IsLocked}
 use Rattle.hwp_core.proofs.of_hwp_core_rule.Lists.{at_map, same-number, same-or}
 use Rattle.hwp_core.proofs.of_hwp_core_rule.MetWords.{frame-word}
-use Rattle.hwp_core.specs.hwp_core_task.declared.Turn.{Turn}
-use Rattle.hwp_core.specs.hwp_core_task.Boards.{view_of}
-use Rattle.hwp_core.specs.hwp_core_task.Ranks.{Made, Pending, words_at}
-use Rattle.hwp_core.specs.hwp_core_task.Turns.{Member}
-use Rattle.hwp_core.proofs.of_hwp_core_task.StepRanks.{me}
+use Rattle.hwp_core.specs.hwp_core_rule.declared.Turn.{Turn}
+use Rattle.hwp_core.specs.hwp_core_rule.Boards.{view_of}
+use Rattle.hwp_core.specs.hwp_core_rule.Ranks.{Made, Pending, words_at}
+use Rattle.hwp_core.specs.hwp_core_rule.Turns.{Member}
+use Rattle.hwp_core.proofs.of_hwp_core_rule.StepRanks.{me}
 use Rattle.hwp_claim_frame.specs.Meets.{word_in}
 use Rattle.hwp_claim_frame.proofs.MeetCosts.{after-is, met-at, set-word}
 

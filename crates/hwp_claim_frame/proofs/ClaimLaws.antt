@@ -31,12 +31,12 @@ use Rattle.hwp_core.specs.hwp_core_rule.Words.{index}
 use Rattle.hwp_core.specs.hwp_core_rule.parts.Counter.{is_poisoning}
 use Rattle.hwp_core.proofs.of_hwp_core_rule.Lists.{at_map, same-number, some-last}
 use Rattle.hwp_core.proofs.of_hwp_core_rule.MetWords.{frame-word}
-use Rattle.hwp_core.specs.hwp_core_task.declared.Turn.{Turn}
-use Rattle.hwp_core.specs.hwp_core_task.Calls.{CanMake, IsOnTurn, Steps, logs}
-use Rattle.hwp_core.specs.hwp_core_task.Hands.{hand_of, empty}
-use Rattle.hwp_core.proofs.of_hwp_core_task.StepLeaves.{on-turn-after, hand-planned, steps-planned, can-make}
-use Rattle.hwp_core.specs.hwp_core_task.Known.{IsShown}
-use Rattle.hwp_core.proofs.of_hwp_core_task.SightKeeps.{saw-stopped, stop-listed}
+use Rattle.hwp_core.specs.hwp_core_rule.declared.Turn.{Turn}
+use Rattle.hwp_core.specs.hwp_core_rule.Calls.{CanMake, IsOnTurn, Steps, logs}
+use Rattle.hwp_core.specs.hwp_core_rule.Hands.{hand_of, empty}
+use Rattle.hwp_core.proofs.of_hwp_core_rule.StepLeaves.{on-turn-after, hand-planned, steps-planned, can-make}
+use Rattle.hwp_core.specs.hwp_core_rule.Known.{IsShown}
+use Rattle.hwp_core.proofs.of_hwp_core_rule.SightKeeps.{saw-stopped, stop-listed}
 use Rattle.hwp_core.specs.declared.unlock.Unlock.{Unlock}
 use Rattle.hwp_core.specs.declared.unlock.UnlockAt.{UnlockAt}
 use Rattle.hwp_core.specs.declared.unlock.UnlockAt.TheVariants as unlock_at

@@ -25,14 +25,14 @@ use Rattle.hwp_core.specs.hwp_core_rule.parts.Places.{in_hand}
 use Rattle.hwp_core.proofs.of_hwp_core_rule.CountsBelow.{below-term, some-term}
 use Rattle.hwp_core.proofs.of_hwp_core_rule.Lists.{map-was, same-number, same-or}
 use Rattle.hwp_core.proofs.of_hwp_core_rule.MoveKeeps.{shaped}
-use Rattle.hwp_core.specs.hwp_core_task.declared.Turn.{Turn}
-use Rattle.hwp_core.specs.hwp_core_task.declared.Turn.TheVariants.{Moved, Changed, Waits}
-use Rattle.hwp_core.specs.hwp_core_task.Boards.{view_of}
-use Rattle.hwp_core.specs.hwp_core_task.Calls.{rec_of}
-use Rattle.hwp_core.specs.hwp_core_task.Hands.{Hand, hand_of}
-use Rattle.hwp_core.specs.hwp_core_task.Ranks.{HasFrame, IsRanked, Made, OtherHand, is_waits, stale, words_at, stale_weight}
-use Rattle.hwp_core.specs.hwp_core_task.Turns.{Member}
-use Rattle.hwp_core.proofs.of_hwp_core_task.StepRanks.{met, pending-kept, words-after}
+use Rattle.hwp_core.specs.hwp_core_rule.declared.Turn.{Turn}
+use Rattle.hwp_core.specs.hwp_core_rule.declared.Turn.TheVariants.{Moved, Changed, Waits}
+use Rattle.hwp_core.specs.hwp_core_rule.Boards.{view_of}
+use Rattle.hwp_core.specs.hwp_core_rule.Calls.{rec_of}
+use Rattle.hwp_core.specs.hwp_core_rule.Hands.{Hand, hand_of}
+use Rattle.hwp_core.specs.hwp_core_rule.Ranks.{HasFrame, IsRanked, Made, OtherHand, is_waits, stale, words_at, stale_weight}
+use Rattle.hwp_core.specs.hwp_core_rule.Turns.{Member}
+use Rattle.hwp_core.proofs.of_hwp_core_rule.StepRanks.{met, pending-kept, words-after}
 use Rattle.hwp_core.proofs.FreeWords.{none-cleared}
 use Rattle.hwp_core.proofs.TaskCosts.{met-own, stale-most}
 use Rattle.hwp_claim_frame.specs.declared.grab.Grab.{Grab}

@@ -13,4 +13,3 @@ pub mod ClaimCosts
 pub mod ClaimOwns
 pub use Rattle.hwp_core.proofs as of_hwp_core
 pub use Rattle.hwp_core.proofs.of_hwp_core_rule as of_hwp_core_rule
-pub use Rattle.hwp_core.proofs.of_hwp_core_task as of_hwp_core_task

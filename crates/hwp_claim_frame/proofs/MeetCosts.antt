@@ -23,14 +23,14 @@ use Rattle.hwp_core.specs.hwp_core_rule.Lasting.{IsMild}
 use Rattle.hwp_core.proofs.of_hwp_core_rule.MetWords.{frame-free, frame-word, held-word, page-free}
 use Rattle.hwp_core.proofs.of_hwp_core_rule.MoveKeeps.{shaped}
 use Rattle.hwp_core.proofs.of_hwp_core_rule.bounds.RefBounds.{count-fits}
-use Rattle.hwp_core.specs.hwp_core_task.declared.Turn.{Turn}
-use Rattle.hwp_core.specs.hwp_core_task.declared.Turn.TheVariants.{Moved, Changed, Waits}
-use Rattle.hwp_core.specs.hwp_core_task.Boards.{view_of}
-use Rattle.hwp_core.specs.hwp_core_task.Calls.{logs, rec_of}
-use Rattle.hwp_core.specs.hwp_core_task.Hands.{Hand}
-use Rattle.hwp_core.specs.hwp_core_task.Ranks.{Made, IsRanked, Quiet, is_waits, stale, words_at, stale_weight}
-use Rattle.hwp_core.specs.hwp_core_task.Turns.{Member}
-use Rattle.hwp_core.proofs.of_hwp_core_task.StepRanks.{met, no-lock, no-page, rank-of, steps-on, words-after}
+use Rattle.hwp_core.specs.hwp_core_rule.declared.Turn.{Turn}
+use Rattle.hwp_core.specs.hwp_core_rule.declared.Turn.TheVariants.{Moved, Changed, Waits}
+use Rattle.hwp_core.specs.hwp_core_rule.Boards.{view_of}
+use Rattle.hwp_core.specs.hwp_core_rule.Calls.{logs, rec_of}
+use Rattle.hwp_core.specs.hwp_core_rule.Hands.{Hand}
+use Rattle.hwp_core.specs.hwp_core_rule.Ranks.{Made, IsRanked, Quiet, is_waits, stale, words_at, stale_weight}
+use Rattle.hwp_core.specs.hwp_core_rule.Turns.{Member}
+use Rattle.hwp_core.proofs.of_hwp_core_rule.StepRanks.{met, no-lock, no-page, rank-of, steps-on, words-after}
 use Rattle.hwp_core.specs.declared.release.Release.{Release}
 use Rattle.hwp_core.specs.declared.release.ReleaseAt.{ReleaseAt}
 use Rattle.hwp_core.specs.declared.release.ReleaseAt.TheVariants as release_at

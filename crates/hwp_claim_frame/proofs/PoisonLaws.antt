@@ -9,10 +9,10 @@ use Rattle.hwp_core.specs.hwp_core_rule.declared.State.{State}
 use Rattle.hwp_core.specs.hwp_core_rule.declared.Step.TheVariants as steps
 use Rattle.hwp_core.specs.hwp_core_rule.Words.{Words}
 use Rattle.hwp_core.proofs.of_hwp_core_rule.Lists.{same-or}
-use Rattle.hwp_core.specs.hwp_core_task.declared.Turn.{Turn}
-use Rattle.hwp_core.specs.hwp_core_task.Ranks.{Made, Pending, words_at}
-use Rattle.hwp_core.specs.hwp_core_task.Turns.{Member}
-use Rattle.hwp_core.proofs.of_hwp_core_task.StepRanks.{met}
+use Rattle.hwp_core.specs.hwp_core_rule.declared.Turn.{Turn}
+use Rattle.hwp_core.specs.hwp_core_rule.Ranks.{Made, Pending, words_at}
+use Rattle.hwp_core.specs.hwp_core_rule.Turns.{Member}
+use Rattle.hwp_core.proofs.of_hwp_core_rule.StepRanks.{met}
 use Rattle.hwp_core.proofs.TaskCosts.{met-own}
 use Rattle.hwp_claim_frame.specs.Meets.{word_in}
 use Rattle.hwp_claim_frame.proofs.MeetCosts.{after-is, met-at, set-word}

@@ -21,13 +21,13 @@ use Rattle.hwp_core.specs.hwp_core_rule.Asks.{OwesCount}
 use Rattle.hwp_core.specs.hwp_core_rule.Lists.{SomeMember}
 use Rattle.hwp_core.specs.hwp_core_rule.Words.{Words}
 use Rattle.hwp_core.specs.hwp_core_rule.parts.Counter.{is_poisoning}
-use Rattle.hwp_core.specs.hwp_core_task.declared.Turn.{Turn}
-use Rattle.hwp_core.specs.hwp_core_task.declared.Turn.TheVariants.{Moved, Changed, NoMemory}
-use Rattle.hwp_core.specs.hwp_core_task.Calls.{IsOnTurn}
-use Rattle.hwp_core.specs.hwp_core_task.Hands.{hand_of, empty}
-use Rattle.hwp_core.specs.hwp_core_task.Known.{Saw, SawStop}
-use Rattle.hwp_core.specs.hwp_core_task.Ranks.{stale_weight}
-use Rattle.hwp_core.specs.hwp_core_task.Turns.{Member}
+use Rattle.hwp_core.specs.hwp_core_rule.declared.Turn.{Turn}
+use Rattle.hwp_core.specs.hwp_core_rule.declared.Turn.TheVariants.{Moved, Changed, NoMemory}
+use Rattle.hwp_core.specs.hwp_core_rule.Calls.{IsOnTurn}
+use Rattle.hwp_core.specs.hwp_core_rule.Hands.{hand_of, empty}
+use Rattle.hwp_core.specs.hwp_core_rule.Known.{Saw, SawStop}
+use Rattle.hwp_core.specs.hwp_core_rule.Ranks.{stale_weight}
+use Rattle.hwp_core.specs.hwp_core_rule.Turns.{Member}
 use Rattle.hwp_core.specs.declared.unlock.Unlock.{Unlock}
 use Rattle.hwp_core.specs.Unlocks as unlocks
 use Rattle.hwp_core.specs.Unlocks.{empty_frame}

@@ -12,13 +12,13 @@ use Rattle.hwp_core.specs.hwp_core_rule.Steps.{goes}
 use Rattle.hwp_core.specs.hwp_core_rule.Views.{with_refs, without, is_hand_of, unpoisoned}
 use Rattle.hwp_core.specs.hwp_core_rule.Words.{Words}
 use Rattle.hwp_core.specs.hwp_core_rule.parts.Places.{IsBare}
-use Rattle.hwp_core.specs.hwp_core_task.declared.Turn.{Turn}
-use Rattle.hwp_core.specs.hwp_core_task.declared.Turn.TheVariants.{Moved, Changed, Waits}
-use Rattle.hwp_core.specs.hwp_core_task.Calls.{IsOnTurn}
-use Rattle.hwp_core.specs.hwp_core_task.Hands.{Hand, hand_of, empty}
-use Rattle.hwp_core.specs.hwp_core_task.Ranks.{stale, stale_weight}
-use Rattle.hwp_core.specs.hwp_core_task.Known.{SawAdopted}
-use Rattle.hwp_core.specs.hwp_core_task.Turns.{Member}
+use Rattle.hwp_core.specs.hwp_core_rule.declared.Turn.{Turn}
+use Rattle.hwp_core.specs.hwp_core_rule.declared.Turn.TheVariants.{Moved, Changed, Waits}
+use Rattle.hwp_core.specs.hwp_core_rule.Calls.{IsOnTurn}
+use Rattle.hwp_core.specs.hwp_core_rule.Hands.{Hand, hand_of, empty}
+use Rattle.hwp_core.specs.hwp_core_rule.Ranks.{stale, stale_weight}
+use Rattle.hwp_core.specs.hwp_core_rule.Known.{SawAdopted}
+use Rattle.hwp_core.specs.hwp_core_rule.Turns.{Member}
 use Rattle.hwp_core.specs.Releases.{adopted_lock}
 use Rattle.hwp_claim_frame.specs.declared.grab.Grab.{Grab}
 use Rattle.hwp_claim_frame.specs.declared.grab.GrabAt.{GrabAt}

@@ -15,13 +15,13 @@ use Rattle.hwp_core.specs.hwp_core_rule.declared.View.{View}
 use Rattle.hwp_core.specs.hwp_core_rule.Logs.{log_of}
 use Rattle.hwp_core.specs.hwp_core_rule.Views.{body_of, more_of}
 use Rattle.hwp_core.specs.hwp_core_rule.Words.{Words}
-use Rattle.hwp_core.specs.hwp_core_task.declared.Turn.{Turn}
-use Rattle.hwp_core.specs.hwp_core_task.declared.Turn.TheVariants.{Moved, Changed, Waits}
-use Rattle.hwp_core.specs.hwp_core_task.Calls.{CanMake, IsOnTurn, logs}
-use Rattle.hwp_core.specs.hwp_core_task.Hands.{Hand, hand_of, hand_after, empty}
-use Rattle.hwp_core.specs.hwp_core_task.Ranks.{stale, stale_weight}
-use Rattle.hwp_core.specs.hwp_core_task.Known.{SawLog}
-use Rattle.hwp_core.specs.hwp_core_task.Turns.{Member}
+use Rattle.hwp_core.specs.hwp_core_rule.declared.Turn.{Turn}
+use Rattle.hwp_core.specs.hwp_core_rule.declared.Turn.TheVariants.{Moved, Changed, Waits}
+use Rattle.hwp_core.specs.hwp_core_rule.Calls.{CanMake, IsOnTurn, logs}
+use Rattle.hwp_core.specs.hwp_core_rule.Hands.{Hand, hand_of, hand_after, empty}
+use Rattle.hwp_core.specs.hwp_core_rule.Ranks.{stale, stale_weight}
+use Rattle.hwp_core.specs.hwp_core_rule.Known.{SawLog}
+use Rattle.hwp_core.specs.hwp_core_rule.Turns.{Member}
 use Rattle.hwp_core.specs.declared.release.Release.{Release}
 use Rattle.hwp_core.specs.declared.release.ReleaseAt.{ReleaseAt}
 use Rattle.hwp_core.specs.declared.release.ReleaseAt.TheVariants as release_at

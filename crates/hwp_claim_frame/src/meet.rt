@@ -283,7 +283,7 @@ fn owned_at(
 
 ghost use Rattle.std.specs.Prelude.{◌==◌, false};
 ghost use Rattle.std.specs.Option.{unwrap_or};
-ghost use Rattle.hwp_core.specs.hwp_core_task.declared.Turn.TheVariants.{Changed, Moved, Waits};
+ghost use Rattle.hwp_core.specs.hwp_core_rule.declared.Turn.TheVariants.{Changed, Moved, Waits};
 ghost use Rattle.hwp_claim_frame.specs.declared.meet.MeetAt.TheVariants.{
   Back,
   LockOwned,

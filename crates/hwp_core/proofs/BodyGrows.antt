@@ -1,16 +1,16 @@
 -- A body in hand whose entries rest on what its command saw: more sights take nothing away.
 use Rattle.std.proofs.Common.{◌≡◌, ◌⊎◌, inl, inr, ℕ, ◌+◌, ◌≤◌, List, [], ◌∷◌, ◌++◌, Option, length, drop, sym, subst, arith}
 use Rattle.std.proofs.lemmas.List.{drop-append-le, length-append}
-use Rattle.hwp_core_task.specs.hwp_geom.declared.Layout.{Layout}
-use Rattle.hwp_core_task.specs.hwp_geom.declared.Who.{Who}
-use Rattle.hwp_core_task.specs.hwp_page.declared.What.{What}
-use Rattle.hwp_core_task.specs.hwp_geom.declared.Frame.{Frame}
-use Rattle.hwp_core_task.specs.hwp_core_rule.declared.InHand.{InHand}
-use Rattle.hwp_core_task.specs.hwp_core_rule.declared.Log.{Log}
-use Rattle.hwp_core_task.specs.hwp_core_rule.declared.Sight.{Sight}
-use Rattle.hwp_core_task.specs.hwp_core_rule.Asks.{Extends}
-use Rattle.hwp_core_task.specs.hwp_core_rule.parts.Entries.{HasSeen}
-use Rattle.hwp_core_task.proofs.of_hwp_core_rule.Sights.{seen-more}
+use Rattle.hwp_core_rule.specs.hwp_geom.declared.Layout.{Layout}
+use Rattle.hwp_core_rule.specs.hwp_geom.declared.Who.{Who}
+use Rattle.hwp_core_rule.specs.hwp_page.declared.What.{What}
+use Rattle.hwp_core_rule.specs.hwp_geom.declared.Frame.{Frame}
+use Rattle.hwp_core_rule.specs.declared.InHand.{InHand}
+use Rattle.hwp_core_rule.specs.declared.Log.{Log}
+use Rattle.hwp_core_rule.specs.declared.Sight.{Sight}
+use Rattle.hwp_core_rule.specs.Asks.{Extends}
+use Rattle.hwp_core_rule.specs.parts.Entries.{HasSeen}
+use Rattle.hwp_core_rule.proofs.Sights.{seen-more}
 
 -- the same sights, or one more
 abbrev pub Grown : List Sight → List Sight → Type 0

@@ -3,22 +3,22 @@ use Rattle.std.proofs.Common.{◌≡◌, true, false, List, [], ◌∷◌, Optio
 use Rattle.std.proofs.lemmas.Bool.{both_ways}
 use Rattle.std.specs.FinSet as set
 use Rattle.std.specs.Ordering.{nat_cmp}
-use Rattle.hwp_core_task.specs.hwp_geom.declared.Layout.{Layout}
-use Rattle.hwp_core_task.specs.hwp_geom.declared.Page.{Page}
-use Rattle.hwp_core_task.specs.hwp_geom.declared.PageKind.{PageKind}
-use Rattle.hwp_core_task.specs.hwp_geom.Layout.{is_locked}
-use Rattle.hwp_core_task.specs.hwp_page.declared.Entry.{Entry}
-use Rattle.hwp_core_task.specs.hwp_page.declared.Met.TheVariants.{Word, Sigbus}
-use Rattle.hwp_core_task.specs.hwp_page.declared.PageState.{PageState}
-use Rattle.hwp_core_task.specs.hwp_page.declared.Situation.{Situation}
-use Rattle.hwp_core_task.specs.hwp_page.declared.Situation.TheVariants as situations
-use Rattle.hwp_core_task.specs.hwp_page.declared.What.{What}
-use Rattle.hwp_core_task.specs.hwp_page.declared.What.TheVariants as entries
-use Rattle.hwp_core_task.specs.hwp_page.Actions.{acted}
-use Rattle.hwp_core_task.specs.hwp_page.History.{IsReplay, Leads, state_after}
-use Rattle.hwp_core_task.specs.hwp_page.Step.{Allowed, after, opening_of}
-use Rattle.hwp_core_task.proofs.of_hwp_page.Histories.{Leads-state}
-use Rattle.hwp_core_task.specs.hwp_core_rule.Logs.{opening_at, state_of}
+use Rattle.hwp_core_rule.specs.hwp_geom.declared.Layout.{Layout}
+use Rattle.hwp_core_rule.specs.hwp_geom.declared.Page.{Page}
+use Rattle.hwp_core_rule.specs.hwp_geom.declared.PageKind.{PageKind}
+use Rattle.hwp_core_rule.specs.hwp_geom.Layout.{is_locked}
+use Rattle.hwp_core_rule.specs.hwp_page.declared.Entry.{Entry}
+use Rattle.hwp_core_rule.specs.hwp_page.declared.Met.TheVariants.{Word, Sigbus}
+use Rattle.hwp_core_rule.specs.hwp_page.declared.PageState.{PageState}
+use Rattle.hwp_core_rule.specs.hwp_page.declared.Situation.{Situation}
+use Rattle.hwp_core_rule.specs.hwp_page.declared.Situation.TheVariants as situations
+use Rattle.hwp_core_rule.specs.hwp_page.declared.What.{What}
+use Rattle.hwp_core_rule.specs.hwp_page.declared.What.TheVariants as entries
+use Rattle.hwp_core_rule.specs.hwp_page.Actions.{acted}
+use Rattle.hwp_core_rule.specs.hwp_page.History.{IsReplay, Leads, state_after}
+use Rattle.hwp_core_rule.specs.hwp_page.Step.{Allowed, after, opening_of}
+use Rattle.hwp_core_rule.proofs.of_hwp_page.Histories.{Leads-state}
+use Rattle.hwp_core_rule.specs.Logs.{opening_at, state_of}
 
 -- where the page is in no frame, no translation is in use
 abbrev IsUnused : PageState → Type 0

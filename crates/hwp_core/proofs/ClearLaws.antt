@@ -5,36 +5,36 @@ use Rattle.std.proofs.lemmas.Option.{none-some, same_Some, slice_get_within}
 use Rattle.std.specs.FinSet as set
 use Rattle.std.specs.List.{find}
 use Rattle.std.specs.Ordering.{nat_cmp}
-use Rattle.hwp_core_task.specs.hwp_geom.declared.Frame.{Frame}
-use Rattle.hwp_core_task.specs.hwp_geom.declared.Layout.{Layout}
-use Rattle.hwp_core_task.specs.hwp_geom.declared.Page.{Page}
-use Rattle.hwp_core_task.specs.hwp_geom.declared.TransDecl.{TransDecl}
-use Rattle.hwp_core_task.specs.hwp_geom.declared.VSlot.{VSlot}
-use Rattle.hwp_core_task.specs.hwp_kill.Limits.{slot_limit}
-use Rattle.hwp_core_task.specs.hwp_page.declared.PageState.{PageState}
-use Rattle.hwp_core_task.specs.hwp_page.History.{BodyValue}
-use Rattle.hwp_core_task.specs.hwp_words.Translations.{pte_word}
-use Rattle.hwp_core_task.specs.hwp_words.declared.Pte.TheVariants as ptes
-use Rattle.hwp_core_task.specs.hwp_core_rule.declared.Ref.{Ref}
-use Rattle.hwp_core_task.specs.hwp_core_rule.declared.Step.{Step}
-use Rattle.hwp_core_task.specs.hwp_core_rule.declared.Step.TheVariants as steps
-use Rattle.hwp_core_task.specs.hwp_core_rule.declared.View.{View}
-use Rattle.hwp_core_task.specs.hwp_core_rule.Asks.{CanFree, CanSetPte, frame_of}
-use Rattle.hwp_core_task.specs.hwp_core_rule.Logs.{state_of}
-use Rattle.hwp_core_task.specs.hwp_core_rule.Lasting.{IsMild}
-use Rattle.hwp_core_task.specs.hwp_core_rule.Views.{frame_in, is_body_of, less_named, refs_on, with_named}
-use Rattle.hwp_core_task.specs.hwp_core_rule.Words.{Words}
-use Rattle.hwp_core_task.proofs.of_hwp_core_rule.Lists.{same-number, same-or, set_here, set_else}
-use Rattle.hwp_core_task.proofs.of_hwp_core_rule.MetWords.{frame-named, lock-knows}
-use Rattle.hwp_core_task.specs.declared.Turn.{Turn}
-use Rattle.hwp_core_task.specs.declared.Turn.TheVariants.{Moved}
-use Rattle.hwp_core_task.specs.Calls.{CanMake, Steps}
-use Rattle.hwp_core_task.specs.Hands.{Hand, hand_of}
-use Rattle.hwp_core_task.specs.Ranks.{IsRanked, is_waits, translation_room, words_at}
-use Rattle.hwp_core_task.specs.Boards.{view_of}
-use Rattle.hwp_core_task.proofs.StepRanks.{rank-of, steps-on}
-use Rattle.hwp_core_task.proofs.StepLeaves.{on-turn-after, hand-planned, steps-planned, can-make}
-use Rattle.hwp_core_task.proofs.MadeEntries.{ListsNone}
+use Rattle.hwp_core_rule.specs.hwp_geom.declared.Frame.{Frame}
+use Rattle.hwp_core_rule.specs.hwp_geom.declared.Layout.{Layout}
+use Rattle.hwp_core_rule.specs.hwp_geom.declared.Page.{Page}
+use Rattle.hwp_core_rule.specs.hwp_geom.declared.TransDecl.{TransDecl}
+use Rattle.hwp_core_rule.specs.hwp_geom.declared.VSlot.{VSlot}
+use Rattle.hwp_core_rule.specs.hwp_kill.Limits.{slot_limit}
+use Rattle.hwp_core_rule.specs.hwp_page.declared.PageState.{PageState}
+use Rattle.hwp_core_rule.specs.hwp_page.History.{BodyValue}
+use Rattle.hwp_core_rule.specs.hwp_words.Translations.{pte_word}
+use Rattle.hwp_core_rule.specs.hwp_words.declared.Pte.TheVariants as ptes
+use Rattle.hwp_core_rule.specs.declared.Ref.{Ref}
+use Rattle.hwp_core_rule.specs.declared.Step.{Step}
+use Rattle.hwp_core_rule.specs.declared.Step.TheVariants as steps
+use Rattle.hwp_core_rule.specs.declared.View.{View}
+use Rattle.hwp_core_rule.specs.Asks.{CanFree, CanSetPte, frame_of}
+use Rattle.hwp_core_rule.specs.Logs.{state_of}
+use Rattle.hwp_core_rule.specs.Lasting.{IsMild}
+use Rattle.hwp_core_rule.specs.Views.{frame_in, is_body_of, less_named, refs_on, with_named}
+use Rattle.hwp_core_rule.specs.Words.{Words}
+use Rattle.hwp_core_rule.proofs.Lists.{same-number, same-or, set_here, set_else}
+use Rattle.hwp_core_rule.proofs.MetWords.{frame-named, lock-knows}
+use Rattle.hwp_core_rule.specs.declared.Turn.{Turn}
+use Rattle.hwp_core_rule.specs.declared.Turn.TheVariants.{Moved}
+use Rattle.hwp_core_rule.specs.Calls.{CanMake, Steps}
+use Rattle.hwp_core_rule.specs.Hands.{Hand, hand_of}
+use Rattle.hwp_core_rule.specs.Ranks.{IsRanked, is_waits, translation_room, words_at}
+use Rattle.hwp_core_rule.specs.Boards.{view_of}
+use Rattle.hwp_core_rule.proofs.StepRanks.{rank-of, steps-on}
+use Rattle.hwp_core_rule.proofs.StepLeaves.{on-turn-after, hand-planned, steps-planned, can-make}
+use Rattle.hwp_core_rule.proofs.MadeEntries.{ListsNone}
 use Rattle.hwp_core.specs.Holds.{page_lock}
 use Rattle.hwp_core.specs.declared.clear.Clear.{Clear}
 use Rattle.hwp_core.specs.Clears.{pte_of, IsNextFrom, plan, plan_at, Follows, FollowsAt, Shows, ShowsAt, is_done, word_now, IsCounted, IsClearing, Fits, cost, cost_at, task as clear-task}

@@ -7,22 +7,22 @@ use Rattle.std.proofs.lemmas.List.{drop_all}
 use Rattle.std.proofs.lemmas.Nat.Bits.{bit_at-trailing_zeros}
 use Rattle.std.specs.Int.{w64, trailing_zeros}
 use Rattle.std.specs.List.{list_all, sum_by}
-use Rattle.hwp_core_task.specs.hwp_geom.Bits.{IsLowestBit}
-use Rattle.hwp_core_task.specs.hwp_geom.declared.Frame.{Frame}
-use Rattle.hwp_core_task.specs.hwp_geom.declared.Layout.{Layout}
-use Rattle.hwp_core_task.specs.hwp_core_rule.declared.SharedWord.TheVariants as places
-use Rattle.hwp_core_task.specs.hwp_core_rule.declared.State.{State}
-use Rattle.hwp_core_task.specs.hwp_core_rule.declared.Step.TheVariants as steps
-use Rattle.hwp_core_task.specs.hwp_core_rule.declared.View.{View}
-use Rattle.hwp_core_task.specs.hwp_core_rule.Rule.{Holds}
-use Rattle.hwp_core_task.specs.hwp_core_rule.Steps.{goes, word_after}
-use Rattle.hwp_core_task.specs.hwp_core_rule.Words.{Words, words_of, index, free_words, free_bit, sum_below, put}
-use Rattle.hwp_core_task.proofs.of_hwp_core_rule.Bits.{cleared-none}
-use Rattle.hwp_core_task.proofs.of_hwp_core_rule.CountsBelow.{below-zero}
-use Rattle.hwp_core_task.proofs.of_hwp_core_rule.Lists.{at_map, term-le}
-use Rattle.hwp_core_task.proofs.of_hwp_core_rule.MetWords.{free-within}
-use Rattle.hwp_core_task.proofs.of_hwp_core_rule.MoveKeeps.{shaped}
-use Rattle.hwp_core_task.proofs.of_hwp_core_rule.WordsByKind.{words-read}
+use Rattle.hwp_core_rule.specs.hwp_geom.Bits.{IsLowestBit}
+use Rattle.hwp_core_rule.specs.hwp_geom.declared.Frame.{Frame}
+use Rattle.hwp_core_rule.specs.hwp_geom.declared.Layout.{Layout}
+use Rattle.hwp_core_rule.specs.declared.SharedWord.TheVariants as places
+use Rattle.hwp_core_rule.specs.declared.State.{State}
+use Rattle.hwp_core_rule.specs.declared.Step.TheVariants as steps
+use Rattle.hwp_core_rule.specs.declared.View.{View}
+use Rattle.hwp_core_rule.specs.Rule.{Holds}
+use Rattle.hwp_core_rule.specs.Steps.{goes, word_after}
+use Rattle.hwp_core_rule.specs.Words.{Words, words_of, index, free_words, free_bit, sum_below, put}
+use Rattle.hwp_core_rule.proofs.Bits.{cleared-none}
+use Rattle.hwp_core_rule.proofs.CountsBelow.{below-zero}
+use Rattle.hwp_core_rule.proofs.Lists.{at_map, term-le}
+use Rattle.hwp_core_rule.proofs.MetWords.{free-within}
+use Rattle.hwp_core_rule.proofs.MoveKeeps.{shaped}
+use Rattle.hwp_core_rule.proofs.WordsByKind.{words-read}
 
 -- the lowest bit of a word is where its low zeros end
 pub lowest-is : (word k : ℕ) → 0 < word → word < 2 ^ 64 → IsLowestBit word 0 k → k ≡ trailing_zeros w64 word

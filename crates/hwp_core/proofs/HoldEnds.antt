@@ -6,34 +6,34 @@ use Rattle.std.proofs.lemmas.List.Sums.{sum_by-cons}
 use Rattle.std.proofs.lemmas.Option.{none-some, same_Some}
 use Rattle.std.specs.Int.{from_bool}
 use Rattle.std.specs.List.{find}
-use Rattle.hwp_core_task.specs.hwp_geom.declared.Frame.{Frame}
-use Rattle.hwp_core_task.specs.hwp_geom.declared.Layout.{Layout}
-use Rattle.hwp_core_task.specs.hwp_geom.declared.Page.{Page}
-use Rattle.hwp_core_task.specs.hwp_geom.declared.Who.{Who}
-use Rattle.hwp_core_task.specs.hwp_page.declared.Entry.{Entry}
-use Rattle.hwp_core_task.specs.hwp_page.History.{BodyValue, Leads}
-use Rattle.hwp_core_task.specs.hwp_page.Endings.{has_ending}
-use Rattle.hwp_core_task.specs.hwp_words.Names.{frame_name}
-use Rattle.hwp_core_task.specs.hwp_core_rule.declared.InHand.{InHand}
-use Rattle.hwp_core_task.specs.hwp_core_rule.declared.Log.{Log}
-use Rattle.hwp_core_task.specs.hwp_core_rule.declared.PageLock.{PageLock}
-use Rattle.hwp_core_task.specs.hwp_core_rule.declared.Sight.{Sight}
-use Rattle.hwp_core_task.specs.hwp_core_rule.declared.View.{View}
-use Rattle.hwp_core_task.specs.hwp_core_rule.Asks.{Extends, PutFits, CanGoHome}
-use Rattle.hwp_core_task.specs.hwp_core_rule.Lists.{EachMember}
-use Rattle.hwp_core_task.specs.hwp_core_rule.Logs.{log_of, state_of, fitting, fitting_word}
-use Rattle.hwp_core_task.specs.hwp_core_rule.Views.{more_of, page_locks_on}
-use Rattle.hwp_core_task.specs.hwp_core_rule.parts.Entries.{HasSeen}
-use Rattle.hwp_core_task.specs.hwp_core_rule.parts.Fits.{FitsWords}
-use Rattle.hwp_core_task.proofs.of_hwp_core_rule.PageWords.{fitting-at}
-use Rattle.hwp_core_task.proofs.of_hwp_core_rule.Lists.{same-number}
+use Rattle.hwp_core_rule.specs.hwp_geom.declared.Frame.{Frame}
+use Rattle.hwp_core_rule.specs.hwp_geom.declared.Layout.{Layout}
+use Rattle.hwp_core_rule.specs.hwp_geom.declared.Page.{Page}
+use Rattle.hwp_core_rule.specs.hwp_geom.declared.Who.{Who}
+use Rattle.hwp_core_rule.specs.hwp_page.declared.Entry.{Entry}
+use Rattle.hwp_core_rule.specs.hwp_page.History.{BodyValue, Leads}
+use Rattle.hwp_core_rule.specs.hwp_page.Endings.{has_ending}
+use Rattle.hwp_core_rule.specs.hwp_words.Names.{frame_name}
+use Rattle.hwp_core_rule.specs.declared.InHand.{InHand}
+use Rattle.hwp_core_rule.specs.declared.Log.{Log}
+use Rattle.hwp_core_rule.specs.declared.PageLock.{PageLock}
+use Rattle.hwp_core_rule.specs.declared.Sight.{Sight}
+use Rattle.hwp_core_rule.specs.declared.View.{View}
+use Rattle.hwp_core_rule.specs.Asks.{Extends, PutFits, CanGoHome}
+use Rattle.hwp_core_rule.specs.Lists.{EachMember}
+use Rattle.hwp_core_rule.specs.Logs.{log_of, state_of, fitting, fitting_word}
+use Rattle.hwp_core_rule.specs.Views.{more_of, page_locks_on}
+use Rattle.hwp_core_rule.specs.parts.Entries.{HasSeen}
+use Rattle.hwp_core_rule.specs.parts.Fits.{FitsWords}
+use Rattle.hwp_core_rule.proofs.PageWords.{fitting-at}
+use Rattle.hwp_core_rule.proofs.Lists.{same-number}
 use Rattle.hwp_core.specs.declared.hold.Hold.{Hold}
 use Rattle.hwp_core.specs.declared.hold.HoldAt.TheVariants as at
 use Rattle.hwp_core.specs.declared.unhold.Unhold.{Unhold}
 use Rattle.hwp_core.specs.declared.unhold.UnholdAt.{UnholdAt}
 use Rattle.hwp_core.specs.declared.unhold.UnholdAt.TheVariants as unhold_at
-use Rattle.hwp_core_task.specs.Calls.{IsOnTurn}
-use Rattle.hwp_core_task.specs.Hands.{Hand, body_in, empty, hand_of}
+use Rattle.hwp_core_rule.specs.Calls.{IsOnTurn}
+use Rattle.hwp_core_rule.specs.Hands.{Hand, body_in, empty, hand_of}
 use Rattle.hwp_core.specs.Holds.{HoldsPage, FitsAt, held, page_lock, words_of}
 use Rattle.hwp_core.specs.Unholds.{begin, plan, plan_at, HoldsAhead, Fits, FitsAt as UnholdFitsAt, LetsGo}
 

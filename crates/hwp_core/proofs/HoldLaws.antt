@@ -2,40 +2,40 @@
 use Rattle.std.proofs.Common.{◌≡◌, ℕ, ◌+◌, ◌<◌, ◌≤◌, ◌==◌, ◌||◌, Bool, true, false, not, cond, [], ◌∷◌, Option, Some, None, is_none, is_some, length, slice_get, slice_index, refl, sym, ap, ◌∙◌, subst, arith}
 use Rattle.std.proofs.lemmas.Bool.{both_ways, eqb-true, ne_eqb}
 use Rattle.std.proofs.lemmas.Option.{none-some, same_Some}
-use Rattle.hwp_core_task.specs.hwp_geom.declared.Frame.{Frame}
-use Rattle.hwp_core_task.specs.hwp_geom.declared.Layout.{Layout}
-use Rattle.hwp_core_task.specs.hwp_geom.declared.Page.{Page}
-use Rattle.hwp_core_task.specs.hwp_geom.declared.Who.{Who}
-use Rattle.hwp_core_task.specs.hwp_page.History.{BodyValue, IsReplay}
-use Rattle.hwp_core_task.specs.hwp_words.Frames.{count_of, is_handled, is_poisoned, owner_of}
-use Rattle.hwp_core_task.specs.hwp_core_rule.declared.Log.{Log}
-use Rattle.hwp_core_task.specs.hwp_core_rule.declared.PageLock.{PageLock}
-use Rattle.hwp_core_task.specs.hwp_core_rule.declared.SharedWord.{SharedWord}
-use Rattle.hwp_core_task.specs.hwp_core_rule.declared.SharedWord.TheVariants as places
-use Rattle.hwp_core_task.specs.hwp_core_rule.declared.Step.{Step}
-use Rattle.hwp_core_task.specs.hwp_core_rule.declared.Step.TheVariants as steps
-use Rattle.hwp_core_task.specs.hwp_core_rule.declared.View.{View}
-use Rattle.hwp_core_task.specs.hwp_core_rule.Logs.{log_of, state_of}
-use Rattle.hwp_core_task.specs.hwp_core_rule.SlotMoves.{IsIn, frame_slot, shelf_slot, is_out, moved_out}
-use Rattle.hwp_core_task.specs.hwp_core_rule.Views.{refs_on, locks_on, frame_in, knowing, lock_found}
-use Rattle.hwp_core_task.specs.hwp_core_rule.Words.{index}
-use Rattle.hwp_core_task.proofs.of_hwp_core_rule.Lists.{same-number}
-use Rattle.hwp_core_task.proofs.of_hwp_core_rule.MetWords.{free-word, cache-words, cache-word, cached-frame, on-shelf, lock-knows, stays-referenced, in-slot}
-use Rattle.hwp_core_task.specs.declared.Turn.{Turn}
-use Rattle.hwp_core_task.proofs.SightKeeps.{saw-log-stays, saw-log-shelf, saw-log-frame}
+use Rattle.hwp_core_rule.specs.hwp_geom.declared.Frame.{Frame}
+use Rattle.hwp_core_rule.specs.hwp_geom.declared.Layout.{Layout}
+use Rattle.hwp_core_rule.specs.hwp_geom.declared.Page.{Page}
+use Rattle.hwp_core_rule.specs.hwp_geom.declared.Who.{Who}
+use Rattle.hwp_core_rule.specs.hwp_page.History.{BodyValue, IsReplay}
+use Rattle.hwp_core_rule.specs.hwp_words.Frames.{count_of, is_handled, is_poisoned, owner_of}
+use Rattle.hwp_core_rule.specs.declared.Log.{Log}
+use Rattle.hwp_core_rule.specs.declared.PageLock.{PageLock}
+use Rattle.hwp_core_rule.specs.declared.SharedWord.{SharedWord}
+use Rattle.hwp_core_rule.specs.declared.SharedWord.TheVariants as places
+use Rattle.hwp_core_rule.specs.declared.Step.{Step}
+use Rattle.hwp_core_rule.specs.declared.Step.TheVariants as steps
+use Rattle.hwp_core_rule.specs.declared.View.{View}
+use Rattle.hwp_core_rule.specs.Logs.{log_of, state_of}
+use Rattle.hwp_core_rule.specs.SlotMoves.{IsIn, frame_slot, shelf_slot, is_out, moved_out}
+use Rattle.hwp_core_rule.specs.Views.{refs_on, locks_on, frame_in, knowing, lock_found}
+use Rattle.hwp_core_rule.specs.Words.{index}
+use Rattle.hwp_core_rule.proofs.Lists.{same-number}
+use Rattle.hwp_core_rule.proofs.MetWords.{free-word, cache-words, cache-word, cached-frame, on-shelf, lock-knows, stays-referenced, in-slot}
+use Rattle.hwp_core_rule.specs.declared.Turn.{Turn}
+use Rattle.hwp_core_rule.proofs.SightKeeps.{saw-log-stays, saw-log-shelf, saw-log-frame}
 use Rattle.hwp_core.specs.declared.hold.Hold.{Hold}
 use Rattle.hwp_core.specs.declared.hold.HoldAt.{HoldAt}
 use Rattle.hwp_core.specs.declared.hold.HoldAt.TheVariants as at
 use Rattle.hwp_core.specs.declared.pin.Pin.{Pin}
 use Rattle.hwp_core.specs.declared.pin.PinAt.{PinAt}
 use Rattle.hwp_core.specs.declared.pin.PinAt.TheVariants as pin_at
-use Rattle.hwp_core_task.specs.Calls.{CanMake, Steps, IsOnTurn, logs}
-use Rattle.hwp_core_task.specs.Hands.{Hand, hand_of, empty, taking}
+use Rattle.hwp_core_rule.specs.Calls.{CanMake, Steps, IsOnTurn, logs}
+use Rattle.hwp_core_rule.specs.Hands.{Hand, hand_of, empty, taking}
 use Rattle.hwp_core.specs.Holds.{is_free, plan, plan_at, named_at, pinned, locked_at, next, next_at, ShowsAt, Shows, turn, page_lock, words_of, one_ref, locked, named, held, IsBodyOf, IsLocked, IsPinning, SawBody, Fits, FitsAt}
 use Rattle.hwp_core.specs.Pins as pins
 use Rattle.hwp_core.specs.Pins.{is_gone}
 use Rattle.hwp_core.proofs.PinLaws as pinning
-use Rattle.hwp_core_task.proofs.StepLeaves.{on-turn-after, content_of, brought, was-home, hand-planned, steps-planned, can-make}
+use Rattle.hwp_core_rule.proofs.StepLeaves.{on-turn-after, content_of, brought, was-home, hand-planned, steps-planned, can-make}
 
 -- a page's lock, just taken
 abbrev bare : Page → Option Log → PageLock

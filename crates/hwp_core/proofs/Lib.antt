@@ -18,7 +18,6 @@ pub mod VacateCosts
 pub mod PageStates
 pub mod TranslationWrites
 pub mod ClearLaws
-pub use Rattle.hwp_core_task.proofs.of_hwp_core_rule as of_hwp_core_rule
-pub use Rattle.hwp_core_task.proofs as of_hwp_core_task
-pub use Rattle.hwp_core_task.proofs.of_hwp_kill as of_hwp_kill
-pub use Rattle.hwp_core_task.proofs.of_hwp_words as of_hwp_words
+pub use Rattle.hwp_core_rule.proofs as of_hwp_core_rule
+pub use Rattle.hwp_core_rule.proofs.of_hwp_kill as of_hwp_kill
+pub use Rattle.hwp_core_rule.proofs.of_hwp_words as of_hwp_words

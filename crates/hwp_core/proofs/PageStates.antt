@@ -5,23 +5,23 @@ use Rattle.std.proofs.lemmas.Bool.{both_ways, eqb-true, ne_eqb}
 use Rattle.std.specs.Cmp.{nat_cmp_total, unsigned_tied}
 use Rattle.std.specs.FinSet as set
 use Rattle.std.specs.Ordering.{nat_cmp}
-use Rattle.hwp_core_task.specs.hwp_geom.declared.Frame.{Frame}
-use Rattle.hwp_core_task.specs.hwp_geom.declared.Layout.{Layout}
-use Rattle.hwp_core_task.specs.hwp_geom.declared.Page.{Page}
-use Rattle.hwp_core_task.specs.hwp_geom.declared.TransDecl.{TransDecl}
-use Rattle.hwp_core_task.specs.hwp_geom.Layout.{is_locked}
-use Rattle.hwp_core_task.specs.hwp_page.declared.Entry.{Entry}
-use Rattle.hwp_core_task.specs.hwp_page.declared.Met.TheVariants.{Word, Sigbus}
-use Rattle.hwp_core_task.specs.hwp_page.declared.PageState.{PageState}
-use Rattle.hwp_core_task.specs.hwp_page.declared.Situation.{Situation}
-use Rattle.hwp_core_task.specs.hwp_page.declared.Situation.TheVariants as situations
-use Rattle.hwp_core_task.specs.hwp_page.declared.What.{What}
-use Rattle.hwp_core_task.specs.hwp_page.declared.What.TheVariants as entries
-use Rattle.hwp_core_task.specs.hwp_page.Actions.{acted}
-use Rattle.hwp_core_task.specs.hwp_page.History.{BodyValue, IsReplay, Leads}
-use Rattle.hwp_core_task.specs.hwp_page.Step.{Allowed, after, opening_of}
-use Rattle.hwp_core_task.specs.hwp_core_rule.Logs.{log_of, state_of}
-use Rattle.hwp_core_task.proofs.of_hwp_core_rule.OwedLosses.{after-kind}
+use Rattle.hwp_core_rule.specs.hwp_geom.declared.Frame.{Frame}
+use Rattle.hwp_core_rule.specs.hwp_geom.declared.Layout.{Layout}
+use Rattle.hwp_core_rule.specs.hwp_geom.declared.Page.{Page}
+use Rattle.hwp_core_rule.specs.hwp_geom.declared.TransDecl.{TransDecl}
+use Rattle.hwp_core_rule.specs.hwp_geom.Layout.{is_locked}
+use Rattle.hwp_core_rule.specs.hwp_page.declared.Entry.{Entry}
+use Rattle.hwp_core_rule.specs.hwp_page.declared.Met.TheVariants.{Word, Sigbus}
+use Rattle.hwp_core_rule.specs.hwp_page.declared.PageState.{PageState}
+use Rattle.hwp_core_rule.specs.hwp_page.declared.Situation.{Situation}
+use Rattle.hwp_core_rule.specs.hwp_page.declared.Situation.TheVariants as situations
+use Rattle.hwp_core_rule.specs.hwp_page.declared.What.{What}
+use Rattle.hwp_core_rule.specs.hwp_page.declared.What.TheVariants as entries
+use Rattle.hwp_core_rule.specs.hwp_page.Actions.{acted}
+use Rattle.hwp_core_rule.specs.hwp_page.History.{BodyValue, IsReplay, Leads}
+use Rattle.hwp_core_rule.specs.hwp_page.Step.{Allowed, after, opening_of}
+use Rattle.hwp_core_rule.specs.Logs.{log_of, state_of}
+use Rattle.hwp_core_rule.proofs.OwedLosses.{after-kind}
 use Rattle.hwp_core.specs.Holds.{IsBodyOf}
 use Rattle.hwp_core.proofs.BodyStates.{replay-state}
 

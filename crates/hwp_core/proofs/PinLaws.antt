@@ -2,25 +2,25 @@
 use Rattle.std.proofs.Common.{◌≡◌, ◌≢◌, ℕ, ◌+◌, ◌<◌, ◌≤◌, ◌==◌, ◌||◌, Bool, true, false, cond, Option, Some, None, length, refl, sym, ap, ◌∙◌, subst, arith}
 use Rattle.std.proofs.lemmas.Bool.{both_ways, eqb-false}
 use Rattle.std.proofs.lemmas.Option.{none-some, same_Some}
-use Rattle.hwp_core_task.specs.hwp_geom.declared.Frame.{Frame}
-use Rattle.hwp_core_task.specs.hwp_geom.declared.Layout.{Layout}
-use Rattle.hwp_core_task.specs.hwp_page.History.{BodyValue}
-use Rattle.hwp_core_task.specs.hwp_words.Frames.{count_of, is_handled}
-use Rattle.hwp_core_task.specs.hwp_core_rule.declared.SharedWord.TheVariants as places
-use Rattle.hwp_core_task.specs.hwp_core_rule.declared.Step.{Step}
-use Rattle.hwp_core_task.specs.hwp_core_rule.declared.Step.TheVariants as steps
-use Rattle.hwp_core_task.specs.hwp_core_rule.declared.View.{View}
-use Rattle.hwp_core_task.specs.hwp_core_rule.Asks.{HasRefRoom}
-use Rattle.hwp_core_task.specs.hwp_core_rule.Steps.{place_of}
-use Rattle.hwp_core_task.specs.hwp_core_rule.Views.{refs_on, with_refs}
-use Rattle.hwp_core_task.specs.declared.Turn.{Turn}
+use Rattle.hwp_core_rule.specs.hwp_geom.declared.Frame.{Frame}
+use Rattle.hwp_core_rule.specs.hwp_geom.declared.Layout.{Layout}
+use Rattle.hwp_core_rule.specs.hwp_page.History.{BodyValue}
+use Rattle.hwp_core_rule.specs.hwp_words.Frames.{count_of, is_handled}
+use Rattle.hwp_core_rule.specs.declared.SharedWord.TheVariants as places
+use Rattle.hwp_core_rule.specs.declared.Step.{Step}
+use Rattle.hwp_core_rule.specs.declared.Step.TheVariants as steps
+use Rattle.hwp_core_rule.specs.declared.View.{View}
+use Rattle.hwp_core_rule.specs.Asks.{HasRefRoom}
+use Rattle.hwp_core_rule.specs.Steps.{place_of}
+use Rattle.hwp_core_rule.specs.Views.{refs_on, with_refs}
+use Rattle.hwp_core_rule.specs.declared.Turn.{Turn}
 use Rattle.hwp_core.specs.declared.pin.Pin.{Pin}
 use Rattle.hwp_core.specs.declared.pin.PinAt.{PinAt}
 use Rattle.hwp_core.specs.declared.pin.PinAt.TheVariants as at
-use Rattle.hwp_core_task.specs.Calls.{CanMake, Steps}
-use Rattle.hwp_core_task.specs.Hands.{Hand, hand_of, hand_after}
+use Rattle.hwp_core_rule.specs.Calls.{CanMake, Steps}
+use Rattle.hwp_core_rule.specs.Hands.{Hand, hand_of, hand_after}
 use Rattle.hwp_core.specs.Pins.{is_gone, plan, plan_at, next, next_at, at_word, turn, Fits, FitsAt, hand_next, hand_next_at}
-use Rattle.hwp_core_task.proofs.StepLeaves.{on-turn-after, content_of, hand-planned, can-make}
+use Rattle.hwp_core_rule.proofs.StepLeaves.{on-turn-after, content_of, hand-planned, can-make}
 
 -- a frame that isn't gone has references
 counted : (word : ℕ) → is_gone word ≡ false → 0 < count_of word

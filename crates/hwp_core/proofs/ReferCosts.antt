@@ -2,17 +2,17 @@
 use Rattle.std.proofs.Common.{◌≡◌, ℕ, ◌+◌, ◌*◌, ◌%◌, ◌^◌, ◌<◌, ◌≤◌, ◌==◌, Bool, true, false, cond, Some, slice_index, refl, sym, ap, ◌∙◌, subst, arith}
 use Rattle.std.proofs.lemmas.Bool.{both_ways}
 use Rattle.std.proofs.lemmas.Option.{none-some, same_Some}
-use Rattle.hwp_core_task.specs.hwp_geom.declared.Frame.{Frame}
-use Rattle.hwp_core_task.specs.hwp_core_rule.declared.SharedWord.TheVariants as places
-use Rattle.hwp_core_task.specs.hwp_core_rule.declared.Step.{Step}
-use Rattle.hwp_core_task.specs.hwp_core_rule.declared.Step.TheVariants as steps
-use Rattle.hwp_core_task.specs.hwp_core_rule.Lasting.{IsMild}
-use Rattle.hwp_core_task.specs.hwp_core_rule.Steps.{place_of, word_after}
-use Rattle.hwp_core_task.specs.hwp_core_rule.Words.{Words, read}
-use Rattle.hwp_core_task.proofs.of_hwp_core_rule.Lists.{same-number}
-use Rattle.hwp_core_task.specs.declared.Turn.TheVariants.{Moved, Changed}
-use Rattle.hwp_core_task.specs.Ranks.{IsRanked, is_waits, stale, stale_weight, words_at}
-use Rattle.hwp_core_task.proofs.StepRanks.{met, words-kept, rank-of}
+use Rattle.hwp_core_rule.specs.hwp_geom.declared.Frame.{Frame}
+use Rattle.hwp_core_rule.specs.declared.SharedWord.TheVariants as places
+use Rattle.hwp_core_rule.specs.declared.Step.{Step}
+use Rattle.hwp_core_rule.specs.declared.Step.TheVariants as steps
+use Rattle.hwp_core_rule.specs.Lasting.{IsMild}
+use Rattle.hwp_core_rule.specs.Steps.{place_of, word_after}
+use Rattle.hwp_core_rule.specs.Words.{Words, read}
+use Rattle.hwp_core_rule.proofs.Lists.{same-number}
+use Rattle.hwp_core_rule.specs.declared.Turn.TheVariants.{Moved, Changed}
+use Rattle.hwp_core_rule.specs.Ranks.{IsRanked, is_waits, stale, stale_weight, words_at}
+use Rattle.hwp_core_rule.proofs.StepRanks.{met, words-kept, rank-of}
 use Rattle.hwp_core.specs.declared.refer.Refer.{Refer}
 use Rattle.hwp_core.specs.declared.refer.ReferAt.{ReferAt}
 use Rattle.hwp_core.specs.declared.refer.ReferAt.TheVariants as refer_at

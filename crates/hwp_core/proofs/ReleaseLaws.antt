@@ -1,27 +1,27 @@
 -- The laws of `Release`.
 use Rattle.std.proofs.Common.{◌≡◌, ℕ, ◌+◌, ◌<◌, Bool, true, false, cond, List, [], ◌∷◌, ◌++◌, Option, Some, None, length, refl, sym, ap, ◌∙◌, subst, arith}
 use Rattle.std.proofs.lemmas.Option.{none-some}
-use Rattle.hwp_core_task.specs.hwp_geom.declared.Layout.{Layout}
-use Rattle.hwp_core_task.specs.hwp_page.History.{BodyValue}
-use Rattle.hwp_core_task.specs.hwp_words.Frames.{is_poisoned}
-use Rattle.hwp_core_task.specs.hwp_core_rule.declared.FrameInHand.{FrameInHand}
-use Rattle.hwp_core_task.specs.hwp_core_rule.declared.FrameLock.{FrameLock}
-use Rattle.hwp_core_task.specs.hwp_core_rule.declared.Step.{Step}
-use Rattle.hwp_core_task.specs.hwp_core_rule.declared.View.{View}
-use Rattle.hwp_core_task.specs.hwp_core_rule.Lists.{SomeMember}
-use Rattle.hwp_core_task.specs.hwp_core_rule.Steps.{is_last}
-use Rattle.hwp_core_task.specs.hwp_core_rule.Views.{with_refs, without, is_hand_of, hand_found}
-use Rattle.hwp_core_task.proofs.of_hwp_core_rule.AdoptedFrames.{lock-poisoned, adopted-retires}
-use Rattle.hwp_core_task.proofs.of_hwp_core_rule.Lists.{some-last}
-use Rattle.hwp_core_task.specs.declared.Turn.{Turn}
-use Rattle.hwp_core_task.specs.declared.Turn.TheVariants.{Moved}
+use Rattle.hwp_core_rule.specs.hwp_geom.declared.Layout.{Layout}
+use Rattle.hwp_core_rule.specs.hwp_page.History.{BodyValue}
+use Rattle.hwp_core_rule.specs.hwp_words.Frames.{is_poisoned}
+use Rattle.hwp_core_rule.specs.declared.FrameInHand.{FrameInHand}
+use Rattle.hwp_core_rule.specs.declared.FrameLock.{FrameLock}
+use Rattle.hwp_core_rule.specs.declared.Step.{Step}
+use Rattle.hwp_core_rule.specs.declared.View.{View}
+use Rattle.hwp_core_rule.specs.Lists.{SomeMember}
+use Rattle.hwp_core_rule.specs.Steps.{is_last}
+use Rattle.hwp_core_rule.specs.Views.{with_refs, without, is_hand_of, hand_found}
+use Rattle.hwp_core_rule.proofs.AdoptedFrames.{lock-poisoned, adopted-retires}
+use Rattle.hwp_core_rule.proofs.Lists.{some-last}
+use Rattle.hwp_core_rule.specs.declared.Turn.{Turn}
+use Rattle.hwp_core_rule.specs.declared.Turn.TheVariants.{Moved}
 use Rattle.hwp_core.specs.declared.release.Release.{Release}
 use Rattle.hwp_core.specs.declared.release.ReleaseAt.{ReleaseAt}
 use Rattle.hwp_core.specs.declared.release.ReleaseAt.TheVariants as at
-use Rattle.hwp_core_task.specs.Calls.{CanMake, Steps, logs}
-use Rattle.hwp_core_task.specs.Hands.{Hand, hand_of}
+use Rattle.hwp_core_rule.specs.Calls.{CanMake, Steps, logs}
+use Rattle.hwp_core_rule.specs.Hands.{Hand, hand_of}
 use Rattle.hwp_core.specs.Releases.{plan, plan_at, next, next_at, Fits, FitsAt, hand_next, hand_next_at}
-use Rattle.hwp_core_task.proofs.StepLeaves.{on-turn-after, hand-planned, steps-planned, can-make}
+use Rattle.hwp_core_rule.proofs.StepLeaves.{on-turn-after, hand-planned, steps-planned, can-make}
 
 module _ {layout : Layout} {old new : View} {step : Step} {found : ℕ} {got : Option BodyValue} (r : Release) (is : plan r ≡ Some step) (made : Steps layout r.who step None old new found got) (fits : Fits layout old r) where
   -- what a step leaves of what is held

@@ -2,28 +2,28 @@
 use Rattle.std.proofs.Common.{◌≡◌, ℕ, ◌+◌, ◌*◌, ◌%◌, ◌^◌, ◌<◌, ◌≤◌, ◌==◌, Bool, true, false, cond, Option, Some, None, is_some, slice_index, refl, sym, ap, ◌∙◌, subst, arith}
 use Rattle.std.proofs.lemmas.Bool.{both_ways}
 use Rattle.std.proofs.lemmas.Option.{none-some, same_Some}
-use Rattle.hwp_core_task.specs.hwp_geom.declared.Frame.{Frame}
-use Rattle.hwp_core_task.specs.hwp_geom.declared.Layout.{Layout}
-use Rattle.hwp_core_task.specs.hwp_geom.declared.Who.{Who}
-use Rattle.hwp_core_task.specs.hwp_page.History.{BodyValue}
-use Rattle.hwp_core_task.specs.hwp_words.Frames.{lock_of, is_poisoned}
-use Rattle.hwp_core_task.specs.hwp_core_rule.declared.SharedWord.TheVariants as places
-use Rattle.hwp_core_task.specs.hwp_core_rule.declared.State.{State}
-use Rattle.hwp_core_task.specs.hwp_core_rule.declared.Step.{Step}
-use Rattle.hwp_core_task.specs.hwp_core_rule.declared.Step.TheVariants as steps
-use Rattle.hwp_core_task.specs.hwp_core_rule.Lasting.{IsMild}
-use Rattle.hwp_core_task.specs.hwp_core_rule.Steps.{place_of, word_after, is_last}
-use Rattle.hwp_core_task.specs.hwp_core_rule.Views.{frame_in}
-use Rattle.hwp_core_task.specs.hwp_core_rule.Words.{Words, read, index}
-use Rattle.hwp_core_task.proofs.of_hwp_core_rule.Lists.{same-number}
-use Rattle.hwp_core_task.proofs.of_hwp_core_rule.MetWords.{held-word, page-free, frame-free}
-use Rattle.hwp_core_task.proofs.MadeEntries.{ListsNone}
-use Rattle.hwp_core_task.specs.declared.Turn.{Turn}
-use Rattle.hwp_core_task.specs.declared.Turn.TheVariants.{Moved, Changed, Waits}
-use Rattle.hwp_core_task.specs.Boards.{view_of}
-use Rattle.hwp_core_task.specs.Hands.{Hand}
-use Rattle.hwp_core_task.specs.Ranks.{CostFalls, IsRanked, Made, Quiet, is_waits, stale, stale_weight, words_at}
-use Rattle.hwp_core_task.proofs.StepRanks.{met, words-kept, steps-on, no-page, no-lock, rank-of}
+use Rattle.hwp_core_rule.specs.hwp_geom.declared.Frame.{Frame}
+use Rattle.hwp_core_rule.specs.hwp_geom.declared.Layout.{Layout}
+use Rattle.hwp_core_rule.specs.hwp_geom.declared.Who.{Who}
+use Rattle.hwp_core_rule.specs.hwp_page.History.{BodyValue}
+use Rattle.hwp_core_rule.specs.hwp_words.Frames.{lock_of, is_poisoned}
+use Rattle.hwp_core_rule.specs.declared.SharedWord.TheVariants as places
+use Rattle.hwp_core_rule.specs.declared.State.{State}
+use Rattle.hwp_core_rule.specs.declared.Step.{Step}
+use Rattle.hwp_core_rule.specs.declared.Step.TheVariants as steps
+use Rattle.hwp_core_rule.specs.Lasting.{IsMild}
+use Rattle.hwp_core_rule.specs.Steps.{place_of, word_after, is_last}
+use Rattle.hwp_core_rule.specs.Views.{frame_in}
+use Rattle.hwp_core_rule.specs.Words.{Words, read, index}
+use Rattle.hwp_core_rule.proofs.Lists.{same-number}
+use Rattle.hwp_core_rule.proofs.MetWords.{held-word, page-free, frame-free}
+use Rattle.hwp_core_rule.proofs.MadeEntries.{ListsNone}
+use Rattle.hwp_core_rule.specs.declared.Turn.{Turn}
+use Rattle.hwp_core_rule.specs.declared.Turn.TheVariants.{Moved, Changed, Waits}
+use Rattle.hwp_core_rule.specs.Boards.{view_of}
+use Rattle.hwp_core_rule.specs.Hands.{Hand}
+use Rattle.hwp_core_rule.specs.Ranks.{CostFalls, IsRanked, Made, Quiet, is_waits, stale, stale_weight, words_at}
+use Rattle.hwp_core_rule.proofs.StepRanks.{met, words-kept, steps-on, no-page, no-lock, rank-of}
 use Rattle.hwp_core.specs.declared.hold.Hold.{Hold}
 use Rattle.hwp_core.specs.declared.hold.HoldAt.{HoldAt}
 use Rattle.hwp_core.specs.declared.hold.HoldAt.TheVariants as hold_at

@@ -1,12 +1,12 @@
 -- The class of a task under way tells what is held: 1 where a frame is, and at most 2 where a page is.
 use Rattle.std.proofs.Common.{◌≡◌, inl, inr, ℕ, ◌≤◌, min, true, false, [], Option, Some, None, is_none, refl, ap, ◌∙◌, arith}
 use Rattle.std.proofs.lemmas.Bool.{both_ways}
-use Rattle.hwp_core_task.specs.hwp_geom.declared.Layout.{Layout}
-use Rattle.hwp_core_task.specs.hwp_page.History.{BodyValue}
-use Rattle.hwp_core_task.specs.hwp_core_rule.declared.View.{View}
-use Rattle.hwp_core_task.specs.Calls.{logs}
-use Rattle.hwp_core_task.specs.Hands.{Hand, hand_of, empty}
-use Rattle.hwp_core_task.specs.Ranks.{HasFrame, HasPage}
+use Rattle.hwp_core_rule.specs.hwp_geom.declared.Layout.{Layout}
+use Rattle.hwp_core_rule.specs.hwp_page.History.{BodyValue}
+use Rattle.hwp_core_rule.specs.declared.View.{View}
+use Rattle.hwp_core_rule.specs.Calls.{logs}
+use Rattle.hwp_core_rule.specs.Hands.{Hand, hand_of, empty}
+use Rattle.hwp_core_rule.specs.Ranks.{HasFrame, HasPage}
 use Rattle.hwp_core.specs.declared.give_up.GiveUp.{GiveUp}
 use Rattle.hwp_core.specs.declared.give_up.GiveUpAt.{GiveUpAt}
 use Rattle.hwp_core.specs.declared.give_up.GiveUpAt.TheVariants as give_up_at

@@ -2,43 +2,43 @@
 use Rattle.std.proofs.Common.{◌≡◌, ◌≢◌, length, ℕ, ◌+◌, ◌-◌, ◌<◌, ◌≤◌, ◌==◌, nat_le, Bool, true, false, cond, List, [], ◌∷◌, ◌++◌, Option, Some, None, is_none, slice_get, refl, sym, ap, ◌∙◌, subst, arith}
 use Rattle.std.proofs.lemmas.Bool.{both_ways, le-leb}
 use Rattle.std.proofs.lemmas.Option.{none-some, same_Some}
-use Rattle.hwp_core_task.specs.hwp_geom.declared.Frame.{Frame}
-use Rattle.hwp_core_task.specs.hwp_geom.declared.Layout.{Layout}
-use Rattle.hwp_core_task.specs.hwp_geom.declared.Page.{Page}
-use Rattle.hwp_core_task.specs.hwp_geom.declared.Who.{Who}
-use Rattle.hwp_core_task.specs.hwp_page.History.{BodyValue}
-use Rattle.hwp_core_task.specs.hwp_words.Frames.{is_poisoned}
-use Rattle.hwp_core_task.specs.hwp_core_rule.declared.FrameLock.{FrameLock}
-use Rattle.hwp_core_task.specs.hwp_core_rule.declared.InHand.{InHand}
-use Rattle.hwp_core_task.specs.hwp_core_rule.declared.Log.{Log}
-use Rattle.hwp_core_task.specs.hwp_core_rule.declared.PageLock.{PageLock}
-use Rattle.hwp_core_task.specs.hwp_core_rule.declared.Ref.{Ref}
-use Rattle.hwp_core_task.specs.hwp_core_rule.declared.Step.{Step}
-use Rattle.hwp_core_task.specs.hwp_core_rule.declared.Step.TheVariants as steps
-use Rattle.hwp_core_task.specs.hwp_core_rule.declared.View.{View}
-use Rattle.hwp_core_task.specs.hwp_core_rule.Lists.{EachMember}
-use Rattle.hwp_core_task.specs.hwp_core_rule.Asks.{CanUnlockFrame, CanUnlockPage}
-use Rattle.hwp_core_task.specs.hwp_core_rule.Steps.{is_last}
-use Rattle.hwp_core_task.specs.hwp_core_rule.Views.{without, is_lock_of, is_page_lock_of, is_body_of, hand_found, less_refs, refs_on, locks_on}
+use Rattle.hwp_core_rule.specs.hwp_geom.declared.Frame.{Frame}
+use Rattle.hwp_core_rule.specs.hwp_geom.declared.Layout.{Layout}
+use Rattle.hwp_core_rule.specs.hwp_geom.declared.Page.{Page}
+use Rattle.hwp_core_rule.specs.hwp_geom.declared.Who.{Who}
+use Rattle.hwp_core_rule.specs.hwp_page.History.{BodyValue}
+use Rattle.hwp_core_rule.specs.hwp_words.Frames.{is_poisoned}
+use Rattle.hwp_core_rule.specs.declared.FrameLock.{FrameLock}
+use Rattle.hwp_core_rule.specs.declared.InHand.{InHand}
+use Rattle.hwp_core_rule.specs.declared.Log.{Log}
+use Rattle.hwp_core_rule.specs.declared.PageLock.{PageLock}
+use Rattle.hwp_core_rule.specs.declared.Ref.{Ref}
+use Rattle.hwp_core_rule.specs.declared.Step.{Step}
+use Rattle.hwp_core_rule.specs.declared.Step.TheVariants as steps
+use Rattle.hwp_core_rule.specs.declared.View.{View}
+use Rattle.hwp_core_rule.specs.Lists.{EachMember}
+use Rattle.hwp_core_rule.specs.Asks.{CanUnlockFrame, CanUnlockPage}
+use Rattle.hwp_core_rule.specs.Steps.{is_last}
+use Rattle.hwp_core_rule.specs.Views.{without, is_lock_of, is_page_lock_of, is_body_of, hand_found, less_refs, refs_on, locks_on}
 use Rattle.std.specs.List.{find}
-use Rattle.hwp_core_task.proofs.of_hwp_core_rule.Lists.{same-number}
-use Rattle.hwp_core_task.proofs.of_hwp_core_rule.Refs.{refs-cons}
-use Rattle.hwp_core_task.specs.declared.Turn.{Turn}
-use Rattle.hwp_core_task.specs.declared.Turn.TheVariants.{Moved}
-use Rattle.hwp_core_task.specs.hwp_core_rule.Logs.{log_of}
+use Rattle.hwp_core_rule.proofs.Lists.{same-number}
+use Rattle.hwp_core_rule.proofs.Refs.{refs-cons}
+use Rattle.hwp_core_rule.specs.declared.Turn.{Turn}
+use Rattle.hwp_core_rule.specs.declared.Turn.TheVariants.{Moved}
+use Rattle.hwp_core_rule.specs.Logs.{log_of}
 use Rattle.hwp_core.specs.declared.release.Release.{Release}
 use Rattle.hwp_core.specs.declared.release.ReleaseAt.{ReleaseAt}
 use Rattle.hwp_core.specs.declared.release.ReleaseAt.TheVariants as release_at
 use Rattle.hwp_core.specs.declared.unhold.Unhold.{Unhold}
 use Rattle.hwp_core.specs.declared.unhold.UnholdAt.{UnholdAt}
 use Rattle.hwp_core.specs.declared.unhold.UnholdAt.TheVariants as at
-use Rattle.hwp_core_task.specs.Calls.{CanMake, Steps, IsOnTurn, logs}
-use Rattle.hwp_core_task.specs.Hands.{Hand, hand_of, empty, putting}
+use Rattle.hwp_core_rule.specs.Calls.{CanMake, Steps, IsOnTurn, logs}
+use Rattle.hwp_core_rule.specs.Hands.{Hand, hand_of, empty, putting}
 use Rattle.hwp_core.specs.Holds.{page_lock, named, refs_to}
 use Rattle.hwp_core.specs.Releases as releases
 use Rattle.hwp_core.specs.Unholds.{plan, plan_at, put, put_at, bare, bare_at, next, next_at, after_release, holding, HoldsAhead, releasing, IsReleasing, FitsPage, Fits, FitsAt}
 use Rattle.hwp_core.proofs.ReleaseLaws as releasing-laws
-use Rattle.hwp_core_task.proofs.StepLeaves.{on-turn-after, hand-planned, steps-planned, can-put}
+use Rattle.hwp_core_rule.proofs.StepLeaves.{on-turn-after, hand-planned, steps-planned, can-put}
 
 -- ---- what is held after each step
 

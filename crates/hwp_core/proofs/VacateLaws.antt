@@ -5,38 +5,38 @@ use Rattle.std.proofs.lemmas.Option.{none-some, same_Some}
 use Rattle.std.specs.FinSet as set
 use Rattle.std.specs.List.{find}
 use Rattle.std.specs.Ordering.{nat_cmp}
-use Rattle.hwp_core_task.specs.hwp_geom.declared.Frame.{Frame}
-use Rattle.hwp_core_task.specs.hwp_geom.declared.Layout.{Layout}
-use Rattle.hwp_core_task.specs.hwp_geom.declared.Page.{Page}
-use Rattle.hwp_core_task.specs.hwp_geom.declared.TransDecl.{TransDecl}
-use Rattle.hwp_core_task.specs.hwp_geom.declared.Who.{Who}
-use Rattle.hwp_core_task.specs.hwp_page.declared.PageState.{PageState}
-use Rattle.hwp_core_task.specs.hwp_page.History.{BodyValue}
-use Rattle.hwp_core_task.specs.hwp_words.Frames.{is_poisoned}
-use Rattle.hwp_core_task.specs.hwp_words.Names.{frame_name}
-use Rattle.hwp_core_task.specs.hwp_words.Translations.{pte_word}
-use Rattle.hwp_core_task.specs.hwp_words.declared.Pte.TheVariants as ptes
-use Rattle.hwp_core_task.specs.hwp_core_rule.declared.FrameLock.{FrameLock}
-use Rattle.hwp_core_task.specs.hwp_core_rule.declared.InHand.{InHand}
-use Rattle.hwp_core_task.specs.hwp_core_rule.declared.Log.{Log}
-use Rattle.hwp_core_task.specs.hwp_core_rule.declared.PageLock.{PageLock}
-use Rattle.hwp_core_task.specs.hwp_core_rule.declared.Ref.{Ref}
-use Rattle.hwp_core_task.specs.hwp_core_rule.declared.Step.{Step}
-use Rattle.hwp_core_task.specs.hwp_core_rule.declared.Step.TheVariants as steps
-use Rattle.hwp_core_task.specs.hwp_core_rule.declared.View.{View}
-use Rattle.hwp_core_task.specs.hwp_core_rule.Asks.{HasLock, HasPage, CanChange, CanFree, CanGoHome, CanUnlockPage, PutFits}
-use Rattle.hwp_core_task.specs.hwp_core_rule.Logs.{log_of, state_of, fitting_word}
-use Rattle.hwp_core_task.specs.hwp_core_rule.Steps.{is_last}
-use Rattle.hwp_core_task.specs.hwp_core_rule.Views.{refs_on, locks_on, is_body_of, is_page_lock_of, without, frame_in, with_named, less_refs, page_locks_on}
-use Rattle.hwp_core_task.specs.hwp_core_rule.parts.Fits.{FitsWords}
-use Rattle.hwp_core_task.proofs.of_hwp_core_rule.Lists.{same-number}
-use Rattle.hwp_core_task.proofs.of_hwp_core_rule.MetWords.{cache-word, frame-named, lock-knows}
-use Rattle.hwp_core_task.proofs.of_hwp_core_rule.Refs.{refs-cons}
-use Rattle.hwp_core_task.specs.declared.Turn.{Turn}
-use Rattle.hwp_core_task.specs.declared.Turn.TheVariants.{Moved}
-use Rattle.hwp_core_task.specs.Calls.{CanMake, FitsLayout, Steps, IsOnTurn, logs}
-use Rattle.hwp_core_task.specs.Hands.{Hand, hand_of, empty, putting}
-use Rattle.hwp_core_task.proofs.StepLeaves.{on-turn-after, hand-planned, steps-planned, can-make, can-put}
+use Rattle.hwp_core_rule.specs.hwp_geom.declared.Frame.{Frame}
+use Rattle.hwp_core_rule.specs.hwp_geom.declared.Layout.{Layout}
+use Rattle.hwp_core_rule.specs.hwp_geom.declared.Page.{Page}
+use Rattle.hwp_core_rule.specs.hwp_geom.declared.TransDecl.{TransDecl}
+use Rattle.hwp_core_rule.specs.hwp_geom.declared.Who.{Who}
+use Rattle.hwp_core_rule.specs.hwp_page.declared.PageState.{PageState}
+use Rattle.hwp_core_rule.specs.hwp_page.History.{BodyValue}
+use Rattle.hwp_core_rule.specs.hwp_words.Frames.{is_poisoned}
+use Rattle.hwp_core_rule.specs.hwp_words.Names.{frame_name}
+use Rattle.hwp_core_rule.specs.hwp_words.Translations.{pte_word}
+use Rattle.hwp_core_rule.specs.hwp_words.declared.Pte.TheVariants as ptes
+use Rattle.hwp_core_rule.specs.declared.FrameLock.{FrameLock}
+use Rattle.hwp_core_rule.specs.declared.InHand.{InHand}
+use Rattle.hwp_core_rule.specs.declared.Log.{Log}
+use Rattle.hwp_core_rule.specs.declared.PageLock.{PageLock}
+use Rattle.hwp_core_rule.specs.declared.Ref.{Ref}
+use Rattle.hwp_core_rule.specs.declared.Step.{Step}
+use Rattle.hwp_core_rule.specs.declared.Step.TheVariants as steps
+use Rattle.hwp_core_rule.specs.declared.View.{View}
+use Rattle.hwp_core_rule.specs.Asks.{HasLock, HasPage, CanChange, CanFree, CanGoHome, CanUnlockPage, PutFits}
+use Rattle.hwp_core_rule.specs.Logs.{log_of, state_of, fitting_word}
+use Rattle.hwp_core_rule.specs.Steps.{is_last}
+use Rattle.hwp_core_rule.specs.Views.{refs_on, locks_on, is_body_of, is_page_lock_of, without, frame_in, with_named, less_refs, page_locks_on}
+use Rattle.hwp_core_rule.specs.parts.Fits.{FitsWords}
+use Rattle.hwp_core_rule.proofs.Lists.{same-number}
+use Rattle.hwp_core_rule.proofs.MetWords.{cache-word, frame-named, lock-knows}
+use Rattle.hwp_core_rule.proofs.Refs.{refs-cons}
+use Rattle.hwp_core_rule.specs.declared.Turn.{Turn}
+use Rattle.hwp_core_rule.specs.declared.Turn.TheVariants.{Moved}
+use Rattle.hwp_core_rule.specs.Calls.{CanMake, FitsLayout, Steps, IsOnTurn, logs}
+use Rattle.hwp_core_rule.specs.Hands.{Hand, hand_of, empty, putting}
+use Rattle.hwp_core_rule.proofs.StepLeaves.{on-turn-after, hand-planned, steps-planned, can-make, can-put}
 use Rattle.hwp_core.specs.declared.release.Release.{Release}
 use Rattle.hwp_core.specs.declared.release.ReleaseAt.{ReleaseAt}
 use Rattle.hwp_core.specs.declared.release.ReleaseAt.TheVariants as release_at

@@ -2,29 +2,29 @@
 use Rattle.std.specs.Prelude.{◌≡◌, ℕ, ◌+◌, ◌-◌, ◌<◌, ◌≤◌, Bool, true, false, cond, nat_lt, List, Option, Some, None, length, slice_get, MatchOption}
 use Rattle.std.specs.FinSet as set
 use Rattle.std.specs.Ordering.{nat_cmp}
-use Rattle.hwp_core_task.specs.hwp_geom.declared.Frame.{Frame}
-use Rattle.hwp_core_task.specs.hwp_geom.declared.Layout.{Layout}
-use Rattle.hwp_core_task.specs.hwp_geom.declared.Page.{Page}
-use Rattle.hwp_core_task.specs.hwp_geom.declared.TransDecl.{TransDecl}
-use Rattle.hwp_core_task.specs.hwp_geom.declared.VSlot.{VSlot}
-use Rattle.hwp_core_task.specs.hwp_geom.declared.Who.{Who}
-use Rattle.hwp_core_task.specs.hwp_geom.Layout.{IsSound}
-use Rattle.hwp_core_task.specs.hwp_kill.Limits.{slot_limit}
-use Rattle.hwp_core_task.specs.hwp_kill.Lowest.{HasNoneFrom, IsLowestFrom}
-use Rattle.hwp_core_task.specs.hwp_page.declared.PageState.{PageState}
-use Rattle.hwp_core_task.specs.hwp_words.Translations.{pte_word}
-use Rattle.hwp_core_task.specs.hwp_words.declared.Pte.{Pte}
-use Rattle.hwp_core_task.specs.hwp_words.declared.Pte.TheVariants as ptes
-use Rattle.hwp_core_task.specs.hwp_core_rule.declared.InHand.{InHand}
-use Rattle.hwp_core_task.specs.hwp_core_rule.declared.Step.{Step}
-use Rattle.hwp_core_task.specs.hwp_core_rule.declared.Step.TheVariants as steps
-use Rattle.hwp_core_task.specs.hwp_core_rule.declared.View.{View}
-use Rattle.hwp_core_task.specs.hwp_core_rule.Logs.{state_of}
-use Rattle.hwp_core_task.specs.hwp_core_rule.Words.{Words}
-use Rattle.hwp_core_task.specs.Calls.{IsOnTurn}
-use Rattle.hwp_core_task.specs.Hands.{hand_of}
-use Rattle.hwp_core_task.specs.Turns.{Member}
-use Rattle.hwp_core_task.specs.declared.Turn.TheVariants.{Moved}
+use Rattle.hwp_core_rule.specs.hwp_geom.declared.Frame.{Frame}
+use Rattle.hwp_core_rule.specs.hwp_geom.declared.Layout.{Layout}
+use Rattle.hwp_core_rule.specs.hwp_geom.declared.Page.{Page}
+use Rattle.hwp_core_rule.specs.hwp_geom.declared.TransDecl.{TransDecl}
+use Rattle.hwp_core_rule.specs.hwp_geom.declared.VSlot.{VSlot}
+use Rattle.hwp_core_rule.specs.hwp_geom.declared.Who.{Who}
+use Rattle.hwp_core_rule.specs.hwp_geom.Layout.{IsSound}
+use Rattle.hwp_core_rule.specs.hwp_kill.Limits.{slot_limit}
+use Rattle.hwp_core_rule.specs.hwp_kill.Lowest.{HasNoneFrom, IsLowestFrom}
+use Rattle.hwp_core_rule.specs.hwp_page.declared.PageState.{PageState}
+use Rattle.hwp_core_rule.specs.hwp_words.Translations.{pte_word}
+use Rattle.hwp_core_rule.specs.hwp_words.declared.Pte.{Pte}
+use Rattle.hwp_core_rule.specs.hwp_words.declared.Pte.TheVariants as ptes
+use Rattle.hwp_core_rule.specs.declared.InHand.{InHand}
+use Rattle.hwp_core_rule.specs.declared.Step.{Step}
+use Rattle.hwp_core_rule.specs.declared.Step.TheVariants as steps
+use Rattle.hwp_core_rule.specs.declared.View.{View}
+use Rattle.hwp_core_rule.specs.Logs.{state_of}
+use Rattle.hwp_core_rule.specs.Words.{Words}
+use Rattle.hwp_core_rule.specs.Calls.{IsOnTurn}
+use Rattle.hwp_core_rule.specs.Hands.{hand_of}
+use Rattle.hwp_core_rule.specs.Turns.{Member}
+use Rattle.hwp_core_rule.specs.declared.Turn.TheVariants.{Moved}
 use Rattle.hwp_core.specs.declared.clear.Clear.{Clear}
 use Rattle.hwp_core.specs.Vacates.{page_held, with_frame}
 

@@ -1,28 +1,28 @@
 -- References given back: the task's states, its steps and what they come to.
 use Rattle.std.specs.Prelude.{Bool, ◌≡◌, ℕ, ◌+◌, ◌-◌, ◌<◌, ◌≤◌, ◌&&◌, true, false, cond, [], ◌∷◌, ◌++◌, Option, Some, None, length}
-use Rattle.hwp_core_task.specs.hwp_geom.declared.Frame.{Frame}
-use Rattle.hwp_core_task.specs.hwp_geom.declared.Layout.{Layout}
-use Rattle.hwp_core_task.specs.hwp_geom.declared.Who.{Who}
-use Rattle.hwp_core_task.specs.hwp_words.Frames.{is_poisoned}
-use Rattle.hwp_core_task.specs.hwp_core_rule.declared.FrameInHand.{FrameInHand}
-use Rattle.hwp_core_task.specs.hwp_core_rule.declared.FrameLock.{FrameLock}
-use Rattle.hwp_core_task.specs.hwp_core_rule.declared.Step.{Step}
-use Rattle.hwp_core_task.specs.hwp_core_rule.declared.Step.TheVariants as steps
-use Rattle.hwp_core_task.specs.hwp_core_rule.declared.View.{View}
-use Rattle.hwp_core_task.specs.declared.Turn.TheVariants.{Moved}
-use Rattle.hwp_core_task.specs.hwp_core_rule.Asks.{HasInHand, CanRetire}
-use Rattle.hwp_core_task.specs.hwp_core_rule.Lists.{SomeMember}
-use Rattle.hwp_core_task.specs.hwp_core_rule.Steps.{is_last}
-use Rattle.hwp_core_task.specs.hwp_core_rule.Views.{refs_on, locks_on, with_refs, less_refs, without, is_hand_of, is_lock_of, hand_found}
-use Rattle.hwp_core_task.specs.hwp_core_rule.Words.{Words}
+use Rattle.hwp_core_rule.specs.hwp_geom.declared.Frame.{Frame}
+use Rattle.hwp_core_rule.specs.hwp_geom.declared.Layout.{Layout}
+use Rattle.hwp_core_rule.specs.hwp_geom.declared.Who.{Who}
+use Rattle.hwp_core_rule.specs.hwp_words.Frames.{is_poisoned}
+use Rattle.hwp_core_rule.specs.declared.FrameInHand.{FrameInHand}
+use Rattle.hwp_core_rule.specs.declared.FrameLock.{FrameLock}
+use Rattle.hwp_core_rule.specs.declared.Step.{Step}
+use Rattle.hwp_core_rule.specs.declared.Step.TheVariants as steps
+use Rattle.hwp_core_rule.specs.declared.View.{View}
+use Rattle.hwp_core_rule.specs.declared.Turn.TheVariants.{Moved}
+use Rattle.hwp_core_rule.specs.Asks.{HasInHand, CanRetire}
+use Rattle.hwp_core_rule.specs.Lists.{SomeMember}
+use Rattle.hwp_core_rule.specs.Steps.{is_last}
+use Rattle.hwp_core_rule.specs.Views.{refs_on, locks_on, with_refs, less_refs, without, is_hand_of, is_lock_of, hand_found}
+use Rattle.hwp_core_rule.specs.Words.{Words}
 use Rattle.hwp_core.specs.declared.release.Release.{Release}
 use Rattle.hwp_core.specs.declared.release.ReleaseAt.{ReleaseAt}
 use Rattle.hwp_core.specs.declared.release.ReleaseAt.TheVariants as at
 use Rattle.hwp_core.specs.declared.release.ReleaseAnswer.{ReleaseAnswer}
 use Rattle.hwp_core.specs.declared.release.ReleaseAnswer.TheVariants as answers
-use Rattle.hwp_core_task.specs.Calls.{IsOnTurn}
-use Rattle.hwp_core_task.specs.Hands.{Hand}
-use Rattle.hwp_core_task.specs.Turns.{Member}
+use Rattle.hwp_core_rule.specs.Calls.{IsOnTurn}
+use Rattle.hwp_core_rule.specs.Hands.{Hand}
+use Rattle.hwp_core_rule.specs.Turns.{Member}
 
 abbrev pub begin : Who → Frame → ℕ → Release
 begin who frame count = record { who = who; frame = frame; count = count; at = at.Put }

@@ -1,7 +1,7 @@
 ghost use Rattle.std.specs.Prelude.{◌≡◌, is_none};
 ghost use Rattle.hwp_core.specs.Clears.{IsBegun, pte_of};
 
-use hwp_core_task::{
+use hwp_core_rule::{
     Body, Frame, HeldSlots, Layout, Page, Pte, Ranked, Step, Task, Turn, VSlot, Who,
 };
 

@@ -2,7 +2,7 @@ ghost use Rattle.std.specs.Prelude.{◌≡◌, Option, is_none};
 
 use crate::unhold::Unhold;
 use crate::unlock::Unlock;
-use hwp_core_task::{Body, Frame, Layout, Page, Ranked, Step, Task, Turn, Who};
+use hwp_core_rule::{Body, Frame, Layout, Page, Ranked, Step, Task, Turn, Who};
 
 /// Ends a command for which memory was refused: its body goes home, what it holds is let go, and the stop word tells the
 /// other processors. That last turn is `NoMemory` (this project's rule).

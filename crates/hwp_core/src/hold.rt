@@ -2,7 +2,7 @@ ghost use Rattle.std.specs.Prelude.{◌≡◌, is_some, true};
 
 use crate::pin::{Pin, PinAnswer};
 use crate::unhold::Unhold;
-use hwp_core_task::{
+use hwp_core_rule::{
     Body, Frame, Layout, Page, Ranked, SharedWord, Step, Task, Turn, Who, frame_in,
 };
 
@@ -26,7 +26,7 @@ enum HoldAt {
 
 impl Hold {
     ghost use Rattle.std.specs.Prelude.{None};
-    ghost use Rattle.hwp_core_task.specs.hwp_core_rule.Views.{frame_in};
+    ghost use Rattle.hwp_core_rule.specs.Views.{frame_in};
     ghost use Rattle.hwp_core.specs.Holds.{begin, answer, named_at, locked_at, IsBody};
     ghost use Rattle.hwp_core.specs.Unholds.{LetsGo};
 

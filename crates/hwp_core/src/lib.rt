@@ -15,7 +15,7 @@ mod vacate;
 pub use clear::Clear;
 pub use give_up::GiveUp;
 pub use hold::Hold;
-pub use hwp_core_task::{
+pub use hwp_core_rule::{
     At, Board, Body, CacheWord, Code, CounterWord, Cpu, Damage, Entry, FileNo, Frame, FrameWord,
     FreeWord, HeldSlots, Kind, Layout, Line, List, Mask, Met, Mode, Ops, OutOfMemory, Outcome,
     POISON, Page, PageKind, PageState, PageWord, PolicyWord, Proc, ProcessWord, Pte, REFERENCE,

@@ -1,6 +1,6 @@
 ghost use Rattle.std.specs.Prelude.{◌≡◌, is_some, is_none};
 
-use hwp_core_task::{Body, Frame, FrameWord, Layout, Ranked, SharedWord, Step, Task, Turn, Who};
+use hwp_core_rule::{Body, Frame, FrameWord, Layout, Ranked, SharedWord, Step, Task, Turn, Who};
 
 /// Takes one reference to a frame, where it is in use (Linux get_page_unless_zero).
 #[derive(Clone, Copy)]

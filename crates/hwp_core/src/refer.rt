@@ -1,6 +1,6 @@
 ghost use Rattle.std.specs.Prelude.{◌≡◌, is_none};
 
-use hwp_core_task::{Body, Frame, Layout, Ranked, SharedWord, Step, Task, Turn, Who};
+use hwp_core_rule::{Body, Frame, Layout, Ranked, SharedWord, Step, Task, Turn, Who};
 
 /// Takes more references to a frame that the processor has references to already (Linux get_page).
 #[derive(Clone, Copy)]

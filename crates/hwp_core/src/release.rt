@@ -1,6 +1,6 @@
 ghost use Rattle.std.specs.Prelude.{◌≡◌, is_some, is_none};
 
-use hwp_core_task::{Body, Frame, FrameWord, Layout, Ranked, Step, Task, Turn, Who};
+use hwp_core_rule::{Body, Frame, FrameWord, Layout, Ranked, Step, Task, Turn, Who};
 
 /// Gives references to a frame back. Where they were its last ones the frame becomes free, or, where it is poisoned, is
 /// retired (Linux put_page).

@@ -1,7 +1,7 @@
 ghost use Rattle.std.specs.Prelude.{◌≡◌, is_some, is_none};
 
 use crate::release::Release;
-use hwp_core_task::{Body, Frame, Layout, Page, Ranked, Step, Task, Turn, Who};
+use hwp_core_rule::{Body, Frame, Layout, Page, Ranked, Step, Task, Turn, Who};
 use std::cmp::min;
 
 /// Lets a page go: its body goes home, to the frame that it is in, which is unlocked and released, or to the page's shelf;

@@ -1,7 +1,7 @@
 ghost use Rattle.std.specs.Prelude.{◌≡◌, Option, is_none};
 
 use crate::release::Release;
-use hwp_core_task::{Body, Frame, Layout, Ranked, Step, Task, Turn, Who};
+use hwp_core_rule::{Body, Frame, Layout, Ranked, Step, Task, Turn, Who};
 
 /// Lets a frame go that is held without its page: its body, if it has one, goes home, the frame is unlocked, and its
 /// reference is given back (this project's rule).

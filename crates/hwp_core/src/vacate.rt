@@ -3,7 +3,7 @@ ghost use Rattle.hwp_core.specs.Vacates.{begin, plan};
 
 use crate::clear::let_go_of;
 use crate::release::Release;
-use hwp_core_task::{Body, Frame, Layout, Page, Ranked, Step, Task, Turn, Who};
+use hwp_core_rule::{Body, Frame, Layout, Page, Ranked, Step, Task, Turn, Who};
 use std::cmp::min;
 
 /// Takes a page that is held out of its frame: the page's cache word names no frame and the frame gets no owner, the frame is

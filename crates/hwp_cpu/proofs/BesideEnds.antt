@@ -37,7 +37,7 @@ use Rattle.hwp_cpu_causes.specs.Beside.{AddsBeside}
 use Rattle.hwp_cpu_command_laws.proofs.CommandRuns.{runs-who}
 use Rattle.hwp_cpu.proofs.OwnRests.{HoldsNone}
 use Rattle.hwp_cpu_row.specs.hwp_cpu_check.declared.EventOutcome.{EventOutcome}
-use Rattle.hwp_cpu_row.specs.hwp_core_task.Calls.{IsOnTurn, logs, Steps}
+use Rattle.hwp_cpu_row.specs.hwp_core_rule.Calls.{IsOnTurn, logs, Steps}
 use Rattle.hwp_cpu_row.specs.hwp_geom.declared.Layout.{Layout}
 use Rattle.hwp_cpu_causes.specs.hwp_law.Pairings.{is_soft}
 use Rattle.std.specs.Prelude.{take}
@@ -61,12 +61,12 @@ use Rattle.hwp_cpu_command_laws.specs.hwp_cpu_command.hwp_soft.declared.Soft.{So
 use Rattle.hwp_cpu_row.specs.hwp_core_rule.declared.Step.{Step}
 use Rattle.hwp_cpu_command_laws.specs.hwp_cpu_command.Stays.{Stepped}
 use Rattle.hwp_cpu_row.specs.declared.Row.{Row}
-use Rattle.hwp_cpu_row.specs.hwp_core_task.declared.Turn.{Turn}
+use Rattle.hwp_cpu_row.specs.hwp_core_rule.declared.Turn.{Turn}
 use Rattle.hwp_cpu_row.specs.Acts.{told_notes}
 use Rattle.hwp_cpu_row.specs.hwp_page.declared.What.{What}
 use Rattle.std.specs.List.{cons_option}
 use Rattle.hwp_cpu_command_laws.specs.hwp_cpu_command.Answers.{soft_answer}
-use Rattle.hwp_cpu_row.specs.hwp_core_task.Known.{deeds}
+use Rattle.hwp_cpu_row.specs.hwp_core_rule.Known.{deeds}
 use Rattle.hwp_cpu_command_laws.specs.hwp_cpu_command.Jobs as jobs
 use Rattle.hwp_cpu_command_laws.specs.hwp_cpu_command.hwp_soft.declared.SoftAnswer.TheVariants as soft_answers
 use Rattle.hwp_cpu_command_laws.specs.hwp_cpu_command.hwp_soft.Offline as offline

@@ -34,7 +34,7 @@ use Rattle.hwp_cpu_row.specs.hwp_law_commands.Settings.{settings}
 use Rattle.hwp_cpu_row.specs.hwp_geom.declared.Layout.{Layout}
 use Rattle.hwp_cpu_command_laws.specs.hwp_cpu_command.Settings.{policies_now, of_thread}
 use Rattle.hwp_cpu_row.specs.declared.Row.{Row}
-use Rattle.hwp_cpu_row.specs.hwp_core_task.Known.{deeds}
+use Rattle.hwp_cpu_row.specs.hwp_core_rule.Known.{deeds}
 use Rattle.hwp_cpu_row.specs.Acts.{acts}
 use Rattle.hwp_cpu_command_laws.specs.hwp_cpu_command.Done.{HasCounted, marked_beyond}
 use Rattle.hwp_cpu_row.specs.declared.Watching.{Watching}
@@ -48,7 +48,7 @@ use Rattle.hwp_cpu_row.specs.hwp_geom.declared.Cpu.{Cpu}
 use Rattle.hwp_cpu_causes.specs.hwp_law_served.Handles.{answers_by}
 use Rattle.hwp_cpu_row.specs.hwp_geom.declared.Thread.{Thread}
 use Rattle.hwp_cpu.specs.declared.course.Course.{Course}
-use Rattle.hwp_cpu_row.specs.hwp_core_task.Calls.{IsOnTurn}
+use Rattle.hwp_cpu_row.specs.hwp_core_rule.Calls.{IsOnTurn}
 use Rattle.hwp_cpu_command_laws.specs.hwp_cpu_command.Stays as stays
 use Rattle.hwp_cpu_row.specs.hwp_geom.declared.Frame.{Frame}
 use Rattle.hwp_cpu_command_laws.specs.hwp_cpu_command.hwp_soft.declared.Soft.{Soft}

@@ -38,9 +38,9 @@ use Rattle.hwp_cpu_row.specs.hwp_core_rule.declared.View.{View}
 use Rattle.hwp_cpu_row.specs.hwp_core_rule.Lists.{EachMember, SomeMember}
 use Rattle.hwp_cpu_row.specs.hwp_core_rule.Views.{no_debts}
 use Rattle.hwp_cpu_row.proofs.of_hwp_core_rule.Lists.{at_last}
-use Rattle.hwp_cpu_row.specs.hwp_core_task.Calls.{IsOnTurn}
-use Rattle.hwp_cpu_row.specs.hwp_core_task.Hands.{Hand}
-use Rattle.hwp_cpu_row.specs.hwp_core_task.Known.{HasMadeNone}
+use Rattle.hwp_cpu_row.specs.hwp_core_rule.Calls.{IsOnTurn}
+use Rattle.hwp_cpu_row.specs.hwp_core_rule.Hands.{Hand}
+use Rattle.hwp_cpu_row.specs.hwp_core_rule.Known.{HasMadeNone}
 use Rattle.hwp_cpu_row.specs.declared.Row.{Row}
 use Rattle.hwp_cpu_row.specs.hwp_banks.Banks.{Banks, empty_banks}
 use Rattle.hwp_cpu_row.specs.declared.Local.{Local}

@@ -3,7 +3,7 @@ use Rattle.std.proofs.Common.{◌≡◌, Bool, true, false, true≢false, ℕ, �
 use Rattle.hwp_cpu_row.specs.hwp_geom.declared.Layout.{Layout}
 use Rattle.hwp_cpu_row.specs.hwp_page.History.{BodyValue}
 use Rattle.hwp_cpu_row.specs.hwp_page.declared.At.{At}
-use Rattle.hwp_cpu_row.specs.hwp_core_task.declared.Turn.{Turn}
+use Rattle.hwp_cpu_row.specs.hwp_core_rule.declared.Turn.{Turn}
 use Rattle.hwp_cpu_command_laws.specs.hwp_cpu_command.hwp_cpu_access.declared.Instruction.{Instruction}
 use Rattle.hwp_cpu_command_laws.specs.hwp_cpu_command.hwp_cpu_access.declared.instruction.InstructionAt.{InstructionAt}
 use Rattle.hwp_cpu_command_laws.specs.hwp_cpu_command.hwp_cpu_access.declared.instruction.InstructionAt.TheVariants as instruction_at

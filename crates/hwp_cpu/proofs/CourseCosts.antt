@@ -14,12 +14,12 @@ use Rattle.hwp_cpu_row.specs.hwp_core_rule.Moves.{Move}
 use Rattle.hwp_cpu_row.specs.hwp_core_rule.Rule.{Holds}
 use Rattle.hwp_cpu_row.specs.hwp_core_rule.Views.{view_after}
 use Rattle.hwp_cpu_row.specs.hwp_core_rule.Words.{Words}
-use Rattle.hwp_cpu_row.specs.hwp_core_task.declared.Turn.{Turn}
-use Rattle.hwp_cpu_row.specs.hwp_core_task.declared.Turn.TheVariants as turns
-use Rattle.hwp_cpu_row.specs.hwp_core_task.Boards.{view_of}
-use Rattle.hwp_cpu_row.specs.hwp_core_task.Calls.{Steps, logs, rec_of}
-use Rattle.hwp_cpu_row.specs.hwp_core_task.Ranks.{CostFalls, HasFailed, IsRanked, Made, OtherHand, PaysRevival, Pending, Quiet, command_weight, failure_weight, failures_left, free_room, is_refused, is_waits, words_at}
-use Rattle.hwp_cpu_row.proofs.of_hwp_core_task.StepRanks.{failures-kept, steps-on}
+use Rattle.hwp_cpu_row.specs.hwp_core_rule.declared.Turn.{Turn}
+use Rattle.hwp_cpu_row.specs.hwp_core_rule.declared.Turn.TheVariants as turns
+use Rattle.hwp_cpu_row.specs.hwp_core_rule.Boards.{view_of}
+use Rattle.hwp_cpu_row.specs.hwp_core_rule.Calls.{Steps, logs, rec_of}
+use Rattle.hwp_cpu_row.specs.hwp_core_rule.Ranks.{CostFalls, HasFailed, IsRanked, Made, OtherHand, PaysRevival, Pending, Quiet, command_weight, failure_weight, failures_left, free_room, is_refused, is_waits, words_at}
+use Rattle.hwp_cpu_row.proofs.of_hwp_core_rule.StepRanks.{failures-kept, steps-on}
 use Rattle.hwp_cpu_row.specs.hwp_cpu_check.declared.EventOutcome.{EventOutcome}
 use Rattle.hwp_cpu_row.specs.declared.Watching.{Watching}
 use Rattle.hwp_cpu_row.specs.Acts.{told_notes}

@@ -10,13 +10,13 @@ use Rattle.hwp_cpu_row.specs.hwp_report_text.declared.Answer.{Answer}
 use Rattle.hwp_cpu_row.specs.hwp_page.History.{BodyValue}
 use Rattle.hwp_cpu_row.specs.hwp_core_rule.declared.Step.{Step}
 use Rattle.hwp_cpu_row.specs.hwp_core_rule.declared.View.{View}
-use Rattle.hwp_cpu_row.specs.hwp_core_task.declared.Turn.{Turn}
-use Rattle.hwp_cpu_row.specs.hwp_core_task.Calls.{CanMake, IsOnTurn, Steps, logs}
-use Rattle.hwp_cpu_row.specs.hwp_core_task.Hands.{empty, hand_of}
-use Rattle.hwp_cpu_row.specs.hwp_core_task.Classes.{TellsClass}
-use Rattle.hwp_cpu_row.specs.hwp_core_task.Known.{deeds}
-use Rattle.hwp_cpu_row.specs.hwp_core_task.Ranks.{HasFrame, HasPage}
-use Rattle.hwp_cpu_row.specs.hwp_core_task.Turns.{IsTask}
+use Rattle.hwp_cpu_row.specs.hwp_core_rule.declared.Turn.{Turn}
+use Rattle.hwp_cpu_row.specs.hwp_core_rule.Calls.{CanMake, IsOnTurn, Steps, logs}
+use Rattle.hwp_cpu_row.specs.hwp_core_rule.Hands.{empty, hand_of}
+use Rattle.hwp_cpu_row.specs.hwp_core_rule.Classes.{TellsClass}
+use Rattle.hwp_cpu_row.specs.hwp_core_rule.Known.{deeds}
+use Rattle.hwp_cpu_row.specs.hwp_core_rule.Ranks.{HasFrame, HasPage}
+use Rattle.hwp_cpu_row.specs.hwp_core_rule.Turns.{IsTask}
 use Rattle.hwp_cpu_row.proofs.of_hwp_core_rule.Lists.{same-number}
 use Rattle.hwp_cpu_row.specs.hwp_cpu_check.declared.EventOutcome.{EventOutcome}
 use Rattle.hwp_cpu_row.specs.declared.Watching.{Watching}

@@ -10,7 +10,7 @@ use Rattle.hwp_cpu_row.specs.hwp_script_lines.declared.Command.{Command}
 use Rattle.hwp_cpu_row.specs.hwp_script_lines.declared.Command.TheVariants as commands
 use Rattle.hwp_cpu_row.specs.hwp_core_rule.declared.Spoiled.{Spoiled}
 use Rattle.hwp_cpu_row.specs.hwp_core_rule.declared.View.{View}
-use Rattle.hwp_cpu_row.specs.hwp_core_task.Calls.{IsOnTurn}
+use Rattle.hwp_cpu_row.specs.hwp_core_rule.Calls.{IsOnTurn}
 use Rattle.hwp_cpu_command_laws.specs.hwp_cpu_command.hwp_cpu_control.declared.Spoil.{Spoil}
 use Rattle.hwp_cpu_command_laws.specs.hwp_cpu_command.hwp_cpu_control.Spoils as spoils
 use Rattle.hwp_cpu_row.specs.hwp_cpu_check.Told.{halts}

@@ -17,8 +17,8 @@ use Rattle.hwp_cpu_row.specs.hwp_core_rule.Opening.{below, opening, opening_view
 use Rattle.hwp_cpu_row.specs.hwp_core_rule.Rule.{Holds}
 use Rattle.hwp_cpu_row.proofs.of_hwp_core_rule.Lists.{at_map}
 use Rattle.hwp_cpu_row.proofs.of_hwp_core_rule.WordsOpen.{below-at, length-below}
-use Rattle.hwp_cpu_row.specs.hwp_core_task.declared.Turn.{Turn}
-use Rattle.hwp_cpu_row.specs.hwp_core_task.Boards.{AreSeated, view_of}
+use Rattle.hwp_cpu_row.specs.hwp_core_rule.declared.Turn.{Turn}
+use Rattle.hwp_cpu_row.specs.hwp_core_rule.Boards.{AreSeated, view_of}
 use Rattle.hwp_cpu_causes.specs.hwp_law_served.Served.{HasServed}
 use Rattle.hwp_cpu.specs.declared.processor.Processor.{Processor}
 use Rattle.hwp_cpu.specs.Processors.{AreCommands, AtBeginning, Follows, Next, NextOf, bare, who}

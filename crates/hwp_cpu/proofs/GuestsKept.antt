@@ -9,13 +9,13 @@ use Rattle.hwp_cpu_row.specs.hwp_geom.declared.Who.{Who}
 use Rattle.hwp_cpu_row.specs.hwp_geom.Layout.{IsSound}
 use Rattle.hwp_cpu_row.specs.hwp_page.declared.At.{At}
 use Rattle.hwp_cpu_row.specs.hwp_page.History.{BodyValue}
-use Rattle.hwp_cpu_row.specs.hwp_core_task.declared.Turn.{Turn}
+use Rattle.hwp_cpu_row.specs.hwp_core_rule.declared.Turn.{Turn}
 use Rattle.hwp_cpu_row.specs.hwp_script_lines.declared.Command.{Command}
 use Rattle.hwp_cpu_row.specs.hwp_script_read.Valid.{IsCommandOf}
 use Rattle.hwp_cpu_row.specs.hwp_report_text.declared.Answer.{Answer}
 use Rattle.hwp_cpu_row.specs.hwp_report_text.declared.Answer.TheVariants as answers
 use Rattle.hwp_cpu_row.specs.hwp_core_rule.declared.View.{View}
-use Rattle.hwp_cpu_row.specs.hwp_core_task.Known.{HasMadeNone}
+use Rattle.hwp_cpu_row.specs.hwp_core_rule.Known.{HasMadeNone}
 use Rattle.hwp_cpu_row.specs.hwp_law_commands.declared.GuestAccess.{GuestAccess}
 use Rattle.hwp_cpu_row.specs.hwp_law_commands.Guests.{denied, guest_access, guest_line, guest_lines}
 use Rattle.hwp_cpu_row.specs.declared.Local.{Local}

@@ -15,7 +15,7 @@ use Rattle.hwp_cpu_row.specs.hwp_report_text.declared.Answer.TheVariants as answ
 use Rattle.hwp_cpu_causes.specs.hwp_law.Losses.{number_by, tells_number}
 use Rattle.hwp_cpu_row.specs.hwp_core_rule.declared.SharedWord.TheVariants as places
 use Rattle.hwp_cpu_row.specs.hwp_core_rule.declared.View.{View}
-use Rattle.hwp_cpu_row.specs.hwp_core_task.Known.{HasSeenLoss, Saw}
+use Rattle.hwp_cpu_row.specs.hwp_core_rule.Known.{HasSeenLoss, Saw}
 use Rattle.hwp_cpu_command_laws.specs.hwp_cpu_command.hwp_evict.Fsyncs as fsyncs
 use Rattle.hwp_cpu_row.specs.declared.Row.{Row}
 use Rattle.hwp_cpu_command_laws.specs.hwp_cpu_command.declared.job.Job.{Job}

@@ -18,7 +18,7 @@ use Rattle.hwp_cpu_command_laws.specs.hwp_cpu_command.hwp_cpu_access.declared.in
 use Rattle.hwp_cpu_command_laws.proofs.of_hwp_cpu_command.of_hwp_cpu_copy.CowSteps.{request-who}
 use Rattle.hwp_cpu_row.specs.hwp_page.declared.At.{At}
 use Rattle.hwp_cpu_row.specs.hwp_geom.declared.Who.{Who}
-use Rattle.hwp_cpu_row.specs.hwp_core_task.Calls.{Steps, logs}
+use Rattle.hwp_cpu_row.specs.hwp_core_rule.Calls.{Steps, logs}
 use Rattle.std.proofs.lemmas.Option.{none-some}
 use Rattle.hwp_cpu_row.specs.hwp_cpu_check.Told.{halts, has_kept}
 use Rattle.hwp_cpu_causes.proofs.NotedLines.{answered-unnoted, notes-behind, notes-more}

@@ -22,7 +22,7 @@ use Rattle.hwp_cpu_causes.proofs.HandleNumbers.{IsNumbered, numbered}
 use Rattle.hwp_cpu_causes.specs.hwp_law_served.Accounts.{failures}
 use Rattle.hwp_cpu_row.specs.hwp_report_text.declared.Answer.{Answer}
 use Rattle.hwp_cpu_row.specs.hwp_script_lines.declared.Command.{Command}
-use Rattle.hwp_cpu_row.specs.hwp_core_task.Calls.{IsOnTurn}
+use Rattle.hwp_cpu_row.specs.hwp_core_rule.Calls.{IsOnTurn}
 use Rattle.hwp_cpu_command_laws.proofs.CommandRuns.{runs-who}
 use Rattle.hwp_cpu_row.specs.declared.Row.{Row}
 use Rattle.hwp_cpu_row.specs.hwp_geom.declared.Layout.{Layout}
@@ -44,11 +44,11 @@ use Rattle.hwp_cpu_row.specs.hwp_core_rule.declared.View.{View}
 use Rattle.hwp_cpu_command_laws.proofs.CommandStops.{stopped-halts}
 use Rattle.hwp_cpu.specs.declared.course.Course.{Course}
 use Rattle.hwp_cpu_command_laws.proofs.Beside.{IsAtPause, job-at-pause, paused-unmarked, paused-unowed}
-use Rattle.hwp_cpu_row.specs.hwp_core_task.Hands.{hand_of, empty}
+use Rattle.hwp_cpu_row.specs.hwp_core_rule.Hands.{hand_of, empty}
 use Rattle.hwp_cpu_command_laws.proofs.CommandDeeds.{unowed-at-end}
 use Rattle.hwp_cpu_command_laws.specs.hwp_cpu_command.Runs.{Runs}
 use Rattle.hwp_cpu_command_laws.proofs.DeniedAnswers.{unmade-denied}
-use Rattle.hwp_cpu_row.specs.hwp_core_task.Known.{HasMadeNone, is_failure}
+use Rattle.hwp_cpu_row.specs.hwp_core_rule.Known.{HasMadeNone, is_failure}
 use Rattle.std.proofs.lemmas.Bool.{both_ways}
 use Rattle.hwp_cpu_row.specs.hwp_page.declared.What.{What}
 use Rattle.hwp_cpu_command_laws.proofs.of_hwp_cpu_command.of_hwp_cpu_copy.CopyLists.{IsApart, copy-lists}

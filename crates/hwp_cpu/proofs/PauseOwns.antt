@@ -8,9 +8,9 @@ use Rattle.hwp_cpu_row.specs.hwp_core_rule.declared.SharedWord.TheVariants as pl
 use Rattle.hwp_cpu_row.specs.hwp_core_rule.declared.State.{State}
 use Rattle.hwp_cpu_row.specs.hwp_core_rule.declared.Step.TheVariants as steps
 use Rattle.hwp_cpu_row.specs.hwp_core_rule.Lasting.{IsMild}
-use Rattle.hwp_cpu_row.specs.hwp_core_task.declared.Turn.{Turn}
-use Rattle.hwp_cpu_row.specs.hwp_core_task.Ranks.{Made, Pending, is_refused, words_at}
-use Rattle.hwp_cpu_row.proofs.of_hwp_core_task.StepRanks.{pending-kept}
+use Rattle.hwp_cpu_row.specs.hwp_core_rule.declared.Turn.{Turn}
+use Rattle.hwp_cpu_row.specs.hwp_core_rule.Ranks.{Made, Pending, is_refused, words_at}
+use Rattle.hwp_cpu_row.proofs.of_hwp_core_rule.StepRanks.{pending-kept}
 use Rattle.hwp_cpu_row.specs.hwp_cpu_check.declared.Handler.{Handler}
 use Rattle.hwp_cpu_row.specs.hwp_cpu_check.Handlers as handlers
 use Rattle.hwp_cpu_command_laws.specs.hwp_cpu_command.declared.job.Job.{Job}

@@ -17,10 +17,10 @@ use Rattle.hwp_cpu_row.specs.hwp_report_text.declared.Answer.{Answer}
 use Rattle.hwp_cpu_row.specs.hwp_core_rule.declared.State.{State}
 use Rattle.hwp_cpu_row.specs.hwp_core_rule.Moves.{Move}
 use Rattle.hwp_cpu_row.specs.hwp_core_rule.Rule.{Holds}
-use Rattle.hwp_cpu_row.specs.hwp_core_task.declared.Turn.{Turn}
-use Rattle.hwp_cpu_row.specs.hwp_core_task.Boards.{view_of}
-use Rattle.hwp_cpu_row.specs.hwp_core_task.Calls.{logs, rec_of}
-use Rattle.hwp_cpu_row.specs.hwp_core_task.Ranks.{Made, CostFalls, HasFailed, IsRanked, OtherHand, PaysRevival, Pending, Quiet, failure_weight, failures_left, is_refused, is_waits, top, words_at, command_weight}
+use Rattle.hwp_cpu_row.specs.hwp_core_rule.declared.Turn.{Turn}
+use Rattle.hwp_cpu_row.specs.hwp_core_rule.Boards.{view_of}
+use Rattle.hwp_cpu_row.specs.hwp_core_rule.Calls.{logs, rec_of}
+use Rattle.hwp_cpu_row.specs.hwp_core_rule.Ranks.{Made, CostFalls, HasFailed, IsRanked, OtherHand, PaysRevival, Pending, Quiet, failure_weight, failures_left, is_refused, is_waits, top, words_at, command_weight}
 use Rattle.hwp_cpu_row.specs.declared.Row.{Row}
 use Rattle.hwp_cpu_row.specs.declared.Local.{Local}
 use Rattle.hwp_cpu_command_laws.specs.hwp_cpu_command.declared.job.Job.{Job}

@@ -15,8 +15,8 @@ use Rattle.hwp_cpu_row.specs.hwp_core_rule.declared.Step.{Step}
 use Rattle.hwp_cpu_row.specs.hwp_core_rule.declared.View.{View}
 use Rattle.hwp_cpu_row.specs.hwp_core_rule.Lists.{EachMember}
 use Rattle.hwp_cpu_row.proofs.of_hwp_core_rule.Lists.{at_push}
-use Rattle.hwp_cpu_row.specs.hwp_core_task.Calls.{CanMake, IsOnTurn}
-use Rattle.hwp_cpu_row.specs.hwp_core_task.Known.{Saw, HasMadeNone}
+use Rattle.hwp_cpu_row.specs.hwp_core_rule.Calls.{CanMake, IsOnTurn}
+use Rattle.hwp_cpu_row.specs.hwp_core_rule.Known.{Saw, HasMadeNone}
 use Rattle.hwp_cpu_row.specs.declared.Row.{Row}
 use Rattle.hwp_cpu_row.specs.declared.Local.{Local}
 use Rattle.hwp_cpu_row.specs.hwp_banks.Banks.{empty_banks, Banks}
@@ -42,7 +42,7 @@ use Rattle.hwp_cpu.proofs.ProcessorNotes.{listed-on, noted-on, spoils-on, accoun
 use Rattle.hwp_cpu.proofs.Rows.{rows-stay}
 use Rattle.hwp_cpu_row.specs.hwp_law_commands.Watched.{told, due, Watched}
 use Rattle.hwp_cpu_command_laws.proofs.TaskLeaves.{soft-leaves, Left}
-use Rattle.hwp_cpu_row.proofs.of_hwp_core_task.MadeEntries.{made-none}
+use Rattle.hwp_cpu_row.proofs.of_hwp_core_rule.MadeEntries.{made-none}
 use Rattle.hwp_cpu_command_laws.proofs.ToldGrows.{told-longer}
 use Rattle.hwp_cpu.specs.declared.course.Course.{Course}
 use Rattle.hwp_cpu.proofs.Marks.{GrowAlike, own-alike, beside-alike}

@@ -13,8 +13,8 @@ use Rattle.hwp_cpu_row.specs.hwp_script_lines.declared.Command.{Command}
 use Rattle.hwp_cpu_row.specs.hwp_report_text.declared.Answer.{Answer}
 use Rattle.hwp_cpu_row.specs.hwp_core_rule.declared.Step.{Step}
 use Rattle.hwp_cpu_row.specs.hwp_core_rule.declared.View.{View}
-use Rattle.hwp_cpu_row.specs.hwp_core_task.declared.Turn.{Turn}
-use Rattle.hwp_cpu_row.specs.hwp_core_task.Calls.{CanMake, Steps, logs}
+use Rattle.hwp_cpu_row.specs.hwp_core_rule.declared.Turn.{Turn}
+use Rattle.hwp_cpu_row.specs.hwp_core_rule.Calls.{CanMake, Steps, logs}
 use Rattle.hwp_cpu_command_laws.specs.hwp_cpu_command.declared.job.Job.{Job}
 use Rattle.hwp_cpu_command_laws.specs.hwp_cpu_command.Jobs as jobs
 use Rattle.hwp_cpu_command_laws.specs.hwp_cpu_command.FileHandles.{HasChangeWithin}
@@ -39,7 +39,7 @@ use Rattle.hwp_cpu_command_laws.specs.hwp_cpu_command.hwp_soft.declared.Soft.{So
 use Rattle.hwp_cpu_row.specs.hwp_law_commands.Notes.{is_for_pages}
 use Rattle.hwp_cpu_command_laws.specs.hwp_cpu_command.hwp_soft.declared.SoftAnswer.{SoftAnswer}
 use Rattle.hwp_cpu_command_laws.specs.hwp_cpu_command.Runs.{Runs}
-use Rattle.hwp_cpu_row.specs.hwp_core_task.Known.{HasMadeNone}
+use Rattle.hwp_cpu_row.specs.hwp_core_rule.Known.{HasMadeNone}
 use Rattle.hwp_cpu_row.specs.hwp_geom.declared.Frame.{Frame}
 use Rattle.hwp_cpu_command_laws.specs.hwp_cpu_command.declared.job.Job.TheVariants as kinds
 use Rattle.hwp_cpu.specs.Courses as courses

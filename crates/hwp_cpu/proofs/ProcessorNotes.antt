@@ -34,8 +34,8 @@ use Rattle.hwp_cpu_row.specs.hwp_core_rule.declared.View.{View}
 use Rattle.hwp_cpu_row.specs.hwp_core_rule.Lists.{EachMember}
 use Rattle.hwp_cpu_row.specs.hwp_core_rule.Views.{no_debts}
 use Rattle.hwp_cpu_row.proofs.of_hwp_core_rule.Lists.{at_last, at_push, each-push, sum-zero}
-use Rattle.hwp_cpu_row.specs.hwp_core_task.Calls.{CanMake}
-use Rattle.hwp_cpu_row.specs.hwp_core_task.Known.{HasMadeNone, deeds}
+use Rattle.hwp_cpu_row.specs.hwp_core_rule.Calls.{CanMake}
+use Rattle.hwp_cpu_row.specs.hwp_core_rule.Known.{HasMadeNone, deeds}
 use Rattle.hwp_cpu_row.specs.hwp_claim_act.declared.Failed.{Failed}
 use Rattle.hwp_cpu_row.specs.hwp_claim_act.Abandoned as abandoned
 use Rattle.hwp_cpu_row.specs.hwp_claim_frame.Claims.{HasMarkedNone, is_own}
@@ -90,7 +90,7 @@ use Rattle.hwp_cpu.specs.Serving.{AreNoted, HasAccount, IsListed, marked_so_far}
 use Rattle.hwp_cpu.proofs.Marks.{GrowAlike, beside-alike, regrown}
 use Rattle.hwp_cpu.proofs.Rows.{notes-more, spoil-more}
 use Rattle.hwp_cpu.proofs.EachKind.{spoils-line, prior-none}
-use Rattle.hwp_cpu_row.specs.hwp_core_task.Hands.{empty}
+use Rattle.hwp_cpu_row.specs.hwp_core_rule.Hands.{empty}
 use Rattle.hwp_cpu_row.specs.hwp_report_text.declared.GuestLine.{GuestLine}
 
 -- ---- over a step

@@ -17,7 +17,7 @@ use Rattle.hwp_cpu_row.specs.hwp_script_lines.declared.Command.{Command}
 use Rattle.hwp_cpu_row.specs.hwp_core_rule.declared.Part.{Part}
 use Rattle.hwp_cpu_row.specs.hwp_core_rule.declared.View.{View}
 use Rattle.hwp_cpu_row.specs.hwp_core_rule.Opening.{opening_view}
-use Rattle.hwp_cpu_row.specs.hwp_core_task.Calls.{IsOnTurn}
+use Rattle.hwp_cpu_row.specs.hwp_core_rule.Calls.{IsOnTurn}
 use Rattle.hwp_cpu_command_laws.specs.hwp_cpu_command.Jobs.{banks_before, left_in}
 use Rattle.hwp_cpu_command_laws.specs.hwp_cpu_command.Settings.{policies_in}
 use Rattle.hwp_cpu_command_laws.specs.hwp_cpu_command.Stays.{IsAtStop}

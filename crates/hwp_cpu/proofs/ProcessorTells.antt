@@ -5,8 +5,8 @@ use Rattle.std.proofs.lemmas.Option.{none-some}
 use Rattle.hwp_cpu_row.specs.hwp_geom.declared.Frame.{Frame}
 use Rattle.hwp_cpu_row.specs.hwp_geom.declared.Layout.{Layout}
 use Rattle.hwp_cpu_row.specs.hwp_core_rule.declared.View.{View}
-use Rattle.hwp_cpu_row.specs.hwp_core_task.Classes.{TellsClass}
-use Rattle.hwp_cpu_row.specs.hwp_core_task.Ranks.{HasFrame, HasPage}
+use Rattle.hwp_cpu_row.specs.hwp_core_rule.Classes.{TellsClass}
+use Rattle.hwp_cpu_row.specs.hwp_core_rule.Ranks.{HasFrame, HasPage}
 use Rattle.hwp_cpu_command_laws.proofs.of_hwp_cpu_command.of_hwp_cpu_control.EmptyHands.{no-frame, no-page}
 use Rattle.hwp_cpu.specs.declared.processor.Processor.{Processor}
 use Rattle.hwp_cpu.specs.Processors.{claims, claims_of, class, class_of, plan, plan_of}

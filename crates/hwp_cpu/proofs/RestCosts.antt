@@ -10,9 +10,9 @@ use Rattle.hwp_cpu_row.specs.hwp_core_rule.declared.Step.{Step}
 use Rattle.hwp_cpu_row.specs.hwp_core_rule.declared.View.{View}
 use Rattle.hwp_cpu_row.specs.hwp_core_rule.Rule.{Holds}
 use Rattle.hwp_cpu_row.specs.hwp_core_rule.Words.{Words}
-use Rattle.hwp_cpu_row.specs.hwp_core_task.declared.Turn.{Turn}
+use Rattle.hwp_cpu_row.specs.hwp_core_rule.declared.Turn.{Turn}
 use Rattle.hwp_cpu_row.specs.hwp_core_rule.Lasting.{LeavesPoison}
-use Rattle.hwp_cpu_row.specs.hwp_core_task.Ranks.{failure_weight, free_room, words_at}
+use Rattle.hwp_cpu_row.specs.hwp_core_rule.Ranks.{failure_weight, free_room, words_at}
 use Rattle.hwp_cpu_command_laws.specs.hwp_cpu_command.declared.job.Job.{Job}
 use Rattle.hwp_cpu_command_laws.specs.hwp_cpu_command.declared.job.Job.TheVariants as kinds
 use Rattle.hwp_cpu_command_laws.specs.hwp_cpu_command.Jobs as jobs

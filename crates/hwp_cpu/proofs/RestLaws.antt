@@ -6,9 +6,9 @@ use Rattle.hwp_cpu_row.specs.hwp_geom.declared.Layout.{Layout}
 use Rattle.hwp_cpu_row.specs.hwp_report_text.declared.Answer.{Answer}
 use Rattle.hwp_cpu_row.specs.hwp_core_rule.declared.Made.{Made}
 use Rattle.hwp_cpu_row.specs.hwp_core_rule.declared.View.{View}
-use Rattle.hwp_cpu_row.specs.hwp_core_task.Calls.{IsOnTurn}
-use Rattle.hwp_cpu_row.specs.hwp_core_task.Hands.{empty, hand_of}
-use Rattle.hwp_cpu_row.specs.hwp_core_task.Known.{deeds}
+use Rattle.hwp_cpu_row.specs.hwp_core_rule.Calls.{IsOnTurn}
+use Rattle.hwp_cpu_row.specs.hwp_core_rule.Hands.{empty, hand_of}
+use Rattle.hwp_cpu_row.specs.hwp_core_rule.Known.{deeds}
 use Rattle.hwp_cpu_row.specs.Locals.{collects}
 use Rattle.hwp_cpu_command_laws.specs.hwp_cpu_command.declared.Job.{Job}
 use Rattle.hwp_cpu_command_laws.specs.hwp_cpu_command.Done.{failed_now}

@@ -25,10 +25,10 @@ use Rattle.hwp_cpu_row.specs.hwp_core_rule.Lists.{EachMember}
 use Rattle.hwp_cpu_row.specs.hwp_core_rule.Logs.{log_of}
 use Rattle.hwp_cpu_row.specs.hwp_core_rule.Views.{made_from, more_of, without}
 use Rattle.hwp_cpu_row.proofs.of_hwp_core_rule.Lists.{each-push, same-number}
-use Rattle.hwp_cpu_row.specs.hwp_core_task.Calls.{CanMake, Steps, logs}
-use Rattle.hwp_cpu_row.specs.hwp_core_task.Known.{HasMadeBeside, HasMadeNoneBeside, deeds, is_by}
-use Rattle.hwp_cpu_row.proofs.of_hwp_core_task.MadeEntries.{Lists, frame-lists, kill-lists, loss-lists, page-lists}
-use Rattle.hwp_cpu_row.proofs.of_hwp_core_task.OwedLosses.{frame-owes, kill-owes, listed-none, losses-kept, losses-same, page-owes}
+use Rattle.hwp_cpu_row.specs.hwp_core_rule.Calls.{CanMake, Steps, logs}
+use Rattle.hwp_cpu_row.specs.hwp_core_rule.Known.{HasMadeBeside, HasMadeNoneBeside, deeds, is_by}
+use Rattle.hwp_cpu_row.proofs.of_hwp_core_rule.MadeEntries.{Lists, frame-lists, kill-lists, loss-lists, page-lists}
+use Rattle.hwp_cpu_row.proofs.of_hwp_core_rule.StepOwes.{frame-owes, kill-owes, listed-none, losses-kept, losses-same, page-owes}
 use Rattle.hwp_cpu_command_laws.specs.hwp_cpu_command.hwp_cpu_access.Fits.{checks_in, checks_made}
 use Rattle.hwp_cpu_command_laws.proofs.of_hwp_cpu_command.of_hwp_cpu_access.CommandGrows.{More, made-more}
 use Rattle.hwp_cpu_command_laws.specs.hwp_cpu_command.hwp_law_commands.Commands.{is_check}

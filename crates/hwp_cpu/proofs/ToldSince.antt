@@ -12,8 +12,8 @@ use Rattle.hwp_cpu_row.specs.hwp_page.History.{BodyValue}
 use Rattle.hwp_cpu_row.specs.hwp_core_rule.declared.Made.{Made}
 use Rattle.hwp_cpu_row.specs.hwp_core_rule.declared.Step.{Step}
 use Rattle.hwp_cpu_row.specs.hwp_core_rule.declared.View.{View}
-use Rattle.hwp_cpu_row.specs.hwp_core_task.declared.Turn.{Turn}
-use Rattle.hwp_cpu_row.specs.hwp_core_task.Calls.{Steps, logs}
+use Rattle.hwp_cpu_row.specs.hwp_core_rule.declared.Turn.{Turn}
+use Rattle.hwp_cpu_row.specs.hwp_core_rule.Calls.{Steps, logs}
 use Rattle.hwp_cpu_row.specs.hwp_cpu_check.declared.EventOutcome.{EventOutcome}
 use Rattle.hwp_cpu_command_laws.specs.hwp_cpu_command.declared.Job.{Job}
 use Rattle.hwp_cpu_command_laws.specs.hwp_cpu_command.declared.job.Job.TheVariants as kinds

@@ -1,6 +1,6 @@
 -- The collector of a processor and the frames that are due, from one command to the next.
 use Rattle.hwp_cpu_row.specs.hwp_geom.declared.VSlot.{VSlot}
-use Rattle.hwp_cpu_row.specs.hwp_core_task.Known.{HasMadeNone}
+use Rattle.hwp_cpu_row.specs.hwp_core_rule.Known.{HasMadeNone}
 use Rattle.hwp_cpu_row.specs.hwp_banks.declared.Event.{Event}
 use Rattle.hwp_cpu.proofs.BesideEnds.{due-none}
 use Rattle.hwp_cpu_causes.proofs.of_hwp_law_commands.NoteLaws.{told-none}

@@ -13,7 +13,7 @@ use Rattle.hwp_cpu.specs.Dues.{next_due}
 use Rattle.hwp_cpu_command_laws.specs.hwp_cpu_command.hwp_soft.declared.SoftAnswer.{SoftAnswer}
 use Rattle.hwp_cpu_row.specs.hwp_page.History.{BodyValue}
 use Rattle.hwp_cpu_row.specs.Locals.{collects}
-use Rattle.hwp_cpu_row.specs.hwp_core_task.declared.Turn.{Turn}
+use Rattle.hwp_cpu_row.specs.hwp_core_rule.declared.Turn.{Turn}
 use Rattle.hwp_cpu_command_laws.specs.hwp_cpu_command.FileHandles.{HasChangeWithin}
 use Rattle.hwp_cpu_command_laws.specs.hwp_cpu_command.Jobs as jobs
 use Rattle.hwp_cpu_command_laws.specs.hwp_cpu_command.Jobs.{denial_of}

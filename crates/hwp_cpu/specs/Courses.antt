@@ -15,12 +15,12 @@ use Rattle.hwp_cpu_row.specs.hwp_core_rule.declared.Step.{Step}
 use Rattle.hwp_cpu_row.specs.hwp_core_rule.declared.View.{View}
 use Rattle.hwp_cpu_row.specs.hwp_core_rule.Lists.{EachMember}
 use Rattle.hwp_cpu_row.specs.hwp_core_rule.Words.{Words}
-use Rattle.hwp_cpu_row.specs.hwp_core_task.declared.Turn.{Turn}
-use Rattle.hwp_cpu_row.specs.hwp_core_task.declared.Turn.TheVariants as turns
-use Rattle.hwp_cpu_row.specs.hwp_core_task.Calls.{IsOnTurn}
-use Rattle.hwp_cpu_row.specs.hwp_core_task.Hands.{empty, hand_of}
-use Rattle.hwp_cpu_row.specs.hwp_core_task.Ranks.{failure_weight, stale_weight}
-use Rattle.hwp_cpu_row.specs.hwp_core_task.Turns.{Member}
+use Rattle.hwp_cpu_row.specs.hwp_core_rule.declared.Turn.{Turn}
+use Rattle.hwp_cpu_row.specs.hwp_core_rule.declared.Turn.TheVariants as turns
+use Rattle.hwp_cpu_row.specs.hwp_core_rule.Calls.{IsOnTurn}
+use Rattle.hwp_cpu_row.specs.hwp_core_rule.Hands.{empty, hand_of}
+use Rattle.hwp_cpu_row.specs.hwp_core_rule.Ranks.{failure_weight, stale_weight}
+use Rattle.hwp_cpu_row.specs.hwp_core_rule.Turns.{Member}
 use Rattle.hwp_cpu_row.specs.hwp_law_commands.Notes.{is_for_pages}
 use Rattle.hwp_cpu_row.specs.hwp_law_commands.hwp_cec.Ages.{CecEvent}
 use Rattle.hwp_cpu_row.specs.hwp_law_commands.hwp_cec.Counters.{Counters, StandsFor}

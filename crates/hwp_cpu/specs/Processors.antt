@@ -18,9 +18,9 @@ use Rattle.hwp_cpu_row.specs.hwp_script_read.Valid.{AreForksFit, AreTwinsFit, Is
 use Rattle.hwp_cpu_row.specs.hwp_report_text.declared.Answer.{Answer}
 use Rattle.hwp_cpu_row.specs.hwp_core_rule.declared.Step.{Step}
 use Rattle.hwp_cpu_row.specs.hwp_core_rule.Words.{Words}
-use Rattle.hwp_cpu_row.specs.hwp_core_task.declared.Turn.{Turn}
-use Rattle.hwp_cpu_row.specs.hwp_core_task.declared.Turn.TheVariants as turns
-use Rattle.hwp_cpu_row.specs.hwp_core_task.Ranks.{command_weight}
+use Rattle.hwp_cpu_row.specs.hwp_core_rule.declared.Turn.{Turn}
+use Rattle.hwp_cpu_row.specs.hwp_core_rule.declared.Turn.TheVariants as turns
+use Rattle.hwp_cpu_row.specs.hwp_core_rule.Ranks.{command_weight}
 use Rattle.hwp_cpu_command_laws.specs.hwp_cpu_command.FileHandles.{HasChangeWithin, StandsOn}
 use Rattle.hwp_cpu_command_laws.specs.hwp_cpu_command.declared.Job.{Job}
 use Rattle.hwp_cpu_command_laws.specs.hwp_cpu_command.Jobs as jobs

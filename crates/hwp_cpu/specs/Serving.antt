@@ -21,9 +21,9 @@ use Rattle.hwp_cpu_row.specs.hwp_core_rule.declared.Spoiled.{Spoiled}
 use Rattle.hwp_cpu_row.specs.hwp_core_rule.declared.View.{View}
 use Rattle.hwp_cpu_row.specs.hwp_core_rule.Lists.{EachMember}
 use Rattle.hwp_cpu_row.specs.hwp_core_rule.Views.{no_debts}
-use Rattle.hwp_cpu_row.specs.hwp_core_task.Hands.{hand_of, empty}
-use Rattle.hwp_cpu_row.specs.hwp_core_task.Known.{HasMadeNone}
-use Rattle.hwp_cpu_row.specs.hwp_core_task.Turns.{Member}
+use Rattle.hwp_cpu_row.specs.hwp_core_rule.Hands.{hand_of, empty}
+use Rattle.hwp_cpu_row.specs.hwp_core_rule.Known.{HasMadeNone}
+use Rattle.hwp_cpu_row.specs.hwp_core_rule.Turns.{Member}
 use Rattle.hwp_cpu_row.specs.hwp_claim_frame.Done.{Marking, marking_of}
 use Rattle.hwp_cpu_row.specs.declared.Local.{Local}
 use Rattle.hwp_cpu_row.specs.declared.Row.{Row}

@@ -18,10 +18,10 @@ use Rattle.hwp_fault.specs.hwp_core_rule.Views.{frame_in}
 use Rattle.hwp_fault.specs.hwp_core_rule.Words.{Words}
 use Rattle.hwp_fault.proofs.of_hwp_core_rule.MetWords.{same-frame}
 use Rattle.hwp_fault.proofs.of_hwp_core_rule.MoveKeeps.{shaped}
-use Rattle.hwp_fault.specs.hwp_core_task.declared.Turn.{Turn}
-use Rattle.hwp_fault.specs.hwp_core_task.Boards.{view_of}
-use Rattle.hwp_fault.specs.hwp_core_task.Ranks.{CostFalls, HasFailed, Made, is_waits, words_at}
-use Rattle.hwp_fault.proofs.of_hwp_core_task.StepRanks.{met, words-kept}
+use Rattle.hwp_fault.specs.hwp_core_rule.declared.Turn.{Turn}
+use Rattle.hwp_fault.specs.hwp_core_rule.Boards.{view_of}
+use Rattle.hwp_fault.specs.hwp_core_rule.Ranks.{CostFalls, HasFailed, Made, is_waits, words_at}
+use Rattle.hwp_fault.proofs.of_hwp_core_rule.StepRanks.{met, words-kept}
 use Rattle.hwp_fault.specs.hwp_core.declared.Pin.{Pin}
 use Rattle.hwp_fault.specs.hwp_core.declared.pin.PinAt.{PinAt}
 use Rattle.hwp_fault.specs.hwp_core.declared.pin.PinAt.TheVariants as pin_at

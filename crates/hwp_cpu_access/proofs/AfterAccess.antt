@@ -3,7 +3,7 @@ use Rattle.std.proofs.Common.{◌≡◌, ℕ, Bool, Option, Some, None, inl, inr
 use Rattle.hwp_fault.specs.hwp_geom.declared.Frame.{Frame}
 use Rattle.hwp_fault.specs.hwp_geom.declared.Layout.{Layout}
 use Rattle.hwp_fault.specs.hwp_page.History.{BodyValue}
-use Rattle.hwp_fault.specs.hwp_core_task.declared.Turn.{Turn}
+use Rattle.hwp_fault.specs.hwp_core_rule.declared.Turn.{Turn}
 use Rattle.hwp_fault.specs.declared.Access.{Access}
 use Rattle.hwp_fault.specs.declared.AccessAnswer.{AccessAnswer}
 use Rattle.hwp_fault.specs.declared.AccessAnswer.TheVariants as access_answers

@@ -28,10 +28,10 @@ use Rattle.hwp_fault.specs.hwp_core_rule.Logs.{log_of}
 use Rattle.hwp_fault.specs.hwp_core_rule.Views.{body_of, killed_by, listed, listed_of, noted, put_home, sighted}
 use Rattle.hwp_fault.specs.hwp_core_rule.declared.SharedWord.TheVariants as places
 use Rattle.hwp_fault.proofs.of_hwp_core_rule.Lists.{at_longer, each-push}
-use Rattle.hwp_fault.specs.hwp_core_task.Calls.{Steps, logs}
-use Rattle.hwp_fault.specs.hwp_core_task.Known.{HasMadeBeside, HasOnlyBeside, IsOnTheWay, Precedes, Saw, deeds, is_by, is_failure, such_deeds}
-use Rattle.hwp_fault.proofs.of_hwp_core_task.MadeEntries.{made-kept, only-beside-more, only-beside-stays, only-of-made}
-use Rattle.hwp_fault.proofs.of_hwp_core_task.SightKeeps.{saw-stays}
+use Rattle.hwp_fault.specs.hwp_core_rule.Calls.{Steps, logs}
+use Rattle.hwp_fault.specs.hwp_core_rule.Known.{HasMadeBeside, HasOnlyBeside, IsOnTheWay, Precedes, Saw, deeds, is_by, is_failure, such_deeds}
+use Rattle.hwp_fault.proofs.of_hwp_core_rule.MadeEntries.{made-kept, only-beside-more, only-beside-stays, only-of-made}
+use Rattle.hwp_fault.proofs.of_hwp_core_rule.SightKeeps.{saw-stays}
 use Rattle.hwp_cpu_check.specs.hwp_claim_act.declared.Failed.{Failed}
 use Rattle.hwp_cpu_check.specs.hwp_claim_act.Abandoned.{AddsFailure, failed_in, failed_of}
 use Rattle.hwp_cpu_check.specs.hwp_claim_frame.Claims.{is_own}

@@ -13,7 +13,7 @@ use Rattle.hwp_fault.specs.hwp_core_rule.declared.View.{View}
 use Rattle.hwp_fault.specs.hwp_core_rule.Rule.{Holds}
 use Rattle.hwp_fault.specs.hwp_core_rule.Words.{Words, free_words}
 use Rattle.hwp_fault.proofs.of_hwp_core_rule.MoveKeeps.{shaped}
-use Rattle.hwp_fault.specs.hwp_core_task.Ranks.{words_at, access_most, again_most, failure_weight, free_room}
+use Rattle.hwp_fault.specs.hwp_core_rule.Ranks.{words_at, access_most, again_most, failure_weight, free_room}
 use Rattle.hwp_fault.specs.declared.AccessAnswer.TheVariants as access_answers
 use Rattle.hwp_fault.specs.declared.access.AccessAt.{AccessAt}
 use Rattle.hwp_fault.specs.declared.access.AccessAt.TheVariants as access_at

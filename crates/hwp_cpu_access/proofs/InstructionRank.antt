@@ -23,14 +23,14 @@ use Rattle.hwp_fault.specs.hwp_core_rule.Moves.{Move}
 use Rattle.hwp_fault.specs.hwp_core_rule.Lasting.{IsMild, LeavesPoison}
 use Rattle.hwp_fault.specs.hwp_core_rule.Views.{view_after}
 use Rattle.hwp_fault.specs.hwp_core_rule.Words.{Words}
-use Rattle.hwp_fault.specs.hwp_core_task.declared.Turn.{Turn}
-use Rattle.hwp_fault.specs.hwp_core_task.declared.Turn.TheVariants.{Moved, Waits}
-use Rattle.hwp_fault.specs.hwp_core_task.Boards.{view_of}
-use Rattle.hwp_fault.specs.hwp_core_task.Calls.{logs, rec_of}
-use Rattle.hwp_fault.specs.hwp_core_task.Classes.{TellsClass}
-use Rattle.hwp_fault.specs.hwp_core_task.Ranks.{CostFalls, HasFailed, HasFrame, HasPage, IsRanked, Made, OtherHand, Pending, Quiet, is_refused, is_waits, words_at, again_most, failure_weight, free_room}
-use Rattle.hwp_fault.proofs.of_hwp_core_task.Failures.{mild-leaves}
-use Rattle.hwp_fault.proofs.of_hwp_core_task.StepRanks.{failed, met, pending-kept, steps-on, words-kept}
+use Rattle.hwp_fault.specs.hwp_core_rule.declared.Turn.{Turn}
+use Rattle.hwp_fault.specs.hwp_core_rule.declared.Turn.TheVariants.{Moved, Waits}
+use Rattle.hwp_fault.specs.hwp_core_rule.Boards.{view_of}
+use Rattle.hwp_fault.specs.hwp_core_rule.Calls.{logs, rec_of}
+use Rattle.hwp_fault.specs.hwp_core_rule.Classes.{TellsClass}
+use Rattle.hwp_fault.specs.hwp_core_rule.Ranks.{CostFalls, HasFailed, HasFrame, HasPage, IsRanked, Made, OtherHand, Pending, Quiet, is_refused, is_waits, words_at, again_most, failure_weight, free_room}
+use Rattle.hwp_fault.proofs.of_hwp_core_rule.Failures.{mild-leaves}
+use Rattle.hwp_fault.proofs.of_hwp_core_rule.StepRanks.{failed, met, pending-kept, steps-on, words-kept}
 use Rattle.hwp_fault.proofs.of_hwp_core.TaskCosts.{left-own, met-own}
 use Rattle.hwp_fault.proofs.of_hwp_core.TaskTells.{no-frame, no-page}
 use Rattle.hwp_fault.specs.declared.Access.{Access}

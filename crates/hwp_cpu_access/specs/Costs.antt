@@ -10,7 +10,7 @@ use Rattle.hwp_fault.specs.declared.AccessAnswer.TheVariants as access_answers
 use Rattle.hwp_fault.specs.declared.access.AccessAt.{AccessAt}
 use Rattle.hwp_fault.specs.declared.access.AccessAt.TheVariants as access_at
 use Rattle.hwp_fault.specs.Accesses as accesses
-use Rattle.hwp_fault.specs.hwp_core_task.Ranks.{again_most, stale_weight}
+use Rattle.hwp_fault.specs.hwp_core_rule.Ranks.{again_most, stale_weight}
 use Rattle.hwp_cpu_check.specs.hwp_claim.declared.Fail.{Fail}
 use Rattle.hwp_cpu_check.specs.hwp_claim.Done.{marked_at}
 use Rattle.hwp_cpu_check.specs.hwp_banks.Banks.{Banks}

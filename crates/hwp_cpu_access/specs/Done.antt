@@ -5,7 +5,7 @@ use Rattle.hwp_fault.specs.hwp_geom.declared.Thread.{Thread}
 use Rattle.hwp_fault.specs.hwp_geom.declared.Who.{Who}
 use Rattle.hwp_fault.specs.hwp_core_rule.declared.Mark.{Mark}
 use Rattle.hwp_fault.specs.hwp_core_rule.declared.View.{View}
-use Rattle.hwp_fault.specs.hwp_core_task.Known.{deeds}
+use Rattle.hwp_fault.specs.hwp_core_rule.Known.{deeds}
 use Rattle.hwp_cpu_check.specs.hwp_claim_act.declared.Failed.{Failed}
 use Rattle.hwp_cpu_check.specs.hwp_claim_act.Abandoned as abandoned
 use Rattle.hwp_cpu_check.specs.hwp_claim_frame.Done.{Grows, Marking, counts_owed, marking_of}

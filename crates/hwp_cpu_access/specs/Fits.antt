@@ -12,10 +12,10 @@ use Rattle.hwp_fault.specs.hwp_page.declared.At.{At}
 use Rattle.hwp_fault.specs.hwp_core_rule.declared.Made.{Made}
 use Rattle.hwp_fault.specs.hwp_core_rule.declared.SharedWord.TheVariants as places
 use Rattle.hwp_fault.specs.hwp_core_rule.declared.View.{View}
-use Rattle.hwp_fault.specs.hwp_core_task.Calls.{IsOnTurn}
-use Rattle.hwp_fault.specs.hwp_core_task.Hands.{hand_of, empty}
-use Rattle.hwp_fault.specs.hwp_core_task.Known.{HasOnlyBeside, Precedes, Saw, deeds}
-use Rattle.hwp_fault.specs.hwp_core_task.Turns.{Member}
+use Rattle.hwp_fault.specs.hwp_core_rule.Calls.{IsOnTurn}
+use Rattle.hwp_fault.specs.hwp_core_rule.Hands.{hand_of, empty}
+use Rattle.hwp_fault.specs.hwp_core_rule.Known.{HasOnlyBeside, Precedes, Saw, deeds}
+use Rattle.hwp_fault.specs.hwp_core_rule.Turns.{Member}
 use Rattle.hwp_fault.specs.declared.Access.{Access}
 use Rattle.hwp_fault.specs.declared.AccessAnswer.{AccessAnswer}
 use Rattle.hwp_fault.specs.declared.AccessAnswer.TheVariants as access_answers

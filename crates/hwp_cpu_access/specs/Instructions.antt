@@ -13,8 +13,8 @@ use Rattle.hwp_fault.specs.hwp_words.Stops.{has_no_memory}
 use Rattle.hwp_fault.specs.hwp_core_rule.declared.SharedWord.TheVariants as places
 use Rattle.hwp_fault.specs.hwp_core_rule.declared.Step.{Step}
 use Rattle.hwp_fault.specs.hwp_core_rule.declared.Step.TheVariants as steps
-use Rattle.hwp_fault.specs.hwp_core_task.declared.Turn.{Turn}
-use Rattle.hwp_fault.specs.hwp_core_task.declared.Turn.TheVariants.{Moved, NoMemory, Waits}
+use Rattle.hwp_fault.specs.hwp_core_rule.declared.Turn.{Turn}
+use Rattle.hwp_fault.specs.hwp_core_rule.declared.Turn.TheVariants.{Moved, NoMemory, Waits}
 use Rattle.hwp_fault.specs.declared.Access.{Access}
 use Rattle.hwp_fault.specs.declared.AccessAnswer.{AccessAnswer}
 use Rattle.hwp_fault.specs.declared.AccessAnswer.TheVariants as access_answers

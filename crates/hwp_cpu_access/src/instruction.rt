@@ -2,7 +2,7 @@ ghost use Rattle.std.specs.Prelude.{◌≡◌, ◌≤◌, ◌&&◌, Some, None, 
 ghost use Rattle.hwp_cpu_check.specs.hwp_banks.Banks.{empty_banks};
 ghost use Rattle.hwp_cpu_check.specs.Checks.{with_own};
 ghost use Rattle.hwp_cpu_check.specs.hwp_banks.Events.{bank_count};
-ghost use Rattle.hwp_fault.specs.hwp_core_task.declared.Turn.TheVariants.{NoMemory};
+ghost use Rattle.hwp_fault.specs.hwp_core_rule.declared.Turn.TheVariants.{NoMemory};
 ghost use Rattle.hwp_cpu_access.specs.declared.instruction.InstructionAt.TheVariants as states;
 ghost use Rattle.hwp_cpu_access.specs.Instructions.{AfterAccessBy, BeginsCheck, after_handler, after_load, again_with, after_stop, answer, answered, begin, first, give_up, going_on, is_pending, left_to_do, over, over_with, pause, restarted, resume, resumed, turn_of_load, turn_of_stop};
 

@@ -28,7 +28,7 @@ use Rattle.hwp_law_served.specs.hwp_banks.Banks.{Banks}
 use Rattle.hwp_law_served.specs.hwp_law_commands.Commands.{Access, access, access_of, can_fail}
 use Rattle.hwp_law_served.specs.hwp_core_rule.Lists.{EachMember}
 use Rattle.hwp_law_served.proofs.of_hwp_core_rule.MoreEntries.{each-append}
-use Rattle.hwp_law_served.specs.hwp_core_task.Known.{HasMade, HasMadeBeside, HasOnly, HasOnlyBeside, IsOnTheWay, Precedes, Saw, deeds}
+use Rattle.hwp_law_served.specs.hwp_core_rule.Known.{HasMade, HasMadeBeside, HasOnly, HasOnlyBeside, IsOnTheWay, Precedes, Saw, deeds}
 use Rattle.hwp_cpu_command.specs.hwp_fault.declared.AccessAnswer.TheVariants as access_answers
 use Rattle.hwp_cpu_command.specs.hwp_fault.declared.AccessKind.{AccessKind}
 use Rattle.hwp_cpu_command.specs.hwp_fault.declared.AccessKind.TheVariants as kinds

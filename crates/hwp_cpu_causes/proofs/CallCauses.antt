@@ -31,7 +31,7 @@ use Rattle.hwp_law_served.specs.hwp_banks.Banks.{Banks}
 use Rattle.hwp_law_served.specs.hwp_banks.Banks.{raw_event}
 use Rattle.hwp_law_served.specs.hwp_law_commands.Settings.{arguments, settings}
 use Rattle.hwp_law_served.specs.hwp_law_commands.Settings as laws
-use Rattle.hwp_law_served.specs.hwp_core_task.Known.{HasMadeNone, Saw}
+use Rattle.hwp_law_served.specs.hwp_core_rule.Known.{HasMadeNone, Saw}
 use Rattle.hwp_cpu_command.specs.hwp_cpu_control.declared.NestedAnswer.{NestedAnswer}
 use Rattle.hwp_cpu_command.specs.hwp_cpu_control.declared.NestedAnswer.TheVariants as nested_answers
 use Rattle.hwp_cpu_command.specs.hwp_cpu_control.declared.Nested.{Nested}

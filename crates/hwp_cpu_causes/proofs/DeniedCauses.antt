@@ -17,7 +17,7 @@ use Rattle.hwp_law_served.specs.hwp_page.Step.{IsOf}
 use Rattle.hwp_law_served.specs.hwp_core_rule.declared.Made.{Made}
 use Rattle.hwp_law_served.specs.hwp_core_rule.declared.SharedWord.TheVariants as places
 use Rattle.hwp_law_served.specs.hwp_core_rule.declared.View.{View}
-use Rattle.hwp_law_served.specs.hwp_core_task.Known.{HasMadeNone, Saw}
+use Rattle.hwp_law_served.specs.hwp_core_rule.Known.{HasMadeNone, Saw}
 use Rattle.hwp_law_served.specs.hwp_script_lines.declared.Command.{Command}
 use Rattle.hwp_law_served.specs.hwp_script_lines.declared.Command.TheVariants as commands
 use Rattle.hwp_law_served.specs.hwp_script_read.Valid.{IsAccess}

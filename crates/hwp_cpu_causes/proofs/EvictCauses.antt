@@ -11,8 +11,8 @@ use Rattle.hwp_law_served.specs.hwp_core_rule.declared.View.{View}
 use Rattle.hwp_law_served.specs.hwp_script_lines.declared.Command.{Command}
 use Rattle.hwp_law_served.specs.hwp_script_lines.declared.Command.TheVariants as commands
 use Rattle.hwp_law_served.specs.hwp_report_text.declared.Answer.{Answer}
-use Rattle.hwp_law_served.specs.hwp_core_task.Known.{HasMade}
-use Rattle.hwp_law_served.specs.hwp_core_task.Pages.{SawState}
+use Rattle.hwp_law_served.specs.hwp_core_rule.Known.{HasMade}
+use Rattle.hwp_law_served.specs.hwp_core_rule.Pages.{SawState}
 use Rattle.hwp_law_served.specs.hwp_evict.declared.Evict.{Evict}
 use Rattle.hwp_law_served.specs.hwp_evict.declared.EvictAnswer.{EvictAnswer}
 use Rattle.hwp_law_served.specs.hwp_evict.declared.EvictAnswer.TheVariants as answers

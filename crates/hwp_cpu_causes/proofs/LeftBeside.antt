@@ -16,7 +16,7 @@ use Rattle.hwp_law_served.specs.hwp_core_rule.declared.Made.{Made}
 use Rattle.hwp_law_served.specs.hwp_core_rule.declared.View.{View}
 use Rattle.hwp_law_served.specs.hwp_core_rule.Lists.{EachMember}
 use Rattle.hwp_law_served.proofs.of_hwp_core_rule.Lists.{each-push}
-use Rattle.hwp_law_served.specs.hwp_core_task.Known.{HasMadeBeside, HasMadeNoneBeside, HasOnlyBeside, IsOnTheWay, Precedes, deeds, is_failure}
+use Rattle.hwp_law_served.specs.hwp_core_rule.Known.{HasMadeBeside, HasMadeNoneBeside, HasOnlyBeside, IsOnTheWay, Precedes, deeds, is_failure}
 use Rattle.hwp_law_served.specs.hwp_report_text.declared.Answer.{Answer}
 use Rattle.hwp_law_served.specs.hwp_law.Pairings.{is_soft}
 use Rattle.hwp_law_served.specs.hwp_claim.declared.FailAnswer.{FailAnswer}

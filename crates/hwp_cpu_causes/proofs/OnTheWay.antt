@@ -8,7 +8,7 @@ use Rattle.hwp_law_served.specs.hwp_core_rule.declared.Made.{Made}
 use Rattle.hwp_law_served.specs.hwp_core_rule.declared.View.{View}
 use Rattle.hwp_law_served.specs.hwp_core_rule.Lists.{EachMember}
 use Rattle.hwp_law_served.proofs.of_hwp_core_rule.Lists.{each-push}
-use Rattle.hwp_law_served.specs.hwp_core_task.Known.{deeds}
+use Rattle.hwp_law_served.specs.hwp_core_rule.Known.{deeds}
 use Rattle.hwp_law_served.specs.hwp_script_lines.declared.Command.{Command}
 use Rattle.hwp_law_served.specs.hwp_script_lines.declared.Command.TheVariants as commands
 use Rattle.hwp_law_served.specs.hwp_law_commands.Commands.{Access, access, access_of, can_fail}

@@ -9,7 +9,7 @@ use Rattle.hwp_banks.specs.declared.Origin.{Origin}
 use Rattle.hwp_banks.specs.Events.{bank_of, own_event}
 use Rattle.hwp_claim.specs.hwp_claim_frame.hwp_core_rule.declared.SharedWord.TheVariants as places
 use Rattle.hwp_claim.specs.hwp_claim_frame.hwp_core_rule.declared.View.{View}
-use Rattle.hwp_claim.specs.hwp_claim_frame.hwp_core_task.Known.{Saw}
+use Rattle.hwp_claim.specs.hwp_claim_frame.hwp_core_rule.Known.{Saw}
 use Rattle.hwp_banks.specs.Banks.{Banks, empty_banks, log_in}
 use Rattle.hwp_law_commands.specs.hwp_severity.Handling.{has_stop}
 use Rattle.hwp_law_commands.specs.Commands.{arrival}

@@ -16,10 +16,10 @@ use Rattle.hwp_claim.specs.hwp_claim_frame.hwp_core_rule.declared.Mark.{Mark}
 use Rattle.hwp_claim.specs.hwp_claim_frame.hwp_core_rule.declared.MarkKind.TheVariants as mark_kinds
 use Rattle.hwp_claim.specs.hwp_claim_frame.hwp_core_rule.declared.View.{View}
 use Rattle.hwp_claim.specs.hwp_claim_frame.hwp_core_rule.Lists.{SomeMember}
-use Rattle.hwp_claim.specs.hwp_claim_frame.hwp_core_task.Calls.{IsOnTurn}
-use Rattle.hwp_claim.specs.hwp_claim_frame.hwp_core_task.Hands.{hand_of, empty}
-use Rattle.hwp_claim.specs.hwp_claim_frame.hwp_core_task.Known.{IsAt, deeds}
-use Rattle.hwp_claim.specs.hwp_claim_frame.hwp_core_task.Turns.{Member}
+use Rattle.hwp_claim.specs.hwp_claim_frame.hwp_core_rule.Calls.{IsOnTurn}
+use Rattle.hwp_claim.specs.hwp_claim_frame.hwp_core_rule.Hands.{hand_of, empty}
+use Rattle.hwp_claim.specs.hwp_claim_frame.hwp_core_rule.Known.{IsAt, deeds}
+use Rattle.hwp_claim.specs.hwp_claim_frame.hwp_core_rule.Turns.{Member}
 use Rattle.hwp_claim.specs.hwp_claim_act.Abandoned.{IsOfPage}
 use Rattle.hwp_claim.specs.hwp_claim_act.Abandons.{signals_now}
 use Rattle.hwp_claim.specs.hwp_claim_frame.Claims.{IsStopped, SawPoison, marks_by}

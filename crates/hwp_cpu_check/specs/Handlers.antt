@@ -10,8 +10,8 @@ use Rattle.hwp_claim.specs.hwp_claim_frame.hwp_words.Stops.{is_stopped}
 use Rattle.hwp_claim.specs.hwp_claim_frame.hwp_core_rule.declared.Step.{Step}
 use Rattle.hwp_claim.specs.hwp_claim_frame.hwp_core_rule.declared.Step.TheVariants as steps
 use Rattle.hwp_claim.specs.hwp_claim_frame.hwp_core_rule.Words.{Words}
-use Rattle.hwp_claim.specs.hwp_claim_frame.hwp_core_task.declared.Turn.{Turn}
-use Rattle.hwp_claim.specs.hwp_claim_frame.hwp_core_task.declared.Turn.TheVariants.{Moved}
+use Rattle.hwp_claim.specs.hwp_claim_frame.hwp_core_rule.declared.Turn.{Turn}
+use Rattle.hwp_claim.specs.hwp_claim_frame.hwp_core_rule.declared.Turn.TheVariants.{Moved}
 use Rattle.hwp_claim.specs.hwp_claim_frame.Claims.{stop_turn}
 use Rattle.hwp_law_commands.specs.hwp_report_text.declared.Acted.{Acted}
 use Rattle.hwp_banks.specs.Banks.{Banks}

@@ -12,7 +12,6 @@ pub use Rattle.hwp_claim.specs.hwp_claim_act as hwp_claim_act
 pub use Rattle.hwp_claim.specs.hwp_claim_frame as hwp_claim_frame
 pub use Rattle.hwp_claim.specs.hwp_claim_frame.hwp_core as hwp_core
 pub use Rattle.hwp_claim.specs.hwp_claim_frame.hwp_core_rule as hwp_core_rule
-pub use Rattle.hwp_claim.specs.hwp_claim_frame.hwp_core_task as hwp_core_task
 pub use Rattle.hwp_banks.specs.hwp_geom as hwp_geom
 pub use Rattle.hwp_law_commands.specs as hwp_law_commands
 pub use Rattle.hwp_claim.specs.hwp_claim_frame.hwp_page as hwp_page

@@ -6,7 +6,7 @@ use Rattle.hwp_cpu_control.specs.hwp_geom.declared.Layout.{Layout}
 use Rattle.hwp_cpu_row.specs.hwp_report_text.declared.Answer.{Answer}
 use Rattle.hwp_cpu_control.specs.hwp_core_rule.declared.Made.{Made}
 use Rattle.hwp_cpu_control.specs.hwp_core_rule.declared.View.{View}
-use Rattle.hwp_cpu_control.specs.hwp_core_task.Hands.{hand_of, empty}
+use Rattle.hwp_cpu_control.specs.hwp_core_rule.Hands.{hand_of, empty}
 use Rattle.hwp_cpu_control.specs.declared.nested.NestedAt.{NestedAt}
 use Rattle.hwp_cpu_control.specs.declared.nested.NestedAt.TheVariants as nested_at
 use Rattle.hwp_cpu_control.specs.declared.denied.DeniedAt.{DeniedAt}

@@ -5,9 +5,9 @@ use Rattle.hwp_cpu_control.specs.hwp_geom.declared.Layout.{Layout}
 use Rattle.hwp_cpu_control.specs.hwp_geom.declared.Who.{Who}
 use Rattle.hwp_cpu_control.specs.hwp_page.History.{BodyValue}
 use Rattle.hwp_cpu_control.specs.hwp_words.Stops.{is_stopped}
-use Rattle.hwp_cpu_control.specs.hwp_core_task.declared.Turn.{Turn}
-use Rattle.hwp_cpu_control.specs.hwp_core_task.declared.Turn.TheVariants as turns
-use Rattle.hwp_cpu_control.specs.hwp_core_task.Ranks.{is_refused}
+use Rattle.hwp_cpu_control.specs.hwp_core_rule.declared.Turn.{Turn}
+use Rattle.hwp_cpu_control.specs.hwp_core_rule.declared.Turn.TheVariants as turns
+use Rattle.hwp_cpu_control.specs.hwp_core_rule.Ranks.{is_refused}
 use Rattle.hwp_evict.specs.hwp_core.declared.give_up.GiveUp.{GiveUp}
 use Rattle.hwp_evict.specs.hwp_core.Holds.{is_free}
 use Rattle.hwp_soft.specs.hwp_claim_act.declared.abandon.Failed.{Failed}

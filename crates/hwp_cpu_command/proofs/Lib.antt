@@ -5,7 +5,6 @@ pub mod JobLaws
 mod AccessBegins
 pub use Rattle.hwp_soft.proofs.of_hwp_claim as of_hwp_claim
 pub use Rattle.hwp_cpu_control.proofs.of_hwp_core_rule as of_hwp_core_rule
-pub use Rattle.hwp_cpu_control.proofs.of_hwp_core_task as of_hwp_core_task
 pub use Rattle.hwp_cpu_copy.proofs.of_hwp_cpu_access as of_hwp_cpu_access
 pub use Rattle.hwp_cpu_row.proofs.of_hwp_cpu_check as of_hwp_cpu_check
 pub use Rattle.hwp_cpu_control.proofs as of_hwp_cpu_control

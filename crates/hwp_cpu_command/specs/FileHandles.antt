@@ -2,7 +2,7 @@
 -- processor has seen, and its collector of corrected errors.
 use Rattle.std.specs.Prelude.{◌≡◌, ◌⊎◌, ℕ, Bool, false, true, List, [], ◌∷◌, ◌++◌, length, slice_set, Option, Some, None, option_map}
 use Rattle.hwp_cpu_control.specs.hwp_core_rule.declared.View.{View}
-use Rattle.hwp_cpu_control.specs.hwp_core_task.Known.{HasSeenLoss}
+use Rattle.hwp_cpu_control.specs.hwp_core_rule.Known.{HasSeenLoss}
 use Rattle.hwp_evict.specs.declared.FsyncAnswer.TheVariants as fsync_answers
 use Rattle.hwp_evict.specs.declared.fsync.FsyncAt.{FsyncAt}
 use Rattle.hwp_evict.specs.declared.fsync.FsyncAt.TheVariants as fsync_at

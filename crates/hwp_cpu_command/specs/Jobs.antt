@@ -9,9 +9,9 @@ use Rattle.hwp_cpu_control.specs.hwp_core_rule.declared.Made.{Made}
 use Rattle.hwp_cpu_control.specs.hwp_core_rule.declared.Step.{Step}
 use Rattle.hwp_cpu_control.specs.hwp_core_rule.declared.View.{View}
 use Rattle.hwp_cpu_control.specs.hwp_core_rule.Words.{Words}
-use Rattle.hwp_cpu_control.specs.hwp_core_task.declared.Turn.{Turn}
-use Rattle.hwp_cpu_control.specs.hwp_core_task.declared.Turn.TheVariants.{Moved}
-use Rattle.hwp_cpu_control.specs.hwp_core_task.Turns.{Member}
+use Rattle.hwp_cpu_control.specs.hwp_core_rule.declared.Turn.{Turn}
+use Rattle.hwp_cpu_control.specs.hwp_core_rule.declared.Turn.TheVariants.{Moved}
+use Rattle.hwp_cpu_control.specs.hwp_core_rule.Turns.{Member}
 use Rattle.hwp_cpu_control.specs.Denieds as denieds
 use Rattle.hwp_cpu_control.specs.Nesteds as nesteds
 use Rattle.hwp_cpu_control.specs.Forks as forks

@@ -12,7 +12,6 @@ pub use Rattle.hwp_soft.specs.hwp_claim_act as hwp_claim_act
 pub use Rattle.hwp_soft.specs.hwp_claim_frame as hwp_claim_frame
 pub use Rattle.hwp_evict.specs.hwp_core as hwp_core
 pub use Rattle.hwp_cpu_control.specs.hwp_core_rule as hwp_core_rule
-pub use Rattle.hwp_cpu_control.specs.hwp_core_task as hwp_core_task
 pub use Rattle.hwp_cpu_copy.specs.hwp_cpu_access as hwp_cpu_access
 pub use Rattle.hwp_cpu_row.specs.hwp_cpu_check as hwp_cpu_check
 pub use Rattle.hwp_cpu_control.specs as hwp_cpu_control

@@ -10,9 +10,9 @@ use Rattle.hwp_cpu_row.specs.hwp_script_lines.declared.Command.{Command}
 use Rattle.hwp_cpu_row.specs.hwp_script_lines.declared.Command.TheVariants as commands
 use Rattle.hwp_cpu_control.specs.hwp_core_rule.declared.View.{View}
 use Rattle.hwp_cpu_control.specs.hwp_core_rule.parts.Policies.{settings_of}
-use Rattle.hwp_cpu_control.specs.hwp_core_task.Calls.{IsOnTurn}
-use Rattle.hwp_cpu_control.specs.hwp_core_task.Hands.{hand_of, empty}
-use Rattle.hwp_cpu_control.specs.hwp_core_task.Known.{HasMadeNone}
+use Rattle.hwp_cpu_control.specs.hwp_core_rule.Calls.{IsOnTurn}
+use Rattle.hwp_cpu_control.specs.hwp_core_rule.Hands.{hand_of, empty}
+use Rattle.hwp_cpu_control.specs.hwp_core_rule.Known.{HasMadeNone}
 use Rattle.hwp_soft.specs.hwp_claim_frame.Claims.{HasMarkedNone}
 use Rattle.hwp_cpu_control.specs.declared.Denial.{Denial}
 use Rattle.hwp_cpu_control.specs.Denieds as denieds

@@ -12,8 +12,8 @@ use Rattle.hwp_cpu_control.specs.hwp_core_rule.declared.Spoiled.{Spoiled}
 use Rattle.hwp_cpu_control.specs.hwp_core_rule.declared.Step.{Step}
 use Rattle.hwp_cpu_control.specs.hwp_core_rule.declared.View.{View}
 use Rattle.hwp_cpu_control.specs.hwp_core_rule.Lists.{SomeMember}
-use Rattle.hwp_cpu_control.specs.hwp_core_task.declared.Turn.{Turn}
-use Rattle.hwp_cpu_control.specs.hwp_core_task.Calls.{Steps, logs}
+use Rattle.hwp_cpu_control.specs.hwp_core_rule.declared.Turn.{Turn}
+use Rattle.hwp_cpu_control.specs.hwp_core_rule.Calls.{Steps, logs}
 use Rattle.hwp_cpu_row.specs.hwp_report_text.declared.Answer.TheVariants as answers
 use Rattle.hwp_cpu_control.specs.declared.NestedAnswer.TheVariants as nested_answers
 use Rattle.hwp_cpu_control.specs.declared.SpoilAnswer.TheVariants as spoil_answers

@@ -17,7 +17,7 @@ use Rattle.hwp_cpu_command.specs.hwp_core_rule.declared.State.{State}
 use Rattle.hwp_cpu_command.specs.hwp_core_rule.declared.View.{View}
 use Rattle.hwp_cpu_command.specs.hwp_core_rule.Rule.{Holds}
 use Rattle.hwp_cpu_command.specs.hwp_core_rule.Words.{Words}
-use Rattle.hwp_cpu_command.specs.hwp_core_task.Ranks.{words_at, again_most, failure_weight, free_room}
+use Rattle.hwp_cpu_command.specs.hwp_core_rule.Ranks.{words_at, again_most, failure_weight, free_room}
 use Rattle.hwp_cpu_command.proofs.of_hwp_cpu_control.DeniedLaws as denying
 use Rattle.hwp_cpu_command.proofs.of_hwp_cpu_control.PrctlLaws as calling
 use Rattle.hwp_cpu_command.proofs.of_hwp_cpu_control.ForkLaws as forking

@@ -7,7 +7,7 @@ use Rattle.hwp_cpu_command.specs.hwp_geom.declared.Who.{Who}
 use Rattle.hwp_cpu_command.specs.hwp_banks.Banks.{Banks}
 use Rattle.hwp_cpu_command.specs.hwp_page.History.{BodyValue}
 use Rattle.hwp_cpu_command.specs.hwp_core_rule.declared.Step.{Step}
-use Rattle.hwp_cpu_command.specs.hwp_core_task.declared.Turn.{Turn}
+use Rattle.hwp_cpu_command.specs.hwp_core_rule.declared.Turn.{Turn}
 use Rattle.hwp_cpu_command.specs.hwp_claim_act.declared.Failed.{Failed}
 use Rattle.hwp_cpu_command.specs.hwp_report_text.declared.Answer.{Answer}
 use Rattle.hwp_cpu_command.specs.hwp_report_text.declared.Answer.TheVariants as answers

@@ -12,9 +12,9 @@ use Rattle.hwp_cpu_command.specs.hwp_core_rule.declared.SharedWord.TheVariants a
 use Rattle.hwp_cpu_command.specs.hwp_core_rule.declared.Step.{Step}
 use Rattle.hwp_cpu_command.specs.hwp_core_rule.declared.Step.TheVariants as steps
 use Rattle.hwp_cpu_command.specs.hwp_core_rule.declared.View.{View}
-use Rattle.hwp_cpu_command.specs.hwp_core_task.declared.Turn.{Turn}
-use Rattle.hwp_cpu_command.specs.hwp_core_task.Calls.{Steps, logs}
-use Rattle.hwp_cpu_command.proofs.of_hwp_core_task.StepLeaves.{steps-planned}
+use Rattle.hwp_cpu_command.specs.hwp_core_rule.declared.Turn.{Turn}
+use Rattle.hwp_cpu_command.specs.hwp_core_rule.Calls.{Steps, logs}
+use Rattle.hwp_cpu_command.proofs.of_hwp_core_rule.StepLeaves.{steps-planned}
 use Rattle.hwp_cpu_command.specs.hwp_cpu_control.declared.Nested.{Nested}
 use Rattle.hwp_cpu_command.specs.hwp_cpu_control.declared.NestedAnswer.TheVariants as nested_answers
 use Rattle.hwp_cpu_command.specs.hwp_cpu_control.declared.Fork.{Fork}

@@ -21,7 +21,7 @@ use Rattle.hwp_cpu_command.specs.hwp_script_lines.declared.Command.{Command}
 use Rattle.hwp_cpu_command.specs.hwp_script_lines.declared.Command.TheVariants as commands
 use Rattle.hwp_cpu_command.specs.hwp_script_lines.declared.PrctlArgs.{PrctlArgs}
 use Rattle.hwp_cpu_command.specs.hwp_core_rule.declared.View.{View}
-use Rattle.hwp_cpu_command.specs.hwp_core_task.declared.Turn.{Turn}
+use Rattle.hwp_cpu_command.specs.hwp_core_rule.declared.Turn.{Turn}
 use Rattle.hwp_cpu_command.specs.hwp_banks.Banks.{Banks}
 use Rattle.hwp_cpu_command.specs.hwp_report_text.declared.Answer.{Answer}
 use Rattle.hwp_cpu_command.specs.hwp_cpu_check.hwp_guest.declared.Admit.{Admit}

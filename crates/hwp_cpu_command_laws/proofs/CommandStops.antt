@@ -23,11 +23,11 @@ use Rattle.hwp_cpu_command.specs.hwp_core_rule.Lists.{SomeMember}
 use Rattle.hwp_cpu_command.specs.hwp_core_rule.Views.{noted, stamp_of}
 use Rattle.hwp_cpu_command.specs.hwp_core_rule.Words.{words_of}
 use Rattle.hwp_cpu_command.proofs.of_hwp_core_rule.Lists.{at_map, some-push}
-use Rattle.hwp_cpu_command.specs.hwp_core_task.declared.Turn.{Turn}
-use Rattle.hwp_cpu_command.specs.hwp_core_task.Calls.{Steps, logs as logs_of}
-use Rattle.hwp_cpu_command.proofs.of_hwp_core_task.StepLeaves.{steps-planned}
-use Rattle.hwp_cpu_command.specs.hwp_core_task.Known.{Saw, SawStop}
-use Rattle.hwp_cpu_command.proofs.of_hwp_core_task.SightKeeps.{saw-load, saw-stays}
+use Rattle.hwp_cpu_command.specs.hwp_core_rule.declared.Turn.{Turn}
+use Rattle.hwp_cpu_command.specs.hwp_core_rule.Calls.{Steps, logs as logs_of}
+use Rattle.hwp_cpu_command.proofs.of_hwp_core_rule.StepLeaves.{steps-planned}
+use Rattle.hwp_cpu_command.specs.hwp_core_rule.Known.{Saw, SawStop}
+use Rattle.hwp_cpu_command.proofs.of_hwp_core_rule.SightKeeps.{saw-load, saw-stays}
 use Rattle.hwp_cpu_command.specs.hwp_script_lines.declared.Command.{Command}
 use Rattle.hwp_cpu_command.specs.hwp_report_text.declared.Answer.{Answer}
 use Rattle.hwp_cpu_command.specs.hwp_report_text.declared.Answer.TheVariants as answers

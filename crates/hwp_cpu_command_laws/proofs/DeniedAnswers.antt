@@ -11,8 +11,8 @@ use Rattle.hwp_cpu_command.specs.hwp_page.declared.Outcome.TheVariants as outcom
 use Rattle.hwp_cpu_command.specs.hwp_page.Situations.{outcome_of}
 use Rattle.hwp_cpu_command.specs.hwp_core_rule.declared.Made.{Made}
 use Rattle.hwp_cpu_command.specs.hwp_core_rule.declared.View.{View}
-use Rattle.hwp_cpu_command.specs.hwp_core_task.Known.{HasMadeNone}
-use Rattle.hwp_cpu_command.specs.hwp_core_task.declared.Turn.{Turn}
+use Rattle.hwp_cpu_command.specs.hwp_core_rule.Known.{HasMadeNone}
+use Rattle.hwp_cpu_command.specs.hwp_core_rule.declared.Turn.{Turn}
 use Rattle.hwp_cpu_command.specs.hwp_report_text.declared.Answer.{Answer}
 use Rattle.hwp_cpu_command.specs.hwp_report_text.declared.Answer.TheVariants as answers
 use Rattle.hwp_cpu_command.specs.hwp_law_commands.Outcomes.{outcome_answer, reply_answer}

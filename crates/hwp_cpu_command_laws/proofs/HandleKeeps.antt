@@ -3,7 +3,7 @@ use Rattle.std.proofs.Common.{ℕ, ◌-◌, ◌==◌, Bool, true, false, cond, L
 use Rattle.hwp_cpu_command.specs.hwp_geom.declared.Layout.{Layout}
 use Rattle.hwp_cpu_command.specs.hwp_page.History.{BodyValue}
 use Rattle.hwp_cpu_command.specs.hwp_words.Stops.{is_stopped}
-use Rattle.hwp_cpu_command.specs.hwp_core_task.declared.Turn.{Turn}
+use Rattle.hwp_cpu_command.specs.hwp_core_rule.declared.Turn.{Turn}
 use Rattle.hwp_cpu_command.specs.hwp_evict.declared.FsyncAnswer.TheVariants as fsync_answers
 use Rattle.hwp_cpu_command.specs.hwp_evict.declared.fsync.FsyncAt.{FsyncAt}
 use Rattle.hwp_cpu_command.specs.hwp_evict.declared.fsync.FsyncAt.TheVariants as fsync_at

@@ -6,7 +6,7 @@ use Rattle.hwp_cpu_command.specs.hwp_geom.declared.Page.{Page}
 use Rattle.hwp_cpu_command.specs.hwp_page.History.{BodyValue}
 use Rattle.hwp_cpu_command.specs.hwp_words.Names.{page_named}
 use Rattle.hwp_cpu_command.specs.hwp_words.Stops.{is_stopped}
-use Rattle.hwp_cpu_command.specs.hwp_core_task.declared.Turn.{Turn}
+use Rattle.hwp_cpu_command.specs.hwp_core_rule.declared.Turn.{Turn}
 use Rattle.hwp_cpu_command.specs.hwp_fault.declared.AccessAnswer.{AccessAnswer}
 use Rattle.hwp_cpu_command.specs.hwp_fault.declared.AccessAnswer.TheVariants as access_answers
 use Rattle.hwp_cpu_command.specs.hwp_fault.Accesses as accesses

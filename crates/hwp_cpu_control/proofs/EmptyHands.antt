@@ -1,18 +1,18 @@
 -- What a step leaves that holds nothing: the hand stays empty, and the command has made no entry.
 use Rattle.std.proofs.Common.{◌≡◌, ℕ, true, Option, ap, inl, inr}
-use Rattle.hwp_core_task.specs.hwp_geom.declared.Layout.{Layout}
-use Rattle.hwp_core_task.specs.hwp_geom.declared.Who.{Who}
-use Rattle.hwp_core_task.specs.hwp_page.History.{BodyValue}
-use Rattle.hwp_core_task.specs.hwp_words.Stops.{is_stopped}
-use Rattle.hwp_core_task.specs.hwp_core_rule.declared.Log.{Log}
-use Rattle.hwp_core_task.specs.hwp_core_rule.declared.SharedWord.TheVariants as places
-use Rattle.hwp_core_task.specs.hwp_core_rule.declared.Step.TheVariants as steps
-use Rattle.hwp_core_task.specs.hwp_core_rule.declared.View.{View}
-use Rattle.hwp_core_task.specs.Calls.{Steps}
-use Rattle.hwp_core_task.specs.Ranks.{HasFrame, HasPage}
-use Rattle.hwp_core_task.specs.Hands.{Hand, hand_of, empty}
-use Rattle.hwp_core_task.specs.Known.{SawStop}
-use Rattle.hwp_core_task.proofs.SightKeeps.{saw-load}
+use Rattle.hwp_core_rule.specs.hwp_geom.declared.Layout.{Layout}
+use Rattle.hwp_core_rule.specs.hwp_geom.declared.Who.{Who}
+use Rattle.hwp_core_rule.specs.hwp_page.History.{BodyValue}
+use Rattle.hwp_core_rule.specs.hwp_words.Stops.{is_stopped}
+use Rattle.hwp_core_rule.specs.declared.Log.{Log}
+use Rattle.hwp_core_rule.specs.declared.SharedWord.TheVariants as places
+use Rattle.hwp_core_rule.specs.declared.Step.TheVariants as steps
+use Rattle.hwp_core_rule.specs.declared.View.{View}
+use Rattle.hwp_core_rule.specs.Calls.{Steps}
+use Rattle.hwp_core_rule.specs.Ranks.{HasFrame, HasPage}
+use Rattle.hwp_core_rule.specs.Hands.{Hand, hand_of, empty}
+use Rattle.hwp_core_rule.specs.Known.{SawStop}
+use Rattle.hwp_core_rule.proofs.SightKeeps.{saw-load}
 
 -- a view that holds nothing has no frame and no page
 pub no-frame : (view : View) → hand_of view ≡ empty → HasFrame view → ⊥

@@ -3,37 +3,37 @@ use Rattle.std.proofs.Common.{◌≡◌, ◌≢◌, ℕ, ◌+◌, ◌-◌, ◌^�
 use Rattle.std.proofs.lemmas.Bool.{both_ways, ltb-true, ne_eqb}
 use Rattle.std.proofs.lemmas.List.Elements.{filter-append}
 use Rattle.std.proofs.lemmas.Option.{none-some, same_Some, slice_get_within}
-use Rattle.hwp_core_task.specs.hwp_geom.declared.Layout.{Layout}
-use Rattle.hwp_core_task.specs.hwp_geom.declared.Page.{Page}
-use Rattle.hwp_core_task.specs.hwp_geom.declared.Thread.{Thread}
-use Rattle.hwp_core_task.specs.hwp_geom.declared.Who.{Who}
-use Rattle.hwp_core_task.specs.hwp_geom.Limits.{command_limit, page_limit, thread_limit}
-use Rattle.hwp_core_task.specs.hwp_kill.declared.Policy.{Policy}
-use Rattle.hwp_core_task.specs.hwp_kill.declared.Policy.TheVariants as policy_names
-use Rattle.hwp_core_task.specs.hwp_page.History.{BodyValue}
-use Rattle.hwp_core_task.specs.hwp_words.Names.{page_named}
-use Rattle.hwp_core_task.specs.hwp_words.Policies as words
-use Rattle.hwp_core_task.specs.hwp_words.Stops.{is_stopped}
-use Rattle.hwp_core_task.specs.hwp_core_rule.declared.SharedWord.TheVariants as places
-use Rattle.hwp_core_task.specs.hwp_core_rule.declared.Setting.{Setting}
-use Rattle.hwp_core_task.specs.hwp_core_rule.declared.Step.{Step}
-use Rattle.hwp_core_task.specs.hwp_core_rule.declared.Step.TheVariants as steps
-use Rattle.hwp_core_task.specs.hwp_core_rule.declared.View.{View}
-use Rattle.hwp_core_task.specs.hwp_core_rule.Lasting.{IsMild}
-use Rattle.hwp_core_task.specs.hwp_core_rule.Views.{noted, stamp_of}
-use Rattle.hwp_core_task.specs.hwp_core_rule.parts.Policies.{last_policy, settings_of, PolicyAgrees}
-use Rattle.hwp_core_task.specs.declared.Turn.{Turn}
-use Rattle.hwp_core_task.specs.declared.Turn.TheVariants.{Moved}
-use Rattle.hwp_core_task.specs.Boards.{view_of}
-use Rattle.hwp_core_task.specs.Calls.{CanMake, Steps}
-use Rattle.hwp_core_task.specs.Hands.{hand_of, empty}
-use Rattle.hwp_core_task.specs.Ranks.{IsRanked, is_waits}
-use Rattle.hwp_core_task.specs.Classes.{TellsClass}
-use Rattle.hwp_core_task.proofs.StepRanks.{rank-of}
-use Rattle.hwp_core_task.proofs.StepLeaves.{can-make, hand-planned, on-turn-after, steps-planned}
-use Rattle.hwp_core_task.specs.Known.{Saw, deeds}
-use Rattle.hwp_core_task.proofs.MadeEntries.{deeds-same}
-use Rattle.hwp_core_task.proofs.SightKeeps.{saw-load, saw-stays}
+use Rattle.hwp_core_rule.specs.hwp_geom.declared.Layout.{Layout}
+use Rattle.hwp_core_rule.specs.hwp_geom.declared.Page.{Page}
+use Rattle.hwp_core_rule.specs.hwp_geom.declared.Thread.{Thread}
+use Rattle.hwp_core_rule.specs.hwp_geom.declared.Who.{Who}
+use Rattle.hwp_core_rule.specs.hwp_geom.Limits.{command_limit, page_limit, thread_limit}
+use Rattle.hwp_core_rule.specs.hwp_kill.declared.Policy.{Policy}
+use Rattle.hwp_core_rule.specs.hwp_kill.declared.Policy.TheVariants as policy_names
+use Rattle.hwp_core_rule.specs.hwp_page.History.{BodyValue}
+use Rattle.hwp_core_rule.specs.hwp_words.Names.{page_named}
+use Rattle.hwp_core_rule.specs.hwp_words.Policies as words
+use Rattle.hwp_core_rule.specs.hwp_words.Stops.{is_stopped}
+use Rattle.hwp_core_rule.specs.declared.SharedWord.TheVariants as places
+use Rattle.hwp_core_rule.specs.declared.Setting.{Setting}
+use Rattle.hwp_core_rule.specs.declared.Step.{Step}
+use Rattle.hwp_core_rule.specs.declared.Step.TheVariants as steps
+use Rattle.hwp_core_rule.specs.declared.View.{View}
+use Rattle.hwp_core_rule.specs.Lasting.{IsMild}
+use Rattle.hwp_core_rule.specs.Views.{noted, stamp_of}
+use Rattle.hwp_core_rule.specs.parts.Policies.{last_policy, settings_of, PolicyAgrees}
+use Rattle.hwp_core_rule.specs.declared.Turn.{Turn}
+use Rattle.hwp_core_rule.specs.declared.Turn.TheVariants.{Moved}
+use Rattle.hwp_core_rule.specs.Boards.{view_of}
+use Rattle.hwp_core_rule.specs.Calls.{CanMake, Steps}
+use Rattle.hwp_core_rule.specs.Hands.{hand_of, empty}
+use Rattle.hwp_core_rule.specs.Ranks.{IsRanked, is_waits}
+use Rattle.hwp_core_rule.specs.Classes.{TellsClass}
+use Rattle.hwp_core_rule.proofs.StepRanks.{rank-of}
+use Rattle.hwp_core_rule.proofs.StepLeaves.{can-make, hand-planned, on-turn-after, steps-planned}
+use Rattle.hwp_core_rule.specs.Known.{Saw, deeds}
+use Rattle.hwp_core_rule.proofs.MadeEntries.{deeds-same}
+use Rattle.hwp_core_rule.proofs.SightKeeps.{saw-load, saw-stays}
 use Rattle.hwp_cpu_control.specs.declared.fork.Fork.{Fork}
 use Rattle.hwp_cpu_control.specs.declared.fork.ForkAt.{ForkAt}
 use Rattle.hwp_cpu_control.specs.declared.fork.ForkAt.TheVariants as at

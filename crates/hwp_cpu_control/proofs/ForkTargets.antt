@@ -3,12 +3,12 @@ use Rattle.std.proofs.Common.{◌≡◌, ◌≢◌, ℕ, zero, suc, ◌+◌, ◌
 use Rattle.std.proofs.lemmas.Bool.{ltb-true}
 use Rattle.std.proofs.lemmas.Option.{get_or_from_slice_get, none-some, same_Some, slice_get-get_or, slice_get_within}
 use Rattle.std.proofs.lemmas.List.{get_or-take, length-take, length-take-le, take_more}
-use Rattle.hwp_core_task.specs.hwp_geom.declared.Layout.{Layout}
-use Rattle.hwp_core_task.specs.hwp_geom.declared.Proc.{Proc}
-use Rattle.hwp_core_task.specs.hwp_geom.declared.Thread.{Thread}
-use Rattle.hwp_core_task.specs.hwp_geom.declared.ThreadDecl.{ThreadDecl}
-use Rattle.hwp_core_task.specs.hwp_geom.declared.Who.{Who}
-use Rattle.hwp_core_task.specs.hwp_geom.Limits.{thread_limit}
+use Rattle.hwp_core_rule.specs.hwp_geom.declared.Layout.{Layout}
+use Rattle.hwp_core_rule.specs.hwp_geom.declared.Proc.{Proc}
+use Rattle.hwp_core_rule.specs.hwp_geom.declared.Thread.{Thread}
+use Rattle.hwp_core_rule.specs.hwp_geom.declared.ThreadDecl.{ThreadDecl}
+use Rattle.hwp_core_rule.specs.hwp_geom.declared.Who.{Who}
+use Rattle.hwp_core_rule.specs.hwp_geom.Limits.{thread_limit}
 use Rattle.hwp_cpu_control.specs.declared.fork.Targets.{Targets}
 use Rattle.hwp_cpu_control.specs.Forks.{AreTargets, IsTarget, target_at, threads_of}
 

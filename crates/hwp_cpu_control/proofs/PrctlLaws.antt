@@ -3,48 +3,48 @@ use Rattle.std.proofs.Common.{◌≡◌, ◌≢◌, ℕ, ◌+◌, ◌-◌, ◌%�
 use Rattle.std.proofs.lemmas.Bool.{both_ways, eqb-true, eqb-false}
 use Rattle.std.proofs.lemmas.List.Elements.{filter-append}
 use Rattle.std.proofs.lemmas.Option.{none-some, same_Some, slice_get_within}
-use Rattle.hwp_core_task.specs.hwp_geom.declared.Layout.{Layout}
-use Rattle.hwp_core_task.specs.hwp_geom.declared.Page.{Page}
-use Rattle.hwp_core_task.specs.hwp_geom.declared.Proc.{Proc}
-use Rattle.hwp_core_task.specs.hwp_geom.declared.Thread.{Thread}
-use Rattle.hwp_core_task.specs.hwp_geom.declared.ThreadDecl.{ThreadDecl}
-use Rattle.hwp_core_task.specs.hwp_geom.declared.Who.{Who}
-use Rattle.hwp_core_task.specs.hwp_geom.Limits.{command_limit, page_limit}
-use Rattle.hwp_core_task.specs.hwp_kill.declared.Policy.{Policy}
-use Rattle.hwp_core_task.specs.hwp_kill.declared.Policy.TheVariants as policy_names
-use Rattle.hwp_core_task.specs.hwp_kill.declared.Reply.{Reply}
-use Rattle.hwp_core_task.specs.hwp_kill.declared.Reply.TheVariants as replies
-use Rattle.hwp_core_task.specs.hwp_kill.Prctl.{reply}
-use Rattle.hwp_core_task.specs.hwp_page.History.{BodyValue}
-use Rattle.hwp_core_task.specs.hwp_words.Names.{page_named}
-use Rattle.hwp_core_task.specs.hwp_words.Policies as words
-use Rattle.hwp_core_task.specs.hwp_words.Stops.{is_stopped}
-use Rattle.hwp_core_task.specs.hwp_core_rule.declared.SharedWord.TheVariants as places
-use Rattle.hwp_core_task.specs.hwp_core_rule.declared.Setting.{Setting}
-use Rattle.hwp_core_task.specs.hwp_core_rule.declared.State.{State}
-use Rattle.hwp_core_task.specs.hwp_core_rule.declared.Step.{Step}
-use Rattle.hwp_core_task.specs.hwp_core_rule.declared.Step.TheVariants as steps
-use Rattle.hwp_core_task.specs.hwp_core_rule.declared.View.{View}
-use Rattle.hwp_core_task.specs.hwp_core_rule.Rule.{Holds}
-use Rattle.hwp_core_task.specs.hwp_core_rule.Lasting.{IsMild}
-use Rattle.hwp_core_task.specs.hwp_core_rule.Steps.{policy_at}
-use Rattle.hwp_core_task.specs.hwp_core_rule.Views.{noted, stamp_of}
-use Rattle.hwp_core_task.specs.hwp_core_rule.Words.{index, words_of}
-use Rattle.hwp_core_task.specs.hwp_core_rule.parts.Policies.{last_policy, settings_of, PolicyAgrees}
-use Rattle.hwp_core_task.proofs.of_hwp_core_rule.Lists.{at_map}
-use Rattle.hwp_core_task.proofs.of_hwp_core_rule.MoveKeeps.{shaped}
-use Rattle.hwp_core_task.proofs.of_hwp_core_rule.WordsByKind.{word-there, words-read}
-use Rattle.hwp_core_task.specs.declared.Turn.{Turn}
-use Rattle.hwp_core_task.specs.declared.Turn.TheVariants.{Moved}
-use Rattle.hwp_core_task.specs.Calls.{CanMake, Steps, IsOnTurn}
-use Rattle.hwp_core_task.specs.Hands.{hand_of, empty}
-use Rattle.hwp_core_task.specs.Ranks.{IsRanked, is_waits}
-use Rattle.hwp_core_task.specs.Classes.{TellsClass}
-use Rattle.hwp_core_task.proofs.StepRanks.{rank-of}
-use Rattle.hwp_core_task.proofs.StepLeaves.{can-make, hand-planned, on-turn-after, steps-planned}
-use Rattle.hwp_core_task.specs.Known.{Saw, deeds}
-use Rattle.hwp_core_task.proofs.MadeEntries.{deeds-same}
-use Rattle.hwp_core_task.proofs.SightKeeps.{saw-load, saw-stays}
+use Rattle.hwp_core_rule.specs.hwp_geom.declared.Layout.{Layout}
+use Rattle.hwp_core_rule.specs.hwp_geom.declared.Page.{Page}
+use Rattle.hwp_core_rule.specs.hwp_geom.declared.Proc.{Proc}
+use Rattle.hwp_core_rule.specs.hwp_geom.declared.Thread.{Thread}
+use Rattle.hwp_core_rule.specs.hwp_geom.declared.ThreadDecl.{ThreadDecl}
+use Rattle.hwp_core_rule.specs.hwp_geom.declared.Who.{Who}
+use Rattle.hwp_core_rule.specs.hwp_geom.Limits.{command_limit, page_limit}
+use Rattle.hwp_core_rule.specs.hwp_kill.declared.Policy.{Policy}
+use Rattle.hwp_core_rule.specs.hwp_kill.declared.Policy.TheVariants as policy_names
+use Rattle.hwp_core_rule.specs.hwp_kill.declared.Reply.{Reply}
+use Rattle.hwp_core_rule.specs.hwp_kill.declared.Reply.TheVariants as replies
+use Rattle.hwp_core_rule.specs.hwp_kill.Prctl.{reply}
+use Rattle.hwp_core_rule.specs.hwp_page.History.{BodyValue}
+use Rattle.hwp_core_rule.specs.hwp_words.Names.{page_named}
+use Rattle.hwp_core_rule.specs.hwp_words.Policies as words
+use Rattle.hwp_core_rule.specs.hwp_words.Stops.{is_stopped}
+use Rattle.hwp_core_rule.specs.declared.SharedWord.TheVariants as places
+use Rattle.hwp_core_rule.specs.declared.Setting.{Setting}
+use Rattle.hwp_core_rule.specs.declared.State.{State}
+use Rattle.hwp_core_rule.specs.declared.Step.{Step}
+use Rattle.hwp_core_rule.specs.declared.Step.TheVariants as steps
+use Rattle.hwp_core_rule.specs.declared.View.{View}
+use Rattle.hwp_core_rule.specs.Rule.{Holds}
+use Rattle.hwp_core_rule.specs.Lasting.{IsMild}
+use Rattle.hwp_core_rule.specs.Steps.{policy_at}
+use Rattle.hwp_core_rule.specs.Views.{noted, stamp_of}
+use Rattle.hwp_core_rule.specs.Words.{index, words_of}
+use Rattle.hwp_core_rule.specs.parts.Policies.{last_policy, settings_of, PolicyAgrees}
+use Rattle.hwp_core_rule.proofs.Lists.{at_map}
+use Rattle.hwp_core_rule.proofs.MoveKeeps.{shaped}
+use Rattle.hwp_core_rule.proofs.WordsByKind.{word-there, words-read}
+use Rattle.hwp_core_rule.specs.declared.Turn.{Turn}
+use Rattle.hwp_core_rule.specs.declared.Turn.TheVariants.{Moved}
+use Rattle.hwp_core_rule.specs.Calls.{CanMake, Steps, IsOnTurn}
+use Rattle.hwp_core_rule.specs.Hands.{hand_of, empty}
+use Rattle.hwp_core_rule.specs.Ranks.{IsRanked, is_waits}
+use Rattle.hwp_core_rule.specs.Classes.{TellsClass}
+use Rattle.hwp_core_rule.proofs.StepRanks.{rank-of}
+use Rattle.hwp_core_rule.proofs.StepLeaves.{can-make, hand-planned, on-turn-after, steps-planned}
+use Rattle.hwp_core_rule.specs.Known.{Saw, deeds}
+use Rattle.hwp_core_rule.proofs.MadeEntries.{deeds-same}
+use Rattle.hwp_core_rule.proofs.SightKeeps.{saw-load, saw-stays}
 use Rattle.hwp_cpu_control.specs.declared.prctl.Prctl.{Prctl}
 use Rattle.hwp_cpu_control.specs.declared.prctl.PrctlAt.{PrctlAt}
 use Rattle.hwp_cpu_control.specs.declared.prctl.PrctlAt.TheVariants as at

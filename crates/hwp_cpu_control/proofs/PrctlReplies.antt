@@ -1,10 +1,10 @@
 -- What the arguments of a call of prctl(2) set, by what it replies.
 use Rattle.std.proofs.Common.{◌≡◌, ℕ, Bool, true, false, cond, List, Option, Some, None, ap}
 use Rattle.std.proofs.lemmas.Option.{none-some}
-use Rattle.hwp_core_task.specs.hwp_kill.declared.Policy.{Policy}
-use Rattle.hwp_core_task.specs.hwp_kill.declared.Reply.{Reply}
-use Rattle.hwp_core_task.specs.hwp_kill.declared.Reply.TheVariants as replies
-use Rattle.hwp_core_task.specs.hwp_kill.Prctl.{asks_policy, policy_set, reply, setting}
+use Rattle.hwp_core_rule.specs.hwp_kill.declared.Policy.{Policy}
+use Rattle.hwp_core_rule.specs.hwp_kill.declared.Reply.{Reply}
+use Rattle.hwp_core_rule.specs.hwp_kill.declared.Reply.TheVariants as replies
+use Rattle.hwp_core_rule.specs.hwp_kill.Prctl.{asks_policy, policy_set, reply, setting}
 
 abbrev of_set : Reply → Option Policy
 of_set (replies.Set policy) = Some policy

@@ -2,32 +2,32 @@
 use Rattle.std.proofs.Common.{◌≡◌, ℕ, ◌<◌, ◌≤◌, Bool, true, false, cond, Option, Some, None, refl, sym, ap, ◌∙◌, subst, arith}
 use Rattle.std.proofs.lemmas.Bool.{both_ways}
 use Rattle.std.proofs.lemmas.Option.{none-some, same_Some}
-use Rattle.hwp_core_task.specs.hwp_geom.declared.Damage.{Damage}
-use Rattle.hwp_core_task.specs.hwp_geom.declared.Damage.TheVariants as damages
-use Rattle.hwp_core_task.specs.hwp_geom.declared.Frame.{Frame}
-use Rattle.hwp_core_task.specs.hwp_geom.declared.Layout.{Layout}
-use Rattle.hwp_core_task.specs.hwp_geom.declared.Who.{Who}
-use Rattle.hwp_core_task.specs.hwp_page.History.{BodyValue}
-use Rattle.hwp_core_task.specs.hwp_words.Stops.{is_stopped}
-use Rattle.hwp_core_task.specs.hwp_core_rule.declared.SharedWord.TheVariants as places
-use Rattle.hwp_core_task.specs.hwp_core_rule.declared.Spoiled.{Spoiled}
-use Rattle.hwp_core_task.specs.hwp_core_rule.declared.Step.{Step}
-use Rattle.hwp_core_task.specs.hwp_core_rule.declared.Step.TheVariants as steps
-use Rattle.hwp_core_task.specs.hwp_core_rule.declared.View.{View}
-use Rattle.hwp_core_task.specs.hwp_core_rule.Lists.{SomeMember}
-use Rattle.hwp_core_task.specs.hwp_core_rule.Lasting.{IsMild}
-use Rattle.hwp_core_task.specs.hwp_core_rule.Steps.{damage_place}
-use Rattle.hwp_core_task.specs.hwp_core_rule.Views.{noted, stamp_of}
-use Rattle.hwp_core_task.specs.hwp_core_rule.Words.{IsPlace}
-use Rattle.hwp_core_task.proofs.of_hwp_core_rule.Lists.{some-last}
-use Rattle.hwp_core_task.specs.declared.Turn.{Turn}
-use Rattle.hwp_core_task.specs.declared.Turn.TheVariants.{Moved}
-use Rattle.hwp_core_task.specs.Calls.{CanMake, Steps}
-use Rattle.hwp_core_task.specs.Ranks.{IsRanked, is_waits}
-use Rattle.hwp_core_task.proofs.StepRanks.{rank-of}
-use Rattle.hwp_core_task.proofs.StepLeaves.{can-make, hand-planned, on-turn-after, steps-planned}
-use Rattle.hwp_core_task.specs.Classes.{TellsClass}
-use Rattle.hwp_core_task.proofs.MadeEntries.{deeds-same}
+use Rattle.hwp_core_rule.specs.hwp_geom.declared.Damage.{Damage}
+use Rattle.hwp_core_rule.specs.hwp_geom.declared.Damage.TheVariants as damages
+use Rattle.hwp_core_rule.specs.hwp_geom.declared.Frame.{Frame}
+use Rattle.hwp_core_rule.specs.hwp_geom.declared.Layout.{Layout}
+use Rattle.hwp_core_rule.specs.hwp_geom.declared.Who.{Who}
+use Rattle.hwp_core_rule.specs.hwp_page.History.{BodyValue}
+use Rattle.hwp_core_rule.specs.hwp_words.Stops.{is_stopped}
+use Rattle.hwp_core_rule.specs.declared.SharedWord.TheVariants as places
+use Rattle.hwp_core_rule.specs.declared.Spoiled.{Spoiled}
+use Rattle.hwp_core_rule.specs.declared.Step.{Step}
+use Rattle.hwp_core_rule.specs.declared.Step.TheVariants as steps
+use Rattle.hwp_core_rule.specs.declared.View.{View}
+use Rattle.hwp_core_rule.specs.Lists.{SomeMember}
+use Rattle.hwp_core_rule.specs.Lasting.{IsMild}
+use Rattle.hwp_core_rule.specs.Steps.{damage_place}
+use Rattle.hwp_core_rule.specs.Views.{noted, stamp_of}
+use Rattle.hwp_core_rule.specs.Words.{IsPlace}
+use Rattle.hwp_core_rule.proofs.Lists.{some-last}
+use Rattle.hwp_core_rule.specs.declared.Turn.{Turn}
+use Rattle.hwp_core_rule.specs.declared.Turn.TheVariants.{Moved}
+use Rattle.hwp_core_rule.specs.Calls.{CanMake, Steps}
+use Rattle.hwp_core_rule.specs.Ranks.{IsRanked, is_waits}
+use Rattle.hwp_core_rule.proofs.StepRanks.{rank-of}
+use Rattle.hwp_core_rule.proofs.StepLeaves.{can-make, hand-planned, on-turn-after, steps-planned}
+use Rattle.hwp_core_rule.specs.Classes.{TellsClass}
+use Rattle.hwp_core_rule.proofs.MadeEntries.{deeds-same}
 use Rattle.hwp_cpu_control.specs.declared.spoil.Spoil.{Spoil}
 use Rattle.hwp_cpu_control.specs.declared.spoil.SpoilAt.{SpoilAt}
 use Rattle.hwp_cpu_control.specs.declared.spoil.SpoilAt.TheVariants as at

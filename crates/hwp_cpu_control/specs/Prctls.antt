@@ -1,31 +1,31 @@
 -- A call of prctl(2): the task's states, its steps and what they come to.
 use Rattle.std.specs.Prelude.{◌≡◌, ℕ, ◌+◌, ◌<◌, ◌^◌, false, cond, List, [], ◌∷◌, ◌++◌, Option, Some, None, length, slice_get}
-use Rattle.hwp_core_task.specs.hwp_geom.declared.Layout.{Layout}
-use Rattle.hwp_core_task.specs.hwp_geom.declared.Page.{Page}
-use Rattle.hwp_core_task.specs.hwp_geom.declared.Proc.{Proc}
-use Rattle.hwp_core_task.specs.hwp_geom.declared.Thread.{Thread}
-use Rattle.hwp_core_task.specs.hwp_geom.declared.ThreadDecl.{ThreadDecl}
-use Rattle.hwp_core_task.specs.hwp_geom.declared.Who.{Who}
-use Rattle.hwp_core_task.specs.hwp_geom.Limits.{command_limit}
-use Rattle.hwp_core_task.specs.hwp_kill.declared.Policy.{Policy}
-use Rattle.hwp_core_task.specs.hwp_kill.declared.Policy.TheVariants as policy_names
-use Rattle.hwp_core_task.specs.hwp_kill.declared.Reply.{Reply}
-use Rattle.hwp_core_task.specs.hwp_kill.declared.Reply.TheVariants as replies
-use Rattle.hwp_core_task.specs.hwp_kill.Prctl.{reply}
-use Rattle.hwp_core_task.specs.hwp_words.Names.{page_named}
-use Rattle.hwp_core_task.specs.hwp_words.Policies as words
-use Rattle.hwp_core_task.specs.hwp_words.Stops.{is_stopped}
-use Rattle.hwp_core_task.specs.hwp_core_rule.declared.SharedWord.TheVariants as places
-use Rattle.hwp_core_task.specs.hwp_core_rule.declared.Setting.{Setting}
-use Rattle.hwp_core_task.specs.hwp_core_rule.declared.Step.{Step}
-use Rattle.hwp_core_task.specs.hwp_core_rule.declared.Step.TheVariants as steps
-use Rattle.hwp_core_task.specs.hwp_core_rule.declared.View.{View}
-use Rattle.hwp_core_task.specs.declared.Turn.TheVariants.{Moved}
-use Rattle.hwp_core_task.specs.hwp_core_rule.parts.Policies.{last_policy, settings_of}
-use Rattle.hwp_core_task.specs.Calls.{IsOnTurn}
-use Rattle.hwp_core_task.specs.Hands.{hand_of, empty}
-use Rattle.hwp_core_task.specs.Known.{HasMadeNone, Saw, SawStop}
-use Rattle.hwp_core_task.specs.Turns.{Member}
+use Rattle.hwp_core_rule.specs.hwp_geom.declared.Layout.{Layout}
+use Rattle.hwp_core_rule.specs.hwp_geom.declared.Page.{Page}
+use Rattle.hwp_core_rule.specs.hwp_geom.declared.Proc.{Proc}
+use Rattle.hwp_core_rule.specs.hwp_geom.declared.Thread.{Thread}
+use Rattle.hwp_core_rule.specs.hwp_geom.declared.ThreadDecl.{ThreadDecl}
+use Rattle.hwp_core_rule.specs.hwp_geom.declared.Who.{Who}
+use Rattle.hwp_core_rule.specs.hwp_geom.Limits.{command_limit}
+use Rattle.hwp_core_rule.specs.hwp_kill.declared.Policy.{Policy}
+use Rattle.hwp_core_rule.specs.hwp_kill.declared.Policy.TheVariants as policy_names
+use Rattle.hwp_core_rule.specs.hwp_kill.declared.Reply.{Reply}
+use Rattle.hwp_core_rule.specs.hwp_kill.declared.Reply.TheVariants as replies
+use Rattle.hwp_core_rule.specs.hwp_kill.Prctl.{reply}
+use Rattle.hwp_core_rule.specs.hwp_words.Names.{page_named}
+use Rattle.hwp_core_rule.specs.hwp_words.Policies as words
+use Rattle.hwp_core_rule.specs.hwp_words.Stops.{is_stopped}
+use Rattle.hwp_core_rule.specs.declared.SharedWord.TheVariants as places
+use Rattle.hwp_core_rule.specs.declared.Setting.{Setting}
+use Rattle.hwp_core_rule.specs.declared.Step.{Step}
+use Rattle.hwp_core_rule.specs.declared.Step.TheVariants as steps
+use Rattle.hwp_core_rule.specs.declared.View.{View}
+use Rattle.hwp_core_rule.specs.declared.Turn.TheVariants.{Moved}
+use Rattle.hwp_core_rule.specs.parts.Policies.{last_policy, settings_of}
+use Rattle.hwp_core_rule.specs.Calls.{IsOnTurn}
+use Rattle.hwp_core_rule.specs.Hands.{hand_of, empty}
+use Rattle.hwp_core_rule.specs.Known.{HasMadeNone, Saw, SawStop}
+use Rattle.hwp_core_rule.specs.Turns.{Member}
 use Rattle.hwp_cpu_control.specs.declared.prctl.Prctl.{Prctl}
 use Rattle.hwp_cpu_control.specs.declared.prctl.PrctlAt.{PrctlAt}
 use Rattle.hwp_cpu_control.specs.declared.prctl.PrctlAt.TheVariants as at

@@ -1,8 +1,8 @@
 ghost use Rattle.std.specs.Prelude.{◌≡◌, ◌+◌, ◌≤◌, ◌<◌, cond, [], ◌∷◌, ◌++◌, length, take};
-ghost use Rattle.hwp_core_task.specs.hwp_geom.Limits.{thread_limit};
+ghost use Rattle.hwp_core_rule.specs.hwp_geom.Limits.{thread_limit};
 ghost use Rattle.hwp_cpu_control.specs.Forks.{target_at, threads_of};
 
-use hwp_core_task::{
+use hwp_core_rule::{
     Body, Layout, Page, Policy, PolicyWord, Proc, ProcessWord, Ranked, Scheduled, SharedWord, Step,
     Task, Thread, Turn, Who, is_stopped,
 };

@@ -1,6 +1,6 @@
 ghost use Rattle.std.specs.Prelude.{◌≡◌};
 
-use hwp_core_task::{
+use hwp_core_rule::{
     Body, Layout, Ranked, Scheduled, SharedWord, Step, Task, Turn, Who, is_stopped,
 };
 

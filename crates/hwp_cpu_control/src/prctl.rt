@@ -1,6 +1,6 @@
 ghost use Rattle.std.specs.Prelude.{◌≡◌, ◌^◌, ◌<◌};
 
-use hwp_core_task::{
+use hwp_core_rule::{
     Body, Layout, Page, Policy, PolicyWord, Proc, ProcessWord, Ranked, Reply, Scheduled,
     SharedWord, Step, Task, Thread, Turn, Who, is_stopped, prctl,
 };

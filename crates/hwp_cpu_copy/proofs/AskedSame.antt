@@ -4,7 +4,7 @@ use Rattle.hwp_cpu_access.specs.hwp_fault.hwp_geom.declared.Frame.{Frame}
 use Rattle.hwp_cpu_access.specs.hwp_fault.hwp_geom.declared.Layout.{Layout}
 use Rattle.hwp_cpu_access.specs.hwp_fault.hwp_geom.declared.Mode.{Mode}
 use Rattle.hwp_cpu_access.specs.hwp_fault.hwp_page.History.{BodyValue}
-use Rattle.hwp_cpu_access.specs.hwp_fault.hwp_core_task.declared.Turn.{Turn}
+use Rattle.hwp_cpu_access.specs.hwp_fault.hwp_core_rule.declared.Turn.{Turn}
 use Rattle.hwp_cpu_access.specs.hwp_fault.declared.Access.{Access}
 use Rattle.hwp_cpu_access.specs.hwp_fault.declared.AccessAnswer.{AccessAnswer}
 use Rattle.hwp_cpu_access.specs.hwp_fault.declared.AccessAnswer.TheVariants as access_answers

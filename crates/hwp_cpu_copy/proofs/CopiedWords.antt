@@ -14,7 +14,7 @@ use Rattle.hwp_cpu_access.specs.hwp_fault.hwp_page.declared.What.TheVariants as 
 use Rattle.hwp_cpu_access.specs.hwp_fault.hwp_core_rule.declared.Made.{Made}
 use Rattle.hwp_cpu_access.specs.hwp_fault.hwp_core_rule.declared.View.{View}
 use Rattle.hwp_cpu_access.specs.hwp_fault.hwp_core_rule.Lists.{EachMember}
-use Rattle.hwp_cpu_access.specs.hwp_fault.hwp_core_task.Known.{IsOnTheWay, is_failure}
+use Rattle.hwp_cpu_access.specs.hwp_fault.hwp_core_rule.Known.{IsOnTheWay, is_failure}
 use Rattle.hwp_cpu_access.specs.hwp_fault.declared.Request.{Request}
 use Rattle.hwp_cpu_access.specs.hwp_fault.Accesses.{what_of}
 use Rattle.hwp_cpu_access.specs.hwp_cpu_check.hwp_banks.Banks.{Banks}

@@ -11,8 +11,8 @@ use Rattle.hwp_cpu_access.specs.hwp_fault.hwp_core_rule.declared.Made.{Made}
 use Rattle.hwp_cpu_access.specs.hwp_fault.hwp_core_rule.declared.Mark.{Mark}
 use Rattle.hwp_cpu_access.specs.hwp_fault.hwp_core_rule.declared.Step.{Step}
 use Rattle.hwp_cpu_access.specs.hwp_fault.hwp_core_rule.declared.View.{View}
-use Rattle.hwp_cpu_access.specs.hwp_fault.hwp_core_task.declared.Turn.{Turn}
-use Rattle.hwp_cpu_access.specs.hwp_fault.hwp_core_task.Calls.{Steps, logs}
+use Rattle.hwp_cpu_access.specs.hwp_fault.hwp_core_rule.declared.Turn.{Turn}
+use Rattle.hwp_cpu_access.specs.hwp_fault.hwp_core_rule.Calls.{Steps, logs}
 use Rattle.hwp_cpu_access.specs.hwp_fault.declared.Request.{Request}
 use Rattle.hwp_cpu_access.specs.hwp_cpu_check.hwp_claim_act.declared.Failed.{Failed}
 use Rattle.hwp_cpu_access.specs.hwp_cpu_check.hwp_claim_frame.Done.{Grows, Marking, counts_owed, marking_of}

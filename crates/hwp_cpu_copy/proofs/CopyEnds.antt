@@ -13,9 +13,9 @@ use Rattle.hwp_cpu_access.specs.hwp_fault.hwp_page.declared.At.{At}
 use Rattle.hwp_cpu_access.specs.hwp_fault.hwp_core_rule.declared.Made.{Made}
 use Rattle.hwp_cpu_access.specs.hwp_fault.hwp_core_rule.declared.View.{View}
 use Rattle.hwp_cpu_access.specs.hwp_fault.hwp_core_rule.Lists.{EachMember}
-use Rattle.hwp_cpu_access.specs.hwp_fault.hwp_core_task.Calls.{IsOnTurn}
-use Rattle.hwp_cpu_access.specs.hwp_fault.hwp_core_task.Hands.{hand_of, empty}
-use Rattle.hwp_cpu_access.specs.hwp_fault.hwp_core_task.Known.{HasMadeNoneBeside, deeds}
+use Rattle.hwp_cpu_access.specs.hwp_fault.hwp_core_rule.Calls.{IsOnTurn}
+use Rattle.hwp_cpu_access.specs.hwp_fault.hwp_core_rule.Hands.{hand_of, empty}
+use Rattle.hwp_cpu_access.specs.hwp_fault.hwp_core_rule.Known.{HasMadeNoneBeside, deeds}
 use Rattle.hwp_cpu_access.specs.hwp_fault.declared.AccessKind.TheVariants as kinds
 use Rattle.hwp_cpu_access.specs.hwp_fault.declared.Request.{Request}
 use Rattle.hwp_cpu_access.specs.hwp_fault.Accesses as accesses

@@ -15,14 +15,14 @@ use Rattle.hwp_cpu_access.specs.hwp_fault.hwp_core_rule.declared.Made.{Made}
 use Rattle.hwp_cpu_access.specs.hwp_fault.hwp_core_rule.declared.Step.{Step}
 use Rattle.hwp_cpu_access.specs.hwp_fault.hwp_core_rule.declared.View.{View}
 use Rattle.hwp_cpu_access.specs.hwp_fault.hwp_core_rule.Lists.{EachMember}
-use Rattle.hwp_cpu_access.specs.hwp_fault.hwp_core_task.declared.Turn.{Turn}
-use Rattle.hwp_cpu_access.specs.hwp_fault.hwp_core_task.Calls.{CanMake, IsOnTurn, Steps, logs}
-use Rattle.hwp_cpu_access.specs.hwp_fault.hwp_core_task.Hands.{hand_of, empty}
-use Rattle.hwp_cpu_access.specs.hwp_fault.hwp_core_task.Known.{deeds}
-use Rattle.hwp_cpu_access.specs.hwp_fault.hwp_core_task.Pages.{SawState}
-use Rattle.hwp_cpu_access.specs.hwp_fault.hwp_core_task.Turns.{IsTask}
-use Rattle.hwp_cpu_access.proofs.of_hwp_fault.of_hwp_core_task.SightKeeps.{saw-stays}
-use Rattle.hwp_cpu_access.proofs.of_hwp_fault.of_hwp_core_task.StepLeaves.{on-turn-after}
+use Rattle.hwp_cpu_access.specs.hwp_fault.hwp_core_rule.declared.Turn.{Turn}
+use Rattle.hwp_cpu_access.specs.hwp_fault.hwp_core_rule.Calls.{CanMake, IsOnTurn, Steps, logs}
+use Rattle.hwp_cpu_access.specs.hwp_fault.hwp_core_rule.Hands.{hand_of, empty}
+use Rattle.hwp_cpu_access.specs.hwp_fault.hwp_core_rule.Known.{deeds}
+use Rattle.hwp_cpu_access.specs.hwp_fault.hwp_core_rule.Pages.{SawState}
+use Rattle.hwp_cpu_access.specs.hwp_fault.hwp_core_rule.Turns.{IsTask}
+use Rattle.hwp_cpu_access.proofs.of_hwp_fault.of_hwp_core_rule.SightKeeps.{saw-stays}
+use Rattle.hwp_cpu_access.proofs.of_hwp_fault.of_hwp_core_rule.StepLeaves.{on-turn-after}
 use Rattle.hwp_cpu_access.specs.hwp_fault.declared.Request.{Request}
 use Rattle.hwp_cpu_access.specs.hwp_cpu_check.Checks.{left_by, lines_of}
 use Rattle.hwp_evict.specs.declared.evict.Evict.{Evict}

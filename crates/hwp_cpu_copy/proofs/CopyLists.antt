@@ -13,11 +13,11 @@ use Rattle.hwp_cpu_access.specs.hwp_fault.hwp_page.History.{BodyValue}
 use Rattle.hwp_cpu_access.specs.hwp_fault.hwp_core_rule.declared.Made.{Made}
 use Rattle.hwp_cpu_access.specs.hwp_fault.hwp_core_rule.declared.Step.{Step}
 use Rattle.hwp_cpu_access.specs.hwp_fault.hwp_core_rule.declared.View.{View}
-use Rattle.hwp_cpu_access.specs.hwp_fault.hwp_core_task.declared.Turn.{Turn}
-use Rattle.hwp_cpu_access.specs.hwp_fault.hwp_core_task.Calls.{Steps, logs}
-use Rattle.hwp_cpu_access.specs.hwp_fault.hwp_core_task.Known.{deeds, is_failure, such_deeds}
-use Rattle.hwp_cpu_access.proofs.of_hwp_fault.of_hwp_core_task.MadeEntries.{deeds-same}
-use Rattle.hwp_cpu_access.proofs.of_hwp_fault.of_hwp_core_task.StepLeaves.{steps-planned}
+use Rattle.hwp_cpu_access.specs.hwp_fault.hwp_core_rule.declared.Turn.{Turn}
+use Rattle.hwp_cpu_access.specs.hwp_fault.hwp_core_rule.Calls.{Steps, logs}
+use Rattle.hwp_cpu_access.specs.hwp_fault.hwp_core_rule.Known.{deeds, is_failure, such_deeds}
+use Rattle.hwp_cpu_access.proofs.of_hwp_fault.of_hwp_core_rule.MadeEntries.{deeds-same}
+use Rattle.hwp_cpu_access.proofs.of_hwp_fault.of_hwp_core_rule.StepLeaves.{steps-planned}
 use Rattle.hwp_cpu_access.specs.hwp_fault.declared.Access.{Access}
 use Rattle.hwp_cpu_access.specs.hwp_fault.declared.Request.{Request}
 use Rattle.hwp_cpu_access.specs.hwp_fault.Accesses as accesses

@@ -15,15 +15,15 @@ use Rattle.hwp_cpu_access.specs.hwp_fault.hwp_core_rule.Moves.{Move}
 use Rattle.hwp_cpu_access.specs.hwp_fault.hwp_core_rule.Rule.{Holds}
 use Rattle.hwp_cpu_access.specs.hwp_fault.hwp_core_rule.Views.{view_after}
 use Rattle.hwp_cpu_access.specs.hwp_fault.hwp_core_rule.Words.{Words}
-use Rattle.hwp_cpu_access.specs.hwp_fault.hwp_core_task.declared.Turn.{Turn}
-use Rattle.hwp_cpu_access.specs.hwp_fault.hwp_core_task.Boards.{view_of}
-use Rattle.hwp_cpu_access.specs.hwp_fault.hwp_core_task.Calls.{logs, rec_of}
-use Rattle.hwp_cpu_access.specs.hwp_fault.hwp_core_task.Classes.{TellsClass}
-use Rattle.hwp_cpu_access.specs.hwp_fault.hwp_core_task.Ranks.{CostFalls, HasFailed, HasFrame, HasPage, IsRanked, Made, OtherHand, PaysRevival, Pending, Quiet, failure_weight, failures_left, is_refused, is_waits, words_at}
-use Rattle.hwp_cpu_access.proofs.of_hwp_fault.of_hwp_core_task.Failures.{mild-leaves}
+use Rattle.hwp_cpu_access.specs.hwp_fault.hwp_core_rule.declared.Turn.{Turn}
+use Rattle.hwp_cpu_access.specs.hwp_fault.hwp_core_rule.Boards.{view_of}
+use Rattle.hwp_cpu_access.specs.hwp_fault.hwp_core_rule.Calls.{logs, rec_of}
+use Rattle.hwp_cpu_access.specs.hwp_fault.hwp_core_rule.Classes.{TellsClass}
+use Rattle.hwp_cpu_access.specs.hwp_fault.hwp_core_rule.Ranks.{CostFalls, HasFailed, HasFrame, HasPage, IsRanked, Made, OtherHand, PaysRevival, Pending, Quiet, failure_weight, failures_left, is_refused, is_waits, words_at}
+use Rattle.hwp_cpu_access.proofs.of_hwp_fault.of_hwp_core_rule.Failures.{mild-leaves}
 use Rattle.hwp_cpu_access.specs.hwp_fault.hwp_core_rule.Lasting.{LeavesPoison}
-use Rattle.hwp_cpu_access.proofs.of_hwp_fault.of_hwp_core_task.Revivals.{lasting-pays}
-use Rattle.hwp_cpu_access.proofs.of_hwp_fault.of_hwp_core_task.StepRanks.{part-made, steps-on}
+use Rattle.hwp_cpu_access.proofs.of_hwp_fault.of_hwp_core_rule.Revivals.{lasting-pays}
+use Rattle.hwp_cpu_access.proofs.of_hwp_fault.of_hwp_core_rule.StepRanks.{part-made, steps-on}
 use Rattle.hwp_cpu_access.proofs.of_hwp_fault.of_hwp_core.TaskTells.{no-frame, no-page}
 use Rattle.hwp_evict.specs.declared.evict.Evict.{Evict}
 use Rattle.hwp_evict.specs.declared.evict.EvictAnswer.{EvictAnswer}

@@ -12,9 +12,9 @@ use Rattle.hwp_cpu_access.specs.hwp_fault.hwp_core_rule.declared.View.{View}
 use Rattle.hwp_cpu_access.specs.hwp_fault.hwp_core_rule.Lists.{EachMember}
 use Rattle.hwp_cpu_access.proofs.of_hwp_fault.of_hwp_core_rule.Lists.{each-weaken}
 use Rattle.hwp_cpu_access.proofs.of_hwp_fault.of_hwp_core_rule.MoreEntries.{each-append}
-use Rattle.hwp_cpu_access.specs.hwp_fault.hwp_core_task.Calls.{IsOnTurn, Steps}
-use Rattle.hwp_cpu_access.specs.hwp_fault.hwp_core_task.Hands.{hand_of, empty}
-use Rattle.hwp_cpu_access.specs.hwp_fault.hwp_core_task.Known.{Precedes, deeds}
+use Rattle.hwp_cpu_access.specs.hwp_fault.hwp_core_rule.Calls.{IsOnTurn, Steps}
+use Rattle.hwp_cpu_access.specs.hwp_fault.hwp_core_rule.Hands.{hand_of, empty}
+use Rattle.hwp_cpu_access.specs.hwp_fault.hwp_core_rule.Known.{Precedes, deeds}
 use Rattle.hwp_cpu_access.specs.hwp_cpu_check.hwp_law_commands.Commands.{is_check}
 use Rattle.hwp_cpu_access.specs.hwp_cpu_check.declared.EventOutcome.{EventOutcome}
 use Rattle.hwp_cpu_access.specs.hwp_fault.declared.Request.{Request}

@@ -13,11 +13,11 @@ use Rattle.hwp_cpu_access.specs.hwp_fault.hwp_core_rule.declared.SharedWord.TheV
 use Rattle.hwp_cpu_access.specs.hwp_fault.hwp_core_rule.declared.Step.{Step}
 use Rattle.hwp_cpu_access.specs.hwp_fault.hwp_core_rule.declared.Step.TheVariants as steps
 use Rattle.hwp_cpu_access.specs.hwp_fault.hwp_core_rule.declared.View.{View}
-use Rattle.hwp_cpu_access.specs.hwp_fault.hwp_core_task.Calls.{Steps, logs}
-use Rattle.hwp_cpu_access.specs.hwp_fault.hwp_core_task.Known.{is_failure, such_deeds}
+use Rattle.hwp_cpu_access.specs.hwp_fault.hwp_core_rule.Calls.{Steps, logs}
+use Rattle.hwp_cpu_access.specs.hwp_fault.hwp_core_rule.Known.{is_failure, such_deeds}
 use Rattle.hwp_cpu_access.specs.hwp_fault.hwp_words.declared.Pte.TheVariants as ptes
-use Rattle.hwp_cpu_access.proofs.of_hwp_fault.of_hwp_core_task.MadeEntries.{ListsNone, deeds-same, frame-lists, page-lists, such-kept}
-use Rattle.hwp_cpu_access.proofs.of_hwp_fault.of_hwp_core_task.StepLeaves.{steps-planned}
+use Rattle.hwp_cpu_access.proofs.of_hwp_fault.of_hwp_core_rule.MadeEntries.{ListsNone, deeds-same, frame-lists, page-lists, such-kept}
+use Rattle.hwp_cpu_access.proofs.of_hwp_fault.of_hwp_core_rule.StepLeaves.{steps-planned}
 use Rattle.hwp_cpu_access.specs.hwp_fault.hwp_core.declared.give_up.GiveUp.{GiveUp}
 use Rattle.hwp_cpu_access.specs.hwp_fault.hwp_core.declared.give_up.GiveUpAt.{GiveUpAt}
 use Rattle.hwp_cpu_access.specs.hwp_fault.hwp_core.declared.give_up.GiveUpAt.TheVariants as give_up_at

@@ -16,11 +16,11 @@ use Rattle.hwp_evict.specs.hwp_core_rule.Lists.{EachMember}
 use Rattle.hwp_evict.specs.hwp_core_rule.Logs.{log_of}
 use Rattle.hwp_evict.specs.hwp_core_rule.SlotMoves.{IsIn, frame_slot, is_out, moved_out, shelf_slot}
 use Rattle.hwp_evict.specs.hwp_core_rule.Views.{frame_in}
-use Rattle.hwp_evict.specs.hwp_core_task.declared.Turn.{Turn}
-use Rattle.hwp_evict.specs.hwp_core_task.Calls.{Steps, logs}
-use Rattle.hwp_evict.specs.hwp_core_task.Known.{HasMadeNoneBeside, is_by}
-use Rattle.hwp_evict.proofs.of_hwp_core_task.MadeEntries.{each-filter}
-use Rattle.hwp_evict.proofs.of_hwp_core_task.StepLeaves.{brought, content_of, steps-planned, was-home}
+use Rattle.hwp_evict.specs.hwp_core_rule.declared.Turn.{Turn}
+use Rattle.hwp_evict.specs.hwp_core_rule.Calls.{Steps, logs}
+use Rattle.hwp_evict.specs.hwp_core_rule.Known.{HasMadeNoneBeside, is_by}
+use Rattle.hwp_evict.proofs.of_hwp_core_rule.MadeEntries.{each-filter}
+use Rattle.hwp_evict.proofs.of_hwp_core_rule.StepLeaves.{brought, content_of, steps-planned, was-home}
 use Rattle.hwp_evict.specs.hwp_core.declared.hold.Hold.{Hold}
 use Rattle.hwp_evict.specs.hwp_core.declared.hold.HoldAt.{HoldAt}
 use Rattle.hwp_evict.specs.hwp_core.declared.hold.HoldAt.TheVariants as hold_at

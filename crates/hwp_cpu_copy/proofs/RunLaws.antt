@@ -14,9 +14,9 @@ use Rattle.hwp_cpu_access.specs.hwp_fault.hwp_core_rule.declared.Log.{Log}
 use Rattle.hwp_cpu_access.specs.hwp_fault.hwp_core_rule.declared.Made.{Made}
 use Rattle.hwp_cpu_access.specs.hwp_fault.hwp_core_rule.declared.Step.{Step}
 use Rattle.hwp_cpu_access.specs.hwp_fault.hwp_core_rule.declared.View.{View}
-use Rattle.hwp_cpu_access.specs.hwp_fault.hwp_core_task.Calls.{Steps}
+use Rattle.hwp_cpu_access.specs.hwp_fault.hwp_core_rule.Calls.{Steps}
 use Rattle.hwp_cpu_access.specs.hwp_fault.declared.Request.{Request}
-use Rattle.hwp_cpu_access.proofs.of_hwp_fault.of_hwp_core_task.SightKeeps.{saw-state-stays, saw-stays}
+use Rattle.hwp_cpu_access.proofs.of_hwp_fault.of_hwp_core_rule.SightKeeps.{saw-state-stays, saw-stays}
 use Rattle.hwp_cpu_access.specs.hwp_cpu_check.hwp_banks.Banks.{Banks}
 use Rattle.hwp_cpu_access.specs.hwp_cpu_check.hwp_banks.declared.Origin.TheVariants as origins
 use Rattle.hwp_cpu_access.specs.hwp_cpu_check.hwp_law_commands.Commands.{is_check}

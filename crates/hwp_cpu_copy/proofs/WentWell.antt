@@ -18,9 +18,9 @@ use Rattle.hwp_cpu_access.specs.hwp_fault.hwp_core_rule.declared.View.{View}
 use Rattle.hwp_cpu_access.specs.hwp_fault.hwp_core_rule.Lists.{EachMember}
 use Rattle.hwp_cpu_access.proofs.of_hwp_fault.of_hwp_core_rule.Lists.{each-weaken}
 use Rattle.hwp_cpu_access.proofs.of_hwp_fault.of_hwp_core_rule.MoreEntries.{each-append}
-use Rattle.hwp_cpu_access.specs.hwp_fault.hwp_core_task.Calls.{IsOnTurn}
-use Rattle.hwp_cpu_access.specs.hwp_fault.hwp_core_task.Hands.{hand_of, empty}
-use Rattle.hwp_cpu_access.specs.hwp_fault.hwp_core_task.Known.{HasMadeBeside, HasMadeNoneBeside, Precedes, Saw, deeds}
+use Rattle.hwp_cpu_access.specs.hwp_fault.hwp_core_rule.Calls.{IsOnTurn}
+use Rattle.hwp_cpu_access.specs.hwp_fault.hwp_core_rule.Hands.{hand_of, empty}
+use Rattle.hwp_cpu_access.specs.hwp_fault.hwp_core_rule.Known.{HasMadeBeside, HasMadeNoneBeside, Precedes, Saw, deeds}
 use Rattle.hwp_cpu_access.specs.hwp_fault.declared.AccessAnswer.TheVariants as access_answers
 use Rattle.hwp_cpu_access.specs.hwp_fault.declared.AccessKind.{AccessKind}
 use Rattle.hwp_cpu_access.specs.hwp_fault.declared.AccessKind.TheVariants as kinds

@@ -8,8 +8,8 @@ use Rattle.hwp_cpu_access.specs.hwp_fault.hwp_geom.declared.VSlot.{VSlot}
 use Rattle.hwp_cpu_access.specs.hwp_fault.hwp_page.declared.At.{At}
 use Rattle.hwp_cpu_access.specs.hwp_fault.hwp_page.History.{BodyValue}
 use Rattle.hwp_cpu_access.specs.hwp_fault.hwp_core_rule.declared.Step.{Step}
-use Rattle.hwp_cpu_access.specs.hwp_fault.hwp_core_task.declared.Turn.{Turn}
-use Rattle.hwp_cpu_access.specs.hwp_fault.hwp_core_task.declared.Turn.TheVariants.{Moved}
+use Rattle.hwp_cpu_access.specs.hwp_fault.hwp_core_rule.declared.Turn.{Turn}
+use Rattle.hwp_cpu_access.specs.hwp_fault.hwp_core_rule.declared.Turn.TheVariants.{Moved}
 use Rattle.hwp_cpu_access.specs.hwp_fault.declared.AccessKind.TheVariants as kinds
 use Rattle.hwp_cpu_access.specs.hwp_fault.declared.Request.{Request}
 use Rattle.hwp_cpu_access.specs.hwp_cpu_check.hwp_banks.Banks.{Banks}

@@ -3,7 +3,7 @@ use Rattle.std.specs.Prelude.{ℕ, ◌+◌, ◌-◌, ◌*◌, Bool, false, Optio
 use Rattle.hwp_cpu_access.specs.hwp_fault.hwp_geom.declared.Frame.{Frame}
 use Rattle.hwp_cpu_access.specs.hwp_fault.hwp_geom.Limits.{line_limit}
 use Rattle.hwp_cpu_access.specs.hwp_fault.hwp_core_rule.Words.{Words}
-use Rattle.hwp_cpu_access.specs.hwp_fault.hwp_core_task.Ranks.{failure_weight}
+use Rattle.hwp_cpu_access.specs.hwp_fault.hwp_core_rule.Ranks.{failure_weight}
 use Rattle.hwp_evict.specs.Evicts as evicts
 use Rattle.hwp_fork.specs.declared.cow.CowAt.{CowAt}
 use Rattle.hwp_fork.specs.declared.cow.CowAt.TheVariants as cow_at

@@ -12,8 +12,8 @@ use Rattle.hwp_cpu_access.specs.hwp_fault.hwp_page.Refusals.{IsUnused}
 use Rattle.hwp_cpu_access.specs.hwp_fault.hwp_core_rule.declared.Made.{Made}
 use Rattle.hwp_cpu_access.specs.hwp_fault.hwp_core_rule.declared.View.{View}
 use Rattle.hwp_cpu_access.specs.hwp_fault.hwp_core_rule.Lists.{EachMember}
-use Rattle.hwp_cpu_access.specs.hwp_fault.hwp_core_task.Known.{IsAt, Precedes}
-use Rattle.hwp_cpu_access.specs.hwp_fault.hwp_core_task.Pages.{SawState}
+use Rattle.hwp_cpu_access.specs.hwp_fault.hwp_core_rule.Known.{IsAt, Precedes}
+use Rattle.hwp_cpu_access.specs.hwp_fault.hwp_core_rule.Pages.{SawState}
 use Rattle.hwp_cpu_access.specs.hwp_fault.declared.Request.{Request}
 use Rattle.hwp_cpu_access.specs.hwp_fault.Accesses.{what_of}
 use Rattle.hwp_cpu_access.specs.hwp_cpu_check.Checks.{Check, left_by}

@@ -2,6 +2,5 @@ pub mod Acts
 pub mod CowListLaws
 pub mod GuestListLaws
 pub use Rattle.hwp_cpu_check.proofs.of_hwp_core_rule as of_hwp_core_rule
-pub use Rattle.hwp_cpu_check.proofs.of_hwp_core_task as of_hwp_core_task
 pub use Rattle.hwp_cpu_check.proofs as of_hwp_cpu_check
 pub use Rattle.hwp_cpu_check.proofs.of_hwp_law_commands as of_hwp_law_commands

@@ -9,7 +9,6 @@ pub use Rattle.hwp_cpu_check.specs.hwp_claim_act as hwp_claim_act
 pub use Rattle.hwp_cpu_check.specs.hwp_claim_frame as hwp_claim_frame
 pub use Rattle.hwp_cpu_check.specs.hwp_core as hwp_core
 pub use Rattle.hwp_cpu_check.specs.hwp_core_rule as hwp_core_rule
-pub use Rattle.hwp_cpu_check.specs.hwp_core_task as hwp_core_task
 pub use Rattle.hwp_cpu_check.specs as hwp_cpu_check
 pub use Rattle.hwp_cpu_check.specs.hwp_geom as hwp_geom
 pub use Rattle.hwp_cpu_check.specs.hwp_law_commands as hwp_law_commands

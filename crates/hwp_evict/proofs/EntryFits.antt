@@ -12,8 +12,8 @@ use Rattle.hwp_core.specs.hwp_core_rule.declared.Made.{Made}
 use Rattle.hwp_core.specs.hwp_core_rule.declared.View.{View}
 use Rattle.hwp_core.specs.hwp_core_rule.Logs.{log_of, state_of}
 use Rattle.hwp_core.specs.hwp_core_rule.parts.Entries.{HasSeen}
-use Rattle.hwp_core.specs.hwp_core_task.Calls.{IsOnTurn}
-use Rattle.hwp_core.specs.hwp_core_task.Known.{HasMadeNoneBeside}
+use Rattle.hwp_core.specs.hwp_core_rule.Calls.{IsOnTurn}
+use Rattle.hwp_core.specs.hwp_core_rule.Known.{HasMadeNoneBeside}
 use Rattle.hwp_core.specs.Holds.{HoldsPage}
 use Rattle.hwp_evict.specs.declared.evict.EvictAt.{EvictAt}
 use Rattle.hwp_evict.specs.declared.evict.Eviction.{Eviction}

@@ -35,7 +35,7 @@ use Rattle.hwp_core.specs.hwp_core_rule.parts.Entries.{HasSeen}
 use Rattle.hwp_core.specs.hwp_core_rule.parts.Fits.{FitsWords}
 use Rattle.hwp_core.proofs.of_hwp_core_rule.PageWords.{fitting-at}
 use Rattle.hwp_core.proofs.of_hwp_core_rule.Lists.{same-number}
-use Rattle.hwp_core.specs.hwp_core_task.Hands.{body_in}
+use Rattle.hwp_core.specs.hwp_core_rule.Hands.{body_in}
 use Rattle.hwp_core.specs.Holds.{page_lock}
 use Rattle.hwp_core.proofs.VacateLaws.{put-fits-of}
 use Rattle.hwp_evict.specs.declared.evict.Eviction.{Eviction}

@@ -19,9 +19,9 @@ use Rattle.hwp_core.specs.hwp_core_rule.Views.{is_body_of}
 use Rattle.hwp_core.specs.hwp_core_rule.parts.Entries.{HasSeen}
 use Rattle.hwp_core.specs.hwp_core_rule.parts.Fits.{FitsWords}
 use Rattle.hwp_core.proofs.of_hwp_core_rule.Lists.{same-number}
-use Rattle.hwp_core.specs.hwp_core_task.Calls.{IsOnTurn}
-use Rattle.hwp_core.specs.hwp_core_task.Hands.{Hand, body_in}
-use Rattle.hwp_core.specs.hwp_core_task.Known.{HasMadeNoneBeside, SawLog}
+use Rattle.hwp_core.specs.hwp_core_rule.Calls.{IsOnTurn}
+use Rattle.hwp_core.specs.hwp_core_rule.Hands.{Hand, body_in}
+use Rattle.hwp_core.specs.hwp_core_rule.Known.{HasMadeNoneBeside, SawLog}
 use Rattle.hwp_core.specs.Holds.{HoldsPage, held, page_lock}
 use Rattle.hwp_core.specs.Unholds as unholds
 use Rattle.hwp_core.proofs.GiveUpLaws.{page-given-up}

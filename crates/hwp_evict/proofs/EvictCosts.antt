@@ -20,14 +20,14 @@ use Rattle.hwp_core.specs.hwp_core_rule.declared.View.{View}
 use Rattle.hwp_core.specs.hwp_core_rule.Lasting.{IsMild}
 use Rattle.hwp_core.specs.hwp_core_rule.Steps.{place_of, word_after}
 use Rattle.hwp_core.specs.hwp_core_rule.Words.{Words, read}
-use Rattle.hwp_core.specs.hwp_core_task.declared.Turn.{Turn}
+use Rattle.hwp_core.specs.hwp_core_rule.declared.Turn.{Turn}
 use Rattle.hwp_core.specs.hwp_core_rule.Moves.{Move}
-use Rattle.hwp_core.specs.hwp_core_task.Boards.{view_of}
-use Rattle.hwp_core.specs.hwp_core_task.Calls.{rec_of}
-use Rattle.hwp_core.specs.hwp_core_task.Hands.{hand_of, empty}
-use Rattle.hwp_core.specs.hwp_core_task.Classes.{TellsClass}
-use Rattle.hwp_core.specs.hwp_core_task.Ranks.{CostFalls, HasFrame, HasPage, IsRanked, Made, OtherHand, Quiet, failure_weight, is_waits, pass, stale_weight, translation_room, words_at}
-use Rattle.hwp_core.proofs.of_hwp_core_task.StepRanks.{met, words-kept, steps-on, rank-of}
+use Rattle.hwp_core.specs.hwp_core_rule.Boards.{view_of}
+use Rattle.hwp_core.specs.hwp_core_rule.Calls.{rec_of}
+use Rattle.hwp_core.specs.hwp_core_rule.Hands.{hand_of, empty}
+use Rattle.hwp_core.specs.hwp_core_rule.Classes.{TellsClass}
+use Rattle.hwp_core.specs.hwp_core_rule.Ranks.{CostFalls, HasFrame, HasPage, IsRanked, Made, OtherHand, Quiet, failure_weight, is_waits, pass, stale_weight, translation_room, words_at}
+use Rattle.hwp_core.proofs.of_hwp_core_rule.StepRanks.{met, words-kept, steps-on, rank-of}
 use Rattle.hwp_core.specs.declared.give_up.GiveUp.{GiveUp}
 use Rattle.hwp_core.specs.declared.give_up.GiveUpAt.{GiveUpAt}
 use Rattle.hwp_core.specs.declared.give_up.GiveUpAt.TheVariants as give_up_at

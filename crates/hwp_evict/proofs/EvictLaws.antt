@@ -16,14 +16,14 @@ use Rattle.hwp_core.specs.hwp_core_rule.declared.SharedWord.TheVariants as place
 use Rattle.hwp_core.specs.hwp_core_rule.declared.Step.{Step}
 use Rattle.hwp_core.specs.hwp_core_rule.declared.Step.TheVariants as steps
 use Rattle.hwp_core.specs.hwp_core_rule.declared.View.{View}
-use Rattle.hwp_core.specs.hwp_core_task.declared.Turn.{Turn}
-use Rattle.hwp_core.specs.hwp_core_task.Calls.{CanMake, IsOnTurn, Steps, logs}
-use Rattle.hwp_core.specs.hwp_core_task.Hands.{hand_of, empty}
-use Rattle.hwp_core.proofs.of_hwp_core_task.StepLeaves.{on-turn-after, hand-planned, steps-planned, can-make}
-use Rattle.hwp_core.specs.hwp_core_task.Known.{HasMadeNoneBeside}
-use Rattle.hwp_core.specs.hwp_core_task.Turns.{IsTask}
-use Rattle.hwp_core.proofs.of_hwp_core_task.MadeEntries.{ListsNone, deeds-same}
-use Rattle.hwp_core.proofs.of_hwp_core_task.SightKeeps.{saw-load}
+use Rattle.hwp_core.specs.hwp_core_rule.declared.Turn.{Turn}
+use Rattle.hwp_core.specs.hwp_core_rule.Calls.{CanMake, IsOnTurn, Steps, logs}
+use Rattle.hwp_core.specs.hwp_core_rule.Hands.{hand_of, empty}
+use Rattle.hwp_core.proofs.of_hwp_core_rule.StepLeaves.{on-turn-after, hand-planned, steps-planned, can-make}
+use Rattle.hwp_core.specs.hwp_core_rule.Known.{HasMadeNoneBeside}
+use Rattle.hwp_core.specs.hwp_core_rule.Turns.{IsTask}
+use Rattle.hwp_core.proofs.of_hwp_core_rule.MadeEntries.{ListsNone, deeds-same}
+use Rattle.hwp_core.proofs.of_hwp_core_rule.SightKeeps.{saw-load}
 use Rattle.hwp_core.specs.declared.release.Release.{Release}
 use Rattle.hwp_core.specs.declared.release.ReleaseAt.{ReleaseAt}
 use Rattle.hwp_core.specs.declared.release.ReleaseAt.TheVariants as release_at

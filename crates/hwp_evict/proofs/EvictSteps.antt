@@ -24,12 +24,12 @@ use Rattle.hwp_core.specs.hwp_core_rule.Logs.{log_of, state_of}
 use Rattle.hwp_core.specs.hwp_core_rule.Views.{frame_in, lock_found, noted, stamp_of, taken}
 use Rattle.hwp_core.specs.hwp_core_rule.parts.Entries.{HasSeen, Shows}
 use Rattle.hwp_core.proofs.of_hwp_core_rule.Lists.{some-last}
-use Rattle.hwp_core.specs.hwp_core_task.Calls.{IsOnTurn, Steps}
-use Rattle.hwp_core.specs.hwp_core_task.Hands.{Hand, body_in, hand_of, taking}
-use Rattle.hwp_core.proofs.of_hwp_core_task.StepLeaves.{content_of, hand-planned, steps-planned}
-use Rattle.hwp_core.specs.hwp_core_task.Known.{HasMadeNoneBeside, SawLog}
-use Rattle.hwp_core.proofs.of_hwp_core_task.MadeEntries.{deeds-same}
-use Rattle.hwp_core.proofs.of_hwp_core_task.SightKeeps.{saw-bad-of-load, saw-log-stays}
+use Rattle.hwp_core.specs.hwp_core_rule.Calls.{IsOnTurn, Steps}
+use Rattle.hwp_core.specs.hwp_core_rule.Hands.{Hand, body_in, hand_of, taking}
+use Rattle.hwp_core.proofs.of_hwp_core_rule.StepLeaves.{content_of, hand-planned, steps-planned}
+use Rattle.hwp_core.specs.hwp_core_rule.Known.{HasMadeNoneBeside, SawLog}
+use Rattle.hwp_core.proofs.of_hwp_core_rule.MadeEntries.{deeds-same}
+use Rattle.hwp_core.proofs.of_hwp_core_rule.SightKeeps.{saw-bad-of-load, saw-log-stays}
 use Rattle.hwp_core.specs.declared.hold.Hold.{Hold}
 use Rattle.hwp_core.specs.declared.hold.HoldAt.{HoldAt}
 use Rattle.hwp_core.specs.declared.hold.HoldAt.TheVariants as hold_at

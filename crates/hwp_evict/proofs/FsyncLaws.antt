@@ -11,19 +11,19 @@ use Rattle.hwp_core.specs.hwp_core_rule.declared.Step.TheVariants as steps
 use Rattle.hwp_core.specs.hwp_core_rule.declared.View.{View}
 use Rattle.hwp_core.specs.hwp_core_rule.Lasting.{IsMild}
 use Rattle.hwp_core.specs.hwp_core_rule.Words.{Words}
-use Rattle.hwp_core.specs.hwp_core_task.declared.Turn.{Turn}
-use Rattle.hwp_core.specs.hwp_core_task.declared.Turn.TheVariants.{Moved, Answered}
-use Rattle.hwp_core.specs.hwp_core_task.Calls.{CanMake, Steps}
-use Rattle.hwp_core.specs.hwp_core_task.Hands.{hand_of, empty}
-use Rattle.hwp_core.specs.hwp_core_task.Ranks.{IsRanked, is_waits, words_at}
-use Rattle.hwp_core.specs.hwp_core_task.Classes.{TellsClass}
-use Rattle.hwp_core.proofs.of_hwp_core_task.StepRanks.{rank-of}
-use Rattle.hwp_core.proofs.of_hwp_core_task.StepLeaves.{on-turn-after, hand-planned, steps-planned, can-make}
-use Rattle.hwp_core.specs.hwp_core_task.Known.{Covers, Saw, HasMadeNone}
-use Rattle.hwp_core.proofs.of_hwp_core_task.LossCovers.{report-covers, report-reaches}
-use Rattle.hwp_core.proofs.of_hwp_core_task.OwedLosses.{losses-same}
-use Rattle.hwp_core.proofs.of_hwp_core_task.SightKeeps.{saw-load, saw-report, seen-loss-stays}
-use Rattle.hwp_core.proofs.of_hwp_core_task.MadeEntries.{deeds-same}
+use Rattle.hwp_core.specs.hwp_core_rule.declared.Turn.{Turn}
+use Rattle.hwp_core.specs.hwp_core_rule.declared.Turn.TheVariants.{Moved, Answered}
+use Rattle.hwp_core.specs.hwp_core_rule.Calls.{CanMake, Steps}
+use Rattle.hwp_core.specs.hwp_core_rule.Hands.{hand_of, empty}
+use Rattle.hwp_core.specs.hwp_core_rule.Ranks.{IsRanked, is_waits, words_at}
+use Rattle.hwp_core.specs.hwp_core_rule.Classes.{TellsClass}
+use Rattle.hwp_core.proofs.of_hwp_core_rule.StepRanks.{rank-of}
+use Rattle.hwp_core.proofs.of_hwp_core_rule.StepLeaves.{on-turn-after, hand-planned, steps-planned, can-make}
+use Rattle.hwp_core.specs.hwp_core_rule.Known.{Covers, Saw, HasMadeNone}
+use Rattle.hwp_core.proofs.of_hwp_core_rule.LossCovers.{report-covers, report-reaches}
+use Rattle.hwp_core.proofs.of_hwp_core_rule.StepOwes.{losses-same}
+use Rattle.hwp_core.proofs.of_hwp_core_rule.SightKeeps.{saw-load, saw-report, seen-loss-stays}
+use Rattle.hwp_core.proofs.of_hwp_core_rule.MadeEntries.{deeds-same}
 use Rattle.hwp_evict.specs.declared.fsync.Fsync.{Fsync}
 use Rattle.hwp_evict.specs.declared.fsync.FsyncAt.{FsyncAt}
 use Rattle.hwp_evict.specs.declared.fsync.FsyncAt.TheVariants as at

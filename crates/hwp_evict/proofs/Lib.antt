@@ -11,5 +11,4 @@ pub mod EvictLaws
 pub mod EvictCosts
 pub use Rattle.hwp_core.proofs as of_hwp_core
 pub use Rattle.hwp_core.proofs.of_hwp_core_rule as of_hwp_core_rule
-pub use Rattle.hwp_core.proofs.of_hwp_core_task as of_hwp_core_task
 pub use Rattle.hwp_core.proofs.of_hwp_kill as of_hwp_kill

@@ -28,10 +28,10 @@ use Rattle.hwp_core.specs.hwp_core_rule.parts.Fits.{FitsWords}
 use Rattle.hwp_core.proofs.of_hwp_core_rule.PageWords.{fitting-at}
 use Rattle.hwp_core.proofs.of_hwp_core_rule.Lists.{same-number, same-or, set_here, set_else}
 use Rattle.hwp_core.proofs.of_hwp_core_rule.MetWords.{frame-named, lock-knows}
-use Rattle.hwp_core.specs.hwp_core_task.Calls.{IsOnTurn, Steps}
-use Rattle.hwp_core.specs.hwp_core_task.Hands.{Hand, hand_of, body_in}
-use Rattle.hwp_core.proofs.of_hwp_core_task.StepLeaves.{hand-planned}
-use Rattle.hwp_core.proofs.of_hwp_core_task.MadeEntries.{deeds-same}
+use Rattle.hwp_core.specs.hwp_core_rule.Calls.{IsOnTurn, Steps}
+use Rattle.hwp_core.specs.hwp_core_rule.Hands.{Hand, hand_of, body_in}
+use Rattle.hwp_core.proofs.of_hwp_core_rule.StepLeaves.{hand-planned}
+use Rattle.hwp_core.proofs.of_hwp_core_rule.MadeEntries.{deeds-same}
 use Rattle.hwp_core.specs.Holds.{page_lock, refs_to}
 use Rattle.hwp_core.specs.Unholds as unholds
 use Rattle.hwp_core.specs.Unholds.{holding}

@@ -14,8 +14,8 @@ use Rattle.hwp_core.specs.hwp_page.Refusals.{IsAway, IsDirty, IsLockedIn, IsMapp
 use Rattle.hwp_core.specs.hwp_page.Step.{IsOf, is_file}
 use Rattle.hwp_core.specs.hwp_core_rule.declared.Made.{Made}
 use Rattle.hwp_core.specs.hwp_core_rule.declared.View.{View}
-use Rattle.hwp_core.specs.hwp_core_task.Known.{HasMadeBeside, HasMadeNoneBeside, SawBadOf, SawStop}
-use Rattle.hwp_core.specs.hwp_core_task.Pages.{SawState}
+use Rattle.hwp_core.specs.hwp_core_rule.Known.{HasMadeBeside, HasMadeNoneBeside, SawBadOf, SawStop}
+use Rattle.hwp_core.specs.hwp_core_rule.Pages.{SawState}
 use Rattle.hwp_evict.specs.declared.evict.EvictAnswer.{EvictAnswer}
 use Rattle.hwp_evict.specs.declared.evict.EvictAnswer.TheVariants as answers
 use Rattle.hwp_evict.specs.declared.evict.Eviction.{Eviction}

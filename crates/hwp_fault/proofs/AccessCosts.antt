@@ -29,14 +29,14 @@ use Rattle.hwp_core.specs.hwp_core_rule.Words.{Words, read, put as put_word, ind
 use Rattle.hwp_core.proofs.of_hwp_core_rule.Lists.{same-number}
 use Rattle.hwp_core.proofs.of_hwp_core_rule.MetWords.{frame-free, same-frame}
 use Rattle.hwp_core.proofs.of_hwp_core_rule.MoveKeeps.{shaped}
-use Rattle.hwp_core.specs.hwp_core_task.declared.Turn.{Turn}
-use Rattle.hwp_core.specs.hwp_core_task.declared.Turn.TheVariants.{Moved, Waits}
-use Rattle.hwp_core.specs.hwp_core_task.Boards.{view_of}
-use Rattle.hwp_core.specs.hwp_core_task.Calls.{logs, rec_of}
-use Rattle.hwp_core.specs.hwp_core_task.Classes.{TellsClass}
-use Rattle.hwp_core.specs.hwp_core_task.Hands.{Hand, hand_of}
-use Rattle.hwp_core.specs.hwp_core_task.Ranks.{CostFalls, HasFailed, HasFrame, HasPage, IsRanked, Made, OtherHand, Quiet, access_most, again_most, failure_weight, failures_left, free_room, is_waits, stale, stale_weight, words_at}
-use Rattle.hwp_core.proofs.of_hwp_core_task.StepRanks.{met, words-after, words-kept, no-lock, failed, rank-failing}
+use Rattle.hwp_core.specs.hwp_core_rule.declared.Turn.{Turn}
+use Rattle.hwp_core.specs.hwp_core_rule.declared.Turn.TheVariants.{Moved, Waits}
+use Rattle.hwp_core.specs.hwp_core_rule.Boards.{view_of}
+use Rattle.hwp_core.specs.hwp_core_rule.Calls.{logs, rec_of}
+use Rattle.hwp_core.specs.hwp_core_rule.Classes.{TellsClass}
+use Rattle.hwp_core.specs.hwp_core_rule.Hands.{Hand, hand_of}
+use Rattle.hwp_core.specs.hwp_core_rule.Ranks.{CostFalls, HasFailed, HasFrame, HasPage, IsRanked, Made, OtherHand, Quiet, access_most, again_most, failure_weight, failures_left, free_room, is_waits, stale, stale_weight, words_at}
+use Rattle.hwp_core.proofs.of_hwp_core_rule.StepRanks.{met, words-after, words-kept, no-lock, failed, rank-failing}
 use Rattle.hwp_core.specs.declared.GiveUp.{GiveUp}
 use Rattle.hwp_core.specs.declared.give_up.GiveUpAt.{GiveUpAt}
 use Rattle.hwp_core.specs.declared.give_up.GiveUpAt.TheVariants as give_up_at

@@ -32,8 +32,8 @@ use Rattle.hwp_core.specs.hwp_core_rule.Logs.{log_of, opening_at, state_of}
 use Rattle.hwp_core.specs.hwp_core_rule.Views.{is_body_of, body_of, more_of, noted, stamp_of}
 use Rattle.hwp_core.specs.hwp_core_rule.parts.Entries.{HasSeen, Shows}
 use Rattle.hwp_core.proofs.of_hwp_core_rule.Lists.{same-number, some-last}
-use Rattle.hwp_core.specs.hwp_core_task.Calls.{Steps}
-use Rattle.hwp_core.specs.hwp_core_task.Hands.{Hand, hand_of, body_in}
+use Rattle.hwp_core.specs.hwp_core_rule.Calls.{Steps}
+use Rattle.hwp_core.specs.hwp_core_rule.Hands.{Hand, hand_of, body_in}
 use Rattle.hwp_core.specs.hwp_core_rule.declared.Step.TheVariants as steps
 use Rattle.hwp_core.specs.Unlocks.{HoldsFrame}
 use Rattle.hwp_core.proofs.BodyStates.{replay-state}

@@ -37,15 +37,15 @@ use Rattle.hwp_core.specs.hwp_core_rule.parts.Bodies.{content_name}
 use Rattle.hwp_core.proofs.of_hwp_core_rule.PageWords.{same-page}
 use Rattle.hwp_core.proofs.of_hwp_core_rule.Lists.{same-number}
 use Rattle.hwp_core.proofs.of_hwp_core_rule.MetWords.{free-word, same-frame}
-use Rattle.hwp_core.specs.hwp_core_task.declared.Turn.{Turn}
-use Rattle.hwp_core.specs.hwp_core_task.Calls.{CanMake, FitsLayout, Steps, IsOnTurn, logs}
-use Rattle.hwp_core.specs.hwp_core_task.Hands.{Hand, hand_of, empty, taking, body_in}
-use Rattle.hwp_core.proofs.of_hwp_core_task.StepLeaves.{on-turn-after, content_of, brought, was-home, hand-planned, steps-planned, can-make}
-use Rattle.hwp_core.specs.hwp_core_task.Known.{Saw, HasMadeNoneBeside, Precedes, HasOnlyBeside, HasMadeBeside, IsAt, deeds}
-use Rattle.hwp_core.proofs.of_hwp_core_task.MadeEntries.{ListsNone, deeds-same, frame-lists, deeds-none, deeds-one, has-made-beside, has-made-stays, only-beside-stays, only-of-none}
-use Rattle.hwp_core.specs.hwp_core_task.Pages.{SawState}
-use Rattle.hwp_core.specs.hwp_core_task.Turns.{IsTask}
-use Rattle.hwp_core.proofs.of_hwp_core_task.SightKeeps.{saw-stays, saw-load, saw-state-stays}
+use Rattle.hwp_core.specs.hwp_core_rule.declared.Turn.{Turn}
+use Rattle.hwp_core.specs.hwp_core_rule.Calls.{CanMake, FitsLayout, Steps, IsOnTurn, logs}
+use Rattle.hwp_core.specs.hwp_core_rule.Hands.{Hand, hand_of, empty, taking, body_in}
+use Rattle.hwp_core.proofs.of_hwp_core_rule.StepLeaves.{on-turn-after, content_of, brought, was-home, hand-planned, steps-planned, can-make}
+use Rattle.hwp_core.specs.hwp_core_rule.Known.{Saw, HasMadeNoneBeside, Precedes, HasOnlyBeside, HasMadeBeside, IsAt, deeds}
+use Rattle.hwp_core.proofs.of_hwp_core_rule.MadeEntries.{ListsNone, deeds-same, frame-lists, deeds-none, deeds-one, has-made-beside, has-made-stays, only-beside-stays, only-of-none}
+use Rattle.hwp_core.specs.hwp_core_rule.Pages.{SawState}
+use Rattle.hwp_core.specs.hwp_core_rule.Turns.{IsTask}
+use Rattle.hwp_core.proofs.of_hwp_core_rule.SightKeeps.{saw-stays, saw-load, saw-state-stays}
 use Rattle.hwp_core.specs.declared.GiveUp.{GiveUp}
 use Rattle.hwp_core.specs.declared.give_up.GiveUpAt.{GiveUpAt}
 use Rattle.hwp_core.specs.declared.give_up.GiveUpAt.TheVariants as give_up_at

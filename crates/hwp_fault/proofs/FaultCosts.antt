@@ -28,12 +28,12 @@ use Rattle.hwp_core.specs.hwp_core_rule.Words.{Words, free_bit, free_words, inde
 use Rattle.hwp_core.proofs.of_hwp_core_rule.Lists.{set_here}
 use Rattle.hwp_core.proofs.of_hwp_core_rule.MetWords.{frame-named}
 use Rattle.hwp_core.proofs.of_hwp_core_rule.MoveKeeps.{shaped}
-use Rattle.hwp_core.specs.hwp_core_task.declared.Turn.{Turn}
-use Rattle.hwp_core.specs.hwp_core_task.Boards.{view_of}
-use Rattle.hwp_core.specs.hwp_core_task.Calls.{logs, rec_of}
-use Rattle.hwp_core.specs.hwp_core_task.Ranks.{CostFalls, HasFailed, IsRanked, Made, Quiet, access_most, again_most, failures_left, free_room, is_waits, stale, stale_weight, take_most, words_at}
-use Rattle.hwp_core.specs.hwp_core_task.Turns.{Member}
-use Rattle.hwp_core.proofs.of_hwp_core_task.StepRanks.{me, met, words-after, words-kept, failed, rank-failing}
+use Rattle.hwp_core.specs.hwp_core_rule.declared.Turn.{Turn}
+use Rattle.hwp_core.specs.hwp_core_rule.Boards.{view_of}
+use Rattle.hwp_core.specs.hwp_core_rule.Calls.{logs, rec_of}
+use Rattle.hwp_core.specs.hwp_core_rule.Ranks.{CostFalls, HasFailed, IsRanked, Made, Quiet, access_most, again_most, failures_left, free_room, is_waits, stale, stale_weight, take_most, words_at}
+use Rattle.hwp_core.specs.hwp_core_rule.Turns.{Member}
+use Rattle.hwp_core.proofs.of_hwp_core_rule.StepRanks.{me, met, words-after, words-kept, failed, rank-failing}
 use Rattle.hwp_fault_fill.specs.declared.Fill.{Fill}
 use Rattle.hwp_fault_fill.specs.declared.fill.FillAt.{FillAt}
 use Rattle.hwp_fault_fill.specs.declared.fill.FillAt.TheVariants as fill_at

@@ -37,7 +37,7 @@ use Rattle.hwp_core.specs.hwp_core_rule.Views.{is_body_of, page_locks_on}
 use Rattle.hwp_core.specs.hwp_core_rule.parts.Entries.{HasSeen}
 use Rattle.hwp_core.specs.hwp_core_rule.parts.Fits.{FitsWords}
 use Rattle.hwp_core.proofs.of_hwp_core_rule.Lists.{at_set, each-push, same-number}
-use Rattle.hwp_core.specs.hwp_core_task.Hands.{Hand, body_in}
+use Rattle.hwp_core.specs.hwp_core_rule.Hands.{Hand, body_in}
 use Rattle.hwp_core.specs.Holds.{page_lock}
 use Rattle.hwp_core.specs.Unholds.{holding, HoldsAhead}
 use Rattle.hwp_fault.specs.MapIns.{IsBringing, added, BringsOn, HoldsWithFrame}

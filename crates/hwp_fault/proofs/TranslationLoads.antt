@@ -31,7 +31,7 @@ use Rattle.hwp_core.proofs.of_hwp_core_rule.Lists.{same-number}
 use Rattle.hwp_core.proofs.of_hwp_core_rule.MetWords.{frame-named, lock-knows}
 use Rattle.hwp_core.proofs.of_hwp_core_rule.MoveKeeps.{shaped}
 use Rattle.hwp_core.proofs.of_hwp_core_rule.WordsByKind.{words-read}
-use Rattle.hwp_core.specs.hwp_core_task.Hands.{Hand, body_in}
+use Rattle.hwp_core.specs.hwp_core_rule.Hands.{Hand, body_in}
 use Rattle.hwp_core.specs.Holds as holds
 use Rattle.hwp_core.specs.Holds.{HoldsPage, held, page_lock}
 use Rattle.hwp_core.proofs.BodyStates.{replay-state, replay-unused}

@@ -29,14 +29,14 @@ use Rattle.hwp_core.specs.hwp_core_rule.declared.View.{View}
 use Rattle.hwp_core.specs.hwp_core_rule.Logs.{log_of}
 use Rattle.hwp_core.specs.hwp_core_rule.Views.{body_of, frame_in, more_of}
 use Rattle.hwp_core.specs.hwp_core_rule.Words.{Words}
-use Rattle.hwp_core.specs.hwp_core_task.declared.Turn.{Turn}
-use Rattle.hwp_core.specs.hwp_core_task.declared.Turn.TheVariants.{Moved, Waits}
-use Rattle.hwp_core.specs.hwp_core_task.Calls.{IsOnTurn}
-use Rattle.hwp_core.specs.hwp_core_task.Hands.{hand_of, empty, body_in}
-use Rattle.hwp_core.specs.hwp_core_task.Ranks.{stale}
-use Rattle.hwp_core.specs.hwp_core_task.Known.{Saw, SawStop, HasMadeNoneBeside, Precedes, HasOnlyBeside, HasMadeBeside}
-use Rattle.hwp_core.specs.hwp_core_task.Pages.{SawState}
-use Rattle.hwp_core.specs.hwp_core_task.Turns.{Member}
+use Rattle.hwp_core.specs.hwp_core_rule.declared.Turn.{Turn}
+use Rattle.hwp_core.specs.hwp_core_rule.declared.Turn.TheVariants.{Moved, Waits}
+use Rattle.hwp_core.specs.hwp_core_rule.Calls.{IsOnTurn}
+use Rattle.hwp_core.specs.hwp_core_rule.Hands.{hand_of, empty, body_in}
+use Rattle.hwp_core.specs.hwp_core_rule.Ranks.{stale}
+use Rattle.hwp_core.specs.hwp_core_rule.Known.{Saw, SawStop, HasMadeNoneBeside, Precedes, HasOnlyBeside, HasMadeBeside}
+use Rattle.hwp_core.specs.hwp_core_rule.Pages.{SawState}
+use Rattle.hwp_core.specs.hwp_core_rule.Turns.{Member}
 use Rattle.hwp_core.specs.declared.GiveUp.{GiveUp}
 use Rattle.hwp_core.specs.declared.give_up.GiveUpAt.{GiveUpAt}
 use Rattle.hwp_core.specs.declared.give_up.GiveUpAt.TheVariants as give_up_at

@@ -26,14 +26,14 @@ use Rattle.hwp_core.specs.hwp_core_rule.Lists.{EachMember}
 use Rattle.hwp_core.specs.hwp_core_rule.Logs.{log_of}
 use Rattle.hwp_core.specs.hwp_core_rule.Views.{body_of, frame_in, more_of}
 use Rattle.hwp_core.specs.hwp_core_rule.Words.{Words}
-use Rattle.hwp_core.specs.hwp_core_task.declared.Turn.{Turn}
-use Rattle.hwp_core.specs.hwp_core_task.declared.Turn.TheVariants.{Moved}
-use Rattle.hwp_core.specs.hwp_core_task.Calls.{IsOnTurn}
-use Rattle.hwp_core.specs.hwp_core_task.Hands.{hand_of, empty}
-use Rattle.hwp_core.specs.hwp_core_task.Ranks.{stale, stale_weight}
-use Rattle.hwp_core.specs.hwp_core_task.Known.{Saw, SawLog, HasOnlyBeside, HasMadeBeside, Precedes}
-use Rattle.hwp_core.specs.hwp_core_task.Pages.{SawState}
-use Rattle.hwp_core.specs.hwp_core_task.Turns.{Member}
+use Rattle.hwp_core.specs.hwp_core_rule.declared.Turn.{Turn}
+use Rattle.hwp_core.specs.hwp_core_rule.declared.Turn.TheVariants.{Moved}
+use Rattle.hwp_core.specs.hwp_core_rule.Calls.{IsOnTurn}
+use Rattle.hwp_core.specs.hwp_core_rule.Hands.{hand_of, empty}
+use Rattle.hwp_core.specs.hwp_core_rule.Ranks.{stale, stale_weight}
+use Rattle.hwp_core.specs.hwp_core_rule.Known.{Saw, SawLog, HasOnlyBeside, HasMadeBeside, Precedes}
+use Rattle.hwp_core.specs.hwp_core_rule.Pages.{SawState}
+use Rattle.hwp_core.specs.hwp_core_rule.Turns.{Member}
 use Rattle.hwp_fault_fill.specs.declared.Fill.{Fill}
 use Rattle.hwp_fault_fill.specs.declared.fill.FillAt.{FillAt}
 use Rattle.hwp_fault_fill.specs.declared.fill.FillAt.TheVariants as fill_at

@@ -19,11 +19,11 @@ use Rattle.hwp_core.specs.hwp_core_rule.Lists.{EachMember}
 use Rattle.hwp_core.specs.hwp_core_rule.Logs.{log_of, state_of}
 use Rattle.hwp_core.specs.hwp_core_rule.Words.{Words}
 use Rattle.hwp_core.specs.hwp_core_rule.parts.Fits.{FitsWords}
-use Rattle.hwp_core.specs.hwp_core_task.declared.Turn.{Turn}
-use Rattle.hwp_core.specs.hwp_core_task.declared.Turn.TheVariants.{Moved}
-use Rattle.hwp_core.specs.hwp_core_task.Calls.{IsOnTurn}
-use Rattle.hwp_core.specs.hwp_core_task.Hands.{hand_of, body_in}
-use Rattle.hwp_core.specs.hwp_core_task.Turns.{Member}
+use Rattle.hwp_core.specs.hwp_core_rule.declared.Turn.{Turn}
+use Rattle.hwp_core.specs.hwp_core_rule.declared.Turn.TheVariants.{Moved}
+use Rattle.hwp_core.specs.hwp_core_rule.Calls.{IsOnTurn}
+use Rattle.hwp_core.specs.hwp_core_rule.Hands.{hand_of, body_in}
+use Rattle.hwp_core.specs.hwp_core_rule.Turns.{Member}
 use Rattle.hwp_core.specs.declared.Refer.{Refer}
 use Rattle.hwp_core.specs.declared.refer.ReferAt.{ReferAt}
 use Rattle.hwp_core.specs.declared.refer.ReferAt.TheVariants as refer_at

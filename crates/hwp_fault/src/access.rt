@@ -88,7 +88,7 @@ enum AccessAt {
 
 impl Access {
     ghost use Rattle.std.specs.Prelude.{unwrap_or};
-    ghost use Rattle.hwp_core.specs.hwp_core_task.declared.Turn.TheVariants.{Moved};
+    ghost use Rattle.hwp_core.specs.hwp_core_rule.declared.Turn.TheVariants.{Moved};
     ghost use Rattle.hwp_fault.specs.Accesses.{begin, again, answer, at_start, at_process, at_translation, LoadsBad, LocksFrame, LooksAgain, followed, leads_to, let_go_at, pinned, unlocked, after_fault};
     ghost use Rattle.std.specs.Prelude.{is_some, true};
 
@@ -468,7 +468,7 @@ impl Request {
 }
 
 ghost use Rattle.std.specs.Prelude.{unwrap_or};
-ghost use Rattle.hwp_core.specs.hwp_core_task.declared.Turn.TheVariants.{Moved};
+ghost use Rattle.hwp_core.specs.hwp_core_rule.declared.Turn.TheVariants.{Moved};
 ghost use Rattle.hwp_fault.specs.Accesses.{LocksFrame, is_bad, leads_to};
 
 /// The turn of a step that moved; the body that it met is let go. Each way out of a function that lets it go itself proves anew how

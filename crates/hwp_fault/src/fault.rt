@@ -67,7 +67,7 @@ pub enum FaultAnswer {
 
 impl Fault {
     ghost use Rattle.std.specs.Prelude.{true, unwrap_or};
-    ghost use Rattle.hwp_core.specs.hwp_core_task.declared.Turn.TheVariants.{Moved};
+    ghost use Rattle.hwp_core.specs.hwp_core_rule.declared.Turn.TheVariants.{Moved};
     ghost use Rattle.hwp_page.specs.Step.{IsRefused};
     ghost use Rattle.hwp_fault.specs.Touches.{refused};
     ghost use Rattle.hwp_fault.specs.Faults.{begin, plan, answer, let_go, CanGoOn, CanRefuse, FollowsAt, GoesOn, IsRoomed, ShowsAt, after_hold, after_map_in, after_refusal, after_unhold, after_give_up, is_refused, IsLoaded, IsRefusal, IsFilled};

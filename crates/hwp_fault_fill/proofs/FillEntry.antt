@@ -36,7 +36,7 @@ use Rattle.hwp_core.specs.hwp_core_rule.parts.Entries.{HasSeen}
 use Rattle.hwp_core.specs.hwp_core_rule.parts.Fits.{FitsWords}
 use Rattle.hwp_core.proofs.of_hwp_core_rule.PageWords.{fitting-at}
 use Rattle.hwp_core.proofs.of_hwp_core_rule.Lists.{same-number}
-use Rattle.hwp_core.specs.hwp_core_task.Hands.{Hand, hand_of, body_in}
+use Rattle.hwp_core.specs.hwp_core_rule.Hands.{Hand, hand_of, body_in}
 use Rattle.hwp_core.specs.Holds.{page_lock}
 use Rattle.hwp_core.specs.Unholds.{holding}
 use Rattle.hwp_core.proofs.BodyStates.{replay-state, replay-unused}

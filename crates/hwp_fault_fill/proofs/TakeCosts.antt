@@ -15,11 +15,11 @@ use Rattle.hwp_core.specs.hwp_core_rule.Rule.{Holds}
 use Rattle.hwp_core.specs.hwp_core_rule.Lasting.{IsMild}
 use Rattle.hwp_core.specs.hwp_core_rule.Words.{Words, free_words, free_bit}
 use Rattle.hwp_core.proofs.of_hwp_core_rule.Lists.{same-number}
-use Rattle.hwp_core.specs.hwp_core_task.declared.Turn.{Turn}
-use Rattle.hwp_core.specs.hwp_core_task.declared.Turn.TheVariants.{Moved, Changed}
-use Rattle.hwp_core.specs.hwp_core_task.Boards.{view_of}
-use Rattle.hwp_core.specs.hwp_core_task.Ranks.{CostFalls, HasFailed, IsRanked, Made, free_room, is_waits, stale, stale_weight, take_most, words_at}
-use Rattle.hwp_core.proofs.of_hwp_core_task.StepRanks.{words-after, retire-fails, failed, rank-failing}
+use Rattle.hwp_core.specs.hwp_core_rule.declared.Turn.{Turn}
+use Rattle.hwp_core.specs.hwp_core_rule.declared.Turn.TheVariants.{Moved, Changed}
+use Rattle.hwp_core.specs.hwp_core_rule.Boards.{view_of}
+use Rattle.hwp_core.specs.hwp_core_rule.Ranks.{CostFalls, HasFailed, IsRanked, Made, free_room, is_waits, stale, stale_weight, take_most, words_at}
+use Rattle.hwp_core.proofs.of_hwp_core_rule.StepRanks.{words-after, retire-fails, failed, rank-failing}
 use Rattle.hwp_core.proofs.FreeWords.{all_zero, frees-length, some-free, some-reserved, shown, lowest-shown, none-cleared, zero-on, not-zero, zero-past}
 use Rattle.hwp_core.proofs.TaskCosts.{stale-most}
 use Rattle.hwp_fault_fill.specs.declared.take.Take.{Take}

@@ -14,12 +14,12 @@ use Rattle.hwp_core.specs.hwp_core_rule.declared.View.{View}
 use Rattle.hwp_core.specs.hwp_core_rule.Logs.{log_of}
 use Rattle.hwp_core.specs.hwp_core_rule.Views.{unpoisoned}
 use Rattle.hwp_core.specs.hwp_core_rule.Words.{Words}
-use Rattle.hwp_core.specs.hwp_core_task.declared.Turn.{Turn}
-use Rattle.hwp_core.specs.hwp_core_task.declared.Turn.TheVariants.{Moved}
-use Rattle.hwp_core.specs.hwp_core_task.Calls.{IsOnTurn}
-use Rattle.hwp_core.specs.hwp_core_task.Hands.{Hand, hand_of}
-use Rattle.hwp_core.specs.hwp_core_task.Known.{Saw}
-use Rattle.hwp_core.specs.hwp_core_task.Turns.{Member}
+use Rattle.hwp_core.specs.hwp_core_rule.declared.Turn.{Turn}
+use Rattle.hwp_core.specs.hwp_core_rule.declared.Turn.TheVariants.{Moved}
+use Rattle.hwp_core.specs.hwp_core_rule.Calls.{IsOnTurn}
+use Rattle.hwp_core.specs.hwp_core_rule.Hands.{Hand, hand_of}
+use Rattle.hwp_core.specs.hwp_core_rule.Known.{Saw}
+use Rattle.hwp_core.specs.hwp_core_rule.Turns.{Member}
 use Rattle.hwp_core.specs.declared.refer.Refer.{Refer}
 use Rattle.hwp_core.specs.declared.refer.ReferAt.{ReferAt}
 use Rattle.hwp_core.specs.declared.refer.ReferAt.TheVariants as refer_at

@@ -15,13 +15,13 @@ use Rattle.hwp_core.specs.hwp_core_rule.Asks.{CanRetire, HasInHand, HasRoom}
 use Rattle.hwp_core.specs.hwp_core_rule.Steps.{goes}
 use Rattle.hwp_core.specs.hwp_core_rule.Views.{with_refs, less_refs, refs_on, without, is_hand_of, is_lock_of, unpoisoned}
 use Rattle.hwp_core.specs.hwp_core_rule.Words.{Words, free_words, free_bit}
-use Rattle.hwp_core.specs.hwp_core_task.declared.Turn.{Turn}
-use Rattle.hwp_core.specs.hwp_core_task.declared.Turn.TheVariants.{Moved, Changed}
-use Rattle.hwp_core.specs.hwp_core_task.Calls.{IsOnTurn}
-use Rattle.hwp_core.specs.hwp_core_task.Hands.{Hand}
-use Rattle.hwp_core.specs.hwp_core_task.Ranks.{stale}
-use Rattle.hwp_core.specs.hwp_core_task.Known.{Saw}
-use Rattle.hwp_core.specs.hwp_core_task.Turns.{Member}
+use Rattle.hwp_core.specs.hwp_core_rule.declared.Turn.{Turn}
+use Rattle.hwp_core.specs.hwp_core_rule.declared.Turn.TheVariants.{Moved, Changed}
+use Rattle.hwp_core.specs.hwp_core_rule.Calls.{IsOnTurn}
+use Rattle.hwp_core.specs.hwp_core_rule.Hands.{Hand}
+use Rattle.hwp_core.specs.hwp_core_rule.Ranks.{stale}
+use Rattle.hwp_core.specs.hwp_core_rule.Known.{Saw}
+use Rattle.hwp_core.specs.hwp_core_rule.Turns.{Member}
 use Rattle.hwp_core.specs.Releases.{adopted_lock}
 use Rattle.hwp_fault_fill.specs.declared.take.Take.{Take}
 use Rattle.hwp_fault_fill.specs.declared.take.TakeAt.{TakeAt}

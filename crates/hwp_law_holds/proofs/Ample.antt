@@ -18,8 +18,8 @@ use Rattle.hwp_law_served.specs.hwp_core_rule.parts.Counter.{is_poisoning}
 use Rattle.hwp_law_served.specs.hwp_core_rule.parts.Exhaustion.{is_marked, usable}
 use Rattle.hwp_law_served.proofs.of_hwp_core_rule.CountsBelow.{some-term}
 use Rattle.hwp_law_served.proofs.of_hwp_core_rule.Lists.{at_map, each-map, map-was}
-use Rattle.hwp_law_served.specs.hwp_core_task.Boards.{view_of}
-use Rattle.hwp_law_served.specs.hwp_core_task.Known.{Saw}
+use Rattle.hwp_law_served.specs.hwp_core_rule.Boards.{view_of}
+use Rattle.hwp_law_served.specs.hwp_core_rule.Known.{Saw}
 use Rattle.hwp_law_served.specs.hwp_script_read.declared.Command.{Command}
 use Rattle.hwp_law_served.specs.hwp_script_read.declared.Command.TheVariants as commands
 use Rattle.hwp_law_served.specs.hwp_script_read.declared.Script.{Script}

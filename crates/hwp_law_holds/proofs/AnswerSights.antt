@@ -19,7 +19,7 @@ use Rattle.hwp_law_served.specs.hwp_core_rule.declared.State.{State}
 use Rattle.hwp_law_served.specs.hwp_core_rule.declared.View.{View}
 use Rattle.hwp_law_served.specs.hwp_core_rule.Lists.{EachMember}
 use Rattle.hwp_law_served.proofs.of_hwp_core_rule.Lists.{each-map, each-weaken}
-use Rattle.hwp_law_served.specs.hwp_core_task.Boards.{Played, view_of}
+use Rattle.hwp_law_served.specs.hwp_core_rule.Boards.{Played, view_of}
 use Rattle.hwp_law_served.specs.hwp_claim_frame.Claims.{SawPoison}
 use Rattle.hwp_law_served.specs.hwp_script_read.declared.Command.{Command}
 use Rattle.hwp_law_served.specs.hwp_script_read.declared.Command.TheVariants as commands

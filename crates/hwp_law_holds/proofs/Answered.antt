@@ -21,9 +21,9 @@ use Rattle.hwp_law_served.specs.hwp_core_rule.declared.Made.{Made}
 use Rattle.hwp_law_served.specs.hwp_core_rule.declared.SharedWord.TheVariants as places
 use Rattle.hwp_law_served.specs.hwp_core_rule.declared.State.{State}
 use Rattle.hwp_law_served.specs.hwp_core_rule.declared.View.{View}
-use Rattle.hwp_law_served.specs.hwp_core_task.Boards.{view_of}
-use Rattle.hwp_law_served.specs.hwp_core_task.Known.{HasMade, Saw, SawBadOf}
-use Rattle.hwp_law_served.proofs.of_hwp_core_task.SightKeeps.{bad-lines-stay}
+use Rattle.hwp_law_served.specs.hwp_core_rule.Boards.{view_of}
+use Rattle.hwp_law_served.specs.hwp_core_rule.Known.{HasMade, Saw, SawBadOf}
+use Rattle.hwp_law_served.proofs.of_hwp_core_rule.SightKeeps.{bad-lines-stay}
 use Rattle.hwp_law_served.specs.hwp_soft_move.Seizes.{IsUsers}
 use Rattle.hwp_law_served.specs.hwp_script_read.declared.PrctlArgs.{PrctlArgs}
 use Rattle.hwp_law_served.specs.hwp_script_read.declared.Command.{Command}

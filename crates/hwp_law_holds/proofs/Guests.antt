@@ -23,8 +23,8 @@ use Rattle.hwp_law_served.specs.hwp_core_rule.declared.Made.{Made}
 use Rattle.hwp_law_served.specs.hwp_core_rule.declared.State.{State}
 use Rattle.hwp_law_served.specs.hwp_core_rule.declared.View.{View}
 use Rattle.hwp_law_served.specs.hwp_core_rule.Lists.{EachMember}
-use Rattle.hwp_law_served.specs.hwp_core_task.Boards.{Played, view_of}
-use Rattle.hwp_law_served.specs.hwp_core_task.Known.{HasMadeNone}
+use Rattle.hwp_law_served.specs.hwp_core_rule.Boards.{Played, view_of}
+use Rattle.hwp_law_served.specs.hwp_core_rule.Known.{HasMadeNone}
 use Rattle.hwp_law_served.specs.hwp_script_read.Guests.{is_apart, bars_guest}
 use Rattle.hwp_law_served.specs.hwp_script_read.Valid.{AreGuestsFit, IsValid}
 use Rattle.hwp_law_served.specs.hwp_script_read.declared.Command.{Command}

@@ -1,10 +1,10 @@
 -- Where all tasks are over no failure is open: each is the claim of a task that isn't over.
 use Rattle.std.proofs.Common.{ℕ}
 use Rattle.hwp_law_served.specs.hwp_geom.declared.Frame.{Frame}
-use Rattle.hwp_law_served.specs.hwp_core_task.Boards.{view_of}
-use Rattle.hwp_law_served.specs.hwp_core_task.Classes.{TellsClass}
-use Rattle.hwp_law_served.specs.hwp_core_task.Ranks.{Pending}
-use Rattle.hwp_law_served.specs.hwp_core_task.Turns.{Member}
+use Rattle.hwp_law_served.specs.hwp_core_rule.Boards.{view_of}
+use Rattle.hwp_law_served.specs.hwp_core_rule.Classes.{TellsClass}
+use Rattle.hwp_law_served.specs.hwp_core_rule.Ranks.{Pending}
+use Rattle.hwp_law_served.specs.hwp_core_rule.Turns.{Member}
 use Rattle.hwp_law_served.specs.hwp_plain_order.Order.{AreOver, Running, seat_of}
 use Rattle.hwp_law_served.specs.hwp_plain_order.Rank.{words_in}
 use Rattle.hwp_law_served.specs.hwp_plain_order.Ready.{IsCrew}

@@ -33,10 +33,10 @@ use Rattle.hwp_law_served.specs.hwp_core_rule.declared.View.{View}
 use Rattle.hwp_law_served.specs.hwp_core_rule.Lists.{SomeMember}
 use Rattle.hwp_law_served.specs.hwp_core_rule.Logs.{state_of}
 use Rattle.hwp_law_served.specs.hwp_core_rule.Steps.{place_of}
-use Rattle.hwp_law_served.specs.hwp_core_task.Boards.{Played}
-use Rattle.hwp_law_served.specs.hwp_core_task.Known.{Saw, SawAdopted, SawBadOf, SawLog, SawStop}
+use Rattle.hwp_law_served.specs.hwp_core_rule.Boards.{Played}
+use Rattle.hwp_law_served.specs.hwp_core_rule.Known.{Saw, SawAdopted, SawBadOf, SawLog, SawStop}
 use Rattle.hwp_law_served.specs.hwp_claim_frame.Claims.{SawPoison}
-use Rattle.hwp_law_served.specs.hwp_core_task.Pages.{SawState}
+use Rattle.hwp_law_served.specs.hwp_core_rule.Pages.{SawState}
 use Rattle.hwp_law_served.specs.hwp_script_read.declared.Command.{Command}
 use Rattle.hwp_law_served.specs.hwp_script_read.declared.Command.TheVariants as commands
 use Rattle.hwp_law_served.specs.hwp_script_read.declared.PrctlArgs.{PrctlArgs}

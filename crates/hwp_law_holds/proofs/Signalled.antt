@@ -24,7 +24,7 @@ use Rattle.hwp_law_served.specs.hwp_page.declared.What.TheVariants as entries
 use Rattle.hwp_law_served.specs.hwp_page.Situations.{always_signals, is_signalling}
 use Rattle.hwp_law_served.specs.hwp_page.Step.{IsFailure}
 use Rattle.hwp_law_served.specs.hwp_core_rule.declared.State.{State}
-use Rattle.hwp_law_served.specs.hwp_core_task.Boards.{view_of}
+use Rattle.hwp_law_served.specs.hwp_core_rule.Boards.{view_of}
 use Rattle.hwp_law_served.specs.hwp_claim_act.declared.Failed.{Failed}
 use Rattle.hwp_law_served.specs.hwp_claim_act.Abandons.{is_now, signals_now}
 use Rattle.hwp_law_served.specs.hwp_severity.declared.Severity.{Severity}

@@ -19,7 +19,7 @@ use Rattle.hwp_law_served.specs.hwp_core_rule.declared.Rec.{Rec}
 use Rattle.hwp_law_served.specs.hwp_core_rule.declared.View.{View}
 use Rattle.hwp_law_served.specs.hwp_core_rule.Lists.{SomeMember}
 use Rattle.hwp_law_served.specs.hwp_core_rule.Steps.{place_of}
-use Rattle.hwp_law_served.specs.hwp_core_task.Boards.{Played}
+use Rattle.hwp_law_served.specs.hwp_core_rule.Boards.{Played}
 use Rattle.hwp_law_served.specs.hwp_report_text.declared.Report.{Report}
 use Rattle.hwp_law_served.specs.hwp_law.Places.{entry_at}
 use Rattle.hwp_law_served.specs.hwp_law.States.{HadState}

@@ -11,7 +11,7 @@ use Rattle.hwp_law_served.specs.hwp_core_rule.Lists.{Homes}
 use Rattle.hwp_law_served.specs.hwp_core_rule.Opening.{opening}
 use Rattle.hwp_law_served.specs.hwp_core_rule.Words.{Words, free_bit, words_of}
 use Rattle.hwp_law_served.specs.hwp_core_rule.parts.Places.{in_hand}
-use Rattle.hwp_law_served.specs.hwp_core_task.Boards.{Played}
+use Rattle.hwp_law_served.specs.hwp_core_rule.Boards.{Played}
 use Rattle.hwp_law_served.specs.hwp_law_run.Turns.{Leads}
 
 -- The frame is out of use: it is poisoned, its free bit is 0, it is in nobody's hand, no page owns it, and no translation word

@@ -34,7 +34,7 @@ use Rattle.hwp_plain_order.proofs.of_hwp_core_rule.AsksNoted.{asks-noted}
 use Rattle.hwp_plain_order.proofs.of_hwp_core_rule.Lists.{each-changed, each-map, each-push, each-set}
 use Rattle.hwp_plain_order.proofs.of_hwp_core_rule.MoreEntries.{each-append}
 use Rattle.hwp_plain_order.proofs.of_hwp_core_rule.ListDrops.{each-without, find-is}
-use Rattle.hwp_plain_order.specs.hwp_core_task.Boards.{Played}
+use Rattle.hwp_plain_order.specs.hwp_core_rule.Boards.{Played}
 use Rattle.hwp_law_run.specs.Turns.{Leads as LeadsTo}
 
 -- the entries lead from the opening of their page to its state

@@ -4,10 +4,10 @@ use Rattle.std.proofs.lemmas.Bool.{cases_eq}
 use Rattle.hwp_law.specs.hwp_geom.declared.Layout.{Layout}
 use Rattle.hwp_plain_order.specs.hwp_core_rule.declared.State.{State}
 use Rattle.hwp_law.specs.hwp_script_read.declared.Go.{Go}
-use Rattle.hwp_plain_order.specs.hwp_core_task.declared.Turn.{Turn}
-use Rattle.hwp_plain_order.specs.hwp_core_task.Boards.{Played}
-use Rattle.hwp_plain_order.specs.hwp_core_task.Ranks.{Made}
-use Rattle.hwp_plain_order.specs.hwp_core_task.Turns.{Member}
+use Rattle.hwp_plain_order.specs.hwp_core_rule.declared.Turn.{Turn}
+use Rattle.hwp_plain_order.specs.hwp_core_rule.Boards.{Played}
+use Rattle.hwp_plain_order.specs.hwp_core_rule.Ranks.{Made}
+use Rattle.hwp_plain_order.specs.hwp_core_rule.Turns.{Member}
 use Rattle.hwp_plain_order.specs.Order.{Finishing, InOrder, IsAt, Running, Schedule, TurnOf, Word}
 use Rattle.hwp_plain_order.proofs.Chosen.{IsAt-before, IsAt-same, IsAt-set}
 

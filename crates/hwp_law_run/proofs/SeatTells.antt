@@ -34,7 +34,7 @@ use Rattle.hwp_plain_order.specs.hwp_core_rule.parts.Locks.{IsLocked}
 use Rattle.hwp_plain_order.proofs.of_hwp_core_rule.Lists.{at_map, each-map, each-set, each-weaken, same-number, set_here, term-le}
 use Rattle.hwp_plain_order.proofs.of_hwp_core_rule.MetWords.{frame-word}
 use Rattle.hwp_plain_order.proofs.of_hwp_core_rule.MoveKeeps.{shaped}
-use Rattle.hwp_plain_order.specs.hwp_core_task.Boards.{Played}
+use Rattle.hwp_plain_order.specs.hwp_core_rule.Boards.{Played}
 use Rattle.hwp_law_run.specs.Turns.{Leads, SawPage, TurnBy}
 use Rattle.hwp_law_run.proofs.SeatKnows.{IsStamped, IsUnder, Marks, Said, SaidOfStep, Sayings, Spoils, said-by}
 use Rattle.hwp_law_run.proofs.TurnLeads.{leads-on}

@@ -38,7 +38,7 @@ use Rattle.hwp_plain_order.proofs.of_hwp_core_rule.Lists.{at_map, each-map, each
 use Rattle.hwp_plain_order.proofs.of_hwp_core_rule.MoreEntries.{each-append}
 use Rattle.hwp_plain_order.proofs.of_hwp_core_rule.NotLater.{not-later}
 use Rattle.hwp_plain_order.proofs.of_hwp_core_rule.ListDrops.{find-is}
-use Rattle.hwp_plain_order.specs.hwp_core_task.Boards.{Played}
+use Rattle.hwp_plain_order.specs.hwp_core_rule.Boards.{Played}
 use Rattle.hwp_law_run.specs.Turns.{Leads}
 use Rattle.hwp_law_run.proofs.StepAdds.{AddsLength, AddsMade, AddsNothing, adds}
 use Rattle.hwp_law_run.proofs.Homes.{home-within}

@@ -5,8 +5,8 @@ use Rattle.hwp_plain_order.specs.hwp_core_rule.declared.State.{State}
 use Rattle.hwp_plain_order.specs.hwp_core_rule.Moves.{Move}
 use Rattle.hwp_plain_order.specs.hwp_core_rule.Rule.{Holds}
 use Rattle.hwp_law.specs.hwp_script_read.declared.Go.{Go}
-use Rattle.hwp_plain_order.specs.hwp_core_task.Boards.{Played}
-use Rattle.hwp_plain_order.specs.hwp_core_task.Turns.{Member}
+use Rattle.hwp_plain_order.specs.hwp_core_rule.Boards.{Played}
+use Rattle.hwp_plain_order.specs.hwp_core_rule.Turns.{Member}
 use Rattle.hwp_plain_order.specs.Order.{Finishing, InOrder, Running, Schedule, TurnOf, Word}
 use Rattle.hwp_law_run.specs.Turns.{Leads}
 

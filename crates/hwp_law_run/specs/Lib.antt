@@ -5,7 +5,6 @@ pub mod Scrubs
 pub mod Run
 pub use Rattle.hwp_law.specs.hwp_banks as hwp_banks
 pub use Rattle.hwp_plain_order.specs.hwp_core_rule as hwp_core_rule
-pub use Rattle.hwp_plain_order.specs.hwp_core_task as hwp_core_task
 pub use Rattle.hwp_law.specs.hwp_geom as hwp_geom
 pub use Rattle.hwp_law.specs.hwp_kill as hwp_kill
 pub use Rattle.hwp_law.specs as hwp_law

@@ -22,7 +22,7 @@ use Rattle.hwp_plain_order.specs.hwp_core_rule.declared.View.{View}
 use Rattle.hwp_plain_order.specs.hwp_core_rule.Lists.{EachMember}
 use Rattle.hwp_plain_order.specs.hwp_core_rule.Logs.{state_of}
 use Rattle.hwp_plain_order.specs.hwp_core_rule.parts.Places.{IsBare}
-use Rattle.hwp_plain_order.specs.hwp_core_task.Boards.{Played}
+use Rattle.hwp_plain_order.specs.hwp_core_rule.Boards.{Played}
 use Rattle.hwp_law.specs.hwp_script_read.declared.Command.{Command}
 use Rattle.hwp_law.specs.hwp_script_read.declared.Command.TheVariants as commands
 use Rattle.hwp_law.specs.hwp_script_read.declared.Script.{Script}

@@ -18,7 +18,7 @@ use Rattle.hwp_plain_order.specs.hwp_core_rule.Moves.{Move}
 use Rattle.hwp_plain_order.specs.hwp_core_rule.Opening.{opening}
 use Rattle.hwp_plain_order.specs.hwp_core_rule.Rule.{Holds}
 use Rattle.hwp_plain_order.specs.hwp_core_rule.Steps.{place_of}
-use Rattle.hwp_plain_order.specs.hwp_core_task.Boards.{Played}
+use Rattle.hwp_plain_order.specs.hwp_core_rule.Boards.{Played}
 
 -- the turns lead, move by move, from one board to another, and each keeps the frame rule
 abbrev pub Leads : Layout → State → List Played → State → Type 0

@@ -11,9 +11,9 @@ use Rattle.hwp_law_run.specs.hwp_core_rule.declared.View.{View}
 use Rattle.hwp_law_run.specs.hwp_core_rule.Lists.{EachMember}
 use Rattle.hwp_law_run.specs.hwp_core_rule.Views.{noted, view_by}
 use Rattle.hwp_law_run.proofs.of_hwp_core_rule.Lists.{each-push}
-use Rattle.hwp_law_run.specs.hwp_core_task.Calls.{Steps}
-use Rattle.hwp_law_run.proofs.of_hwp_core_task.StepLeaves.{content_of}
-use Rattle.hwp_law_run.specs.hwp_core_task.Known.{deeds}
+use Rattle.hwp_law_run.specs.hwp_core_rule.Calls.{Steps}
+use Rattle.hwp_law_run.proofs.of_hwp_core_rule.StepLeaves.{content_of}
+use Rattle.hwp_law_run.specs.hwp_core_rule.Known.{deeds}
 use Rattle.hwp_soft.specs.hwp_claim_act.Abandoned.{failed_in}
 use Rattle.hwp_soft.specs.hwp_claim_frame.Done.{marking_of}
 use Rattle.hwp_law_run.specs.hwp_script_read.declared.Command.{Command}

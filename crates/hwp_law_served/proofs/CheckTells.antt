@@ -15,10 +15,10 @@ use Rattle.hwp_law_run.specs.hwp_core_rule.declared.Made.{Made}
 use Rattle.hwp_law_run.specs.hwp_core_rule.declared.Step.{Step}
 use Rattle.hwp_law_run.specs.hwp_core_rule.declared.View.{View}
 use Rattle.hwp_law_run.specs.hwp_core_rule.Lists.{SomeMember}
-use Rattle.hwp_law_run.specs.hwp_core_task.Calls.{CanMake, Steps, logs}
-use Rattle.hwp_law_run.specs.hwp_core_task.Known.{IsAt, deeds}
-use Rattle.hwp_law_run.proofs.of_hwp_core_task.MadeEntries.{deeds-other}
-use Rattle.hwp_law_run.proofs.of_hwp_core_task.SightKeeps.{saw-stays}
+use Rattle.hwp_law_run.specs.hwp_core_rule.Calls.{CanMake, Steps, logs}
+use Rattle.hwp_law_run.specs.hwp_core_rule.Known.{IsAt, deeds}
+use Rattle.hwp_law_run.proofs.of_hwp_core_rule.MadeEntries.{deeds-other}
+use Rattle.hwp_law_run.proofs.of_hwp_core_rule.SightKeeps.{saw-stays}
 use Rattle.hwp_law_run.specs.hwp_script_read.declared.Command.{Command}
 use Rattle.hwp_law_run.specs.hwp_script_read.declared.Command.TheVariants as commands
 use Rattle.hwp_law_run.specs.hwp_report_text.declared.Answer.{Answer}

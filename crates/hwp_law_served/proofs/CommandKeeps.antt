@@ -27,11 +27,11 @@ use Rattle.hwp_law_run.specs.hwp_core_rule.Logs.{log_of}
 use Rattle.hwp_law_run.specs.hwp_core_rule.Steps.{goes}
 use Rattle.hwp_law_run.specs.hwp_core_rule.Views.{body_of, listed_of, loaded, noted, put_home, taken, view_by}
 use Rattle.hwp_law_run.proofs.of_hwp_core_rule.Lists.{some-push}
-use Rattle.hwp_law_run.specs.hwp_core_task.Calls.{CanMake, Steps, logs}
-use Rattle.hwp_law_run.proofs.of_hwp_core_task.StepLeaves.{content_of}
-use Rattle.hwp_law_run.specs.hwp_core_task.Known.{HasMadeNone, SawStop, deeds}
-use Rattle.hwp_law_run.proofs.of_hwp_core_task.MadeEntries.{has-made-stays, has-only-stays}
-use Rattle.hwp_law_run.proofs.of_hwp_core_task.SightKeeps.{saw-bad-of-stays, saw-state-stays, saw-stays}
+use Rattle.hwp_law_run.specs.hwp_core_rule.Calls.{CanMake, Steps, logs}
+use Rattle.hwp_law_run.proofs.of_hwp_core_rule.StepLeaves.{content_of}
+use Rattle.hwp_law_run.specs.hwp_core_rule.Known.{HasMadeNone, SawStop, deeds}
+use Rattle.hwp_law_run.proofs.of_hwp_core_rule.MadeEntries.{has-made-stays, has-only-stays}
+use Rattle.hwp_law_run.proofs.of_hwp_core_rule.SightKeeps.{saw-bad-of-stays, saw-state-stays, saw-stays}
 use Rattle.hwp_soft.specs.hwp_soft_move.Seizes.{SawKernel}
 use Rattle.hwp_soft.proofs.SpareSteps.{free-stays}
 use Rattle.hwp_law_run.specs.hwp_script_read.declared.Command.{Command}

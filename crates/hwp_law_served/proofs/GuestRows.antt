@@ -7,7 +7,7 @@ use Rattle.hwp_law_run.specs.hwp_geom.declared.Layout.{Layout}
 use Rattle.hwp_law_run.specs.hwp_geom.declared.Who.{Who}
 use Rattle.hwp_law_run.specs.hwp_core_rule.declared.View.{View}
 use Rattle.hwp_law_run.proofs.of_hwp_core_rule.Lists.{at_push}
-use Rattle.hwp_law_run.specs.hwp_core_task.Known.{HasMadeNone}
+use Rattle.hwp_law_run.specs.hwp_core_rule.Known.{HasMadeNone}
 use Rattle.hwp_law_run.specs.hwp_script_read.declared.Command.{Command}
 use Rattle.hwp_law_run.specs.hwp_report_text.declared.Answer.{Answer}
 use Rattle.hwp_law_run.specs.hwp_law_commands.Guests.{denied}

@@ -11,8 +11,8 @@ use Rattle.hwp_law_run.specs.hwp_core_rule.declared.Log.{Log}
 use Rattle.hwp_law_run.specs.hwp_core_rule.declared.State.{State}
 use Rattle.hwp_law_run.specs.hwp_core_rule.declared.View.{View}
 use Rattle.hwp_law_run.specs.hwp_core_rule.Logs.{state_of}
-use Rattle.hwp_law_run.specs.hwp_core_task.Boards.{view_of}
-use Rattle.hwp_law_run.specs.hwp_core_task.Pages.{SawState}
+use Rattle.hwp_law_run.specs.hwp_core_rule.Boards.{view_of}
+use Rattle.hwp_law_run.specs.hwp_core_rule.Pages.{SawState}
 use Rattle.hwp_law_run.specs.hwp_script_read.declared.Script.{Script}
 use Rattle.hwp_law_run.specs.hwp_report_text.declared.Report.{Report}
 use Rattle.hwp_law_run.specs.hwp_law.States.{HadState}

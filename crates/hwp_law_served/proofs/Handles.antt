@@ -9,9 +9,9 @@ use Rattle.hwp_law_run.specs.hwp_page.History.{BodyValue}
 use Rattle.hwp_law_run.specs.hwp_core_rule.declared.Step.{Step}
 use Rattle.hwp_law_run.specs.hwp_core_rule.declared.View.{View}
 use Rattle.hwp_law_run.proofs.of_hwp_core_rule.Lists.{at_last}
-use Rattle.hwp_law_run.specs.hwp_core_task.Calls.{CanMake, Steps, logs}
-use Rattle.hwp_law_run.proofs.of_hwp_core_task.LossCovers.{covers-stays}
-use Rattle.hwp_law_run.proofs.of_hwp_core_task.SightKeeps.{saw-stays}
+use Rattle.hwp_law_run.specs.hwp_core_rule.Calls.{CanMake, Steps, logs}
+use Rattle.hwp_law_run.proofs.of_hwp_core_rule.LossCovers.{covers-stays}
+use Rattle.hwp_law_run.proofs.of_hwp_core_rule.SightKeeps.{saw-stays}
 use Rattle.hwp_law_run.specs.hwp_script_read.declared.Command.{Command}
 use Rattle.hwp_law_run.specs.hwp_report_text.declared.Answer.{Answer}
 use Rattle.hwp_law_run.specs.hwp_law.Losses.{number_by, numbers_after, tells_number}

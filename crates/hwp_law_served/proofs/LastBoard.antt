@@ -16,7 +16,7 @@ use Rattle.hwp_law_run.specs.hwp_core_rule.Opening.{opening}
 use Rattle.hwp_law_run.specs.hwp_core_rule.Rule.{Holds}
 use Rattle.hwp_law_run.specs.hwp_core_rule.parts.Holdings.{HoldsNothing}
 use Rattle.hwp_law_run.proofs.of_hwp_core_rule.Lists.{each-weaken}
-use Rattle.hwp_law_run.specs.hwp_core_task.Boards.{Played, view_of}
+use Rattle.hwp_law_run.specs.hwp_core_rule.Boards.{Played, view_of}
 use Rattle.hwp_law_run.specs.hwp_script_read.declared.Command.{Command}
 use Rattle.hwp_law_run.specs.hwp_script_read.declared.Command.TheVariants as commands
 use Rattle.hwp_law_run.specs.hwp_script_read.declared.Script.{Script}

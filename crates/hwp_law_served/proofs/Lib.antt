@@ -26,6 +26,5 @@ pub mod losses
 pub mod copied
 pub mod HadStates
 pub use Rattle.hwp_law_run.proofs.of_hwp_core_rule as of_hwp_core_rule
-pub use Rattle.hwp_law_run.proofs.of_hwp_core_task as of_hwp_core_task
 pub use Rattle.hwp_law_run.proofs as of_hwp_law_run
 pub use Rattle.hwp_scrub.proofs as of_hwp_scrub

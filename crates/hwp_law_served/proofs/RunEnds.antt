@@ -16,8 +16,8 @@ use Rattle.hwp_law_run.specs.hwp_core_rule.Words.{words_of}
 use Rattle.hwp_law_run.specs.hwp_core_rule.parts.Holdings.{HoldsNothing, IsPast}
 use Rattle.hwp_law_run.proofs.of_hwp_core_rule.Lists.{at_map}
 use Rattle.hwp_law_run.proofs.of_hwp_core_rule.NotLater.{one-view}
-use Rattle.hwp_law_run.specs.hwp_core_task.Boards.{AreSeated, view_of}
-use Rattle.hwp_law_run.specs.hwp_core_task.Known.{deeds, is_by}
+use Rattle.hwp_law_run.specs.hwp_core_rule.Boards.{AreSeated, view_of}
+use Rattle.hwp_law_run.specs.hwp_core_rule.Known.{deeds, is_by}
 use Rattle.hwp_law_run.specs.hwp_script_read.declared.Command.{Command}
 use Rattle.hwp_law_run.specs.hwp_script_read.declared.Script.{Script}
 use Rattle.hwp_law_run.specs.hwp_report_text.declared.Answer.{Answer}

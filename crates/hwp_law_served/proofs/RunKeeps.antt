@@ -10,7 +10,7 @@ use Rattle.hwp_law_run.specs.hwp_core_rule.Opening.{below, opening, opening_view
 use Rattle.hwp_law_run.specs.hwp_core_rule.Rule.{Holds}
 use Rattle.hwp_law_run.specs.hwp_core_rule.Views.{view_after}
 use Rattle.hwp_law_run.proofs.of_hwp_core_rule.Lists.{each-map, each-set}
-use Rattle.hwp_law_run.specs.hwp_core_task.Boards.{Played}
+use Rattle.hwp_law_run.specs.hwp_core_rule.Boards.{Played}
 use Rattle.hwp_law_run.specs.Turns.{Leads}
 
 -- Of a board, and of a view on it: a step leaves it of the other views, and makes it of its own.

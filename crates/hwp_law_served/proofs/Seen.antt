@@ -22,8 +22,8 @@ use Rattle.hwp_law_run.specs.hwp_core_rule.declared.Log.{Log}
 use Rattle.hwp_law_run.specs.hwp_core_rule.declared.Made.{Made}
 use Rattle.hwp_law_run.specs.hwp_core_rule.declared.View.{View}
 use Rattle.hwp_law_run.proofs.of_hwp_core_rule.Lists.{at_last, at_longer}
-use Rattle.hwp_law_run.specs.hwp_core_task.Known.{HasMade, SawLog, deeds, is_by}
-use Rattle.hwp_law_run.specs.hwp_core_task.Pages.{SawState}
+use Rattle.hwp_law_run.specs.hwp_core_rule.Known.{HasMade, SawLog, deeds, is_by}
+use Rattle.hwp_law_run.specs.hwp_core_rule.Pages.{SawState}
 use Rattle.hwp_soft.specs.hwp_claim_act.declared.Failed.{Failed}
 use Rattle.hwp_soft.specs.hwp_claim_act.Abandoned.{failed_in, failed_of}
 use Rattle.hwp_soft.specs.hwp_claim_act.Abandons.{signals_now}

@@ -11,8 +11,8 @@ use Rattle.hwp_law_run.specs.hwp_core_rule.declared.View.{View}
 use Rattle.hwp_law_run.specs.hwp_core_rule.Lists.{SomeMember}
 use Rattle.hwp_law_run.specs.hwp_core_rule.Words.{words_of}
 use Rattle.hwp_law_run.proofs.of_hwp_core_rule.Lists.{at_map, map-was}
-use Rattle.hwp_law_run.specs.hwp_core_task.Boards.{view_of}
-use Rattle.hwp_law_run.specs.hwp_core_task.Known.{SawStop}
+use Rattle.hwp_law_run.specs.hwp_core_rule.Boards.{view_of}
+use Rattle.hwp_law_run.specs.hwp_core_rule.Known.{SawStop}
 use Rattle.hwp_law_run.specs.hwp_script_read.declared.Command.{Command}
 use Rattle.hwp_law_run.specs.hwp_script_read.declared.Script.{Script}
 use Rattle.hwp_law_run.specs.hwp_report_text.declared.Report.{Report}

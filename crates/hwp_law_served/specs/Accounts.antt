@@ -13,7 +13,7 @@ use Rattle.hwp_law_run.specs.hwp_core_rule.declared.MarkKind.{MarkKind}
 use Rattle.hwp_law_run.specs.hwp_core_rule.declared.MarkKind.TheVariants as mark_kinds
 use Rattle.hwp_law_run.specs.hwp_core_rule.declared.Setting.{Setting}
 use Rattle.hwp_law_run.specs.hwp_core_rule.declared.View.{View}
-use Rattle.hwp_law_run.specs.hwp_core_task.Known.{deeds}
+use Rattle.hwp_law_run.specs.hwp_core_rule.Known.{deeds}
 use Rattle.hwp_soft.specs.hwp_claim_act.declared.Failed.{Failed}
 use Rattle.hwp_soft.specs.hwp_claim_act.Abandoned as abandoned
 use Rattle.hwp_soft.specs.hwp_claim_frame.Done.{Marking, marking_of, poisoning}

@@ -30,8 +30,8 @@ use Rattle.hwp_law_run.specs.hwp_core_rule.declared.View.{View}
 use Rattle.hwp_law_run.specs.hwp_words.Counters.{hardware_of}
 use Rattle.hwp_law_run.specs.hwp_words.Frames.{count_of, is_poisoned}
 use Rattle.hwp_law_run.specs.hwp_core_rule.Lists.{SomeMember}
-use Rattle.hwp_law_run.specs.hwp_core_task.Known.{HasMade, HasMadeNone, HasOnly, IsOnTheWay, Precedes, Saw, SawBadOf, SawStop, is_failure}
-use Rattle.hwp_law_run.specs.hwp_core_task.Pages.{SawState}
+use Rattle.hwp_law_run.specs.hwp_core_rule.Known.{HasMade, HasMadeNone, HasOnly, IsOnTheWay, Precedes, Saw, SawBadOf, SawStop, is_failure}
+use Rattle.hwp_law_run.specs.hwp_core_rule.Pages.{SawState}
 use Rattle.hwp_law_run.specs.hwp_script_read.declared.Command.{Command}
 use Rattle.hwp_law_run.specs.hwp_script_read.declared.Command.TheVariants as commands
 use Rattle.hwp_law_run.specs.hwp_report_text.declared.Answer.{Answer}

@@ -16,8 +16,8 @@ use Rattle.hwp_law_run.specs.hwp_core_rule.declared.Made.{Made}
 use Rattle.hwp_law_run.specs.hwp_core_rule.declared.SharedWord.TheVariants as places
 use Rattle.hwp_law_run.specs.hwp_core_rule.declared.View.{View}
 use Rattle.hwp_law_run.specs.hwp_core_rule.Lists.{EachMember, SomeMember}
-use Rattle.hwp_law_run.specs.hwp_core_task.Known.{IsAt, Saw, SawStop, deeds}
-use Rattle.hwp_law_run.specs.hwp_core_task.Pages.{SawState}
+use Rattle.hwp_law_run.specs.hwp_core_rule.Known.{IsAt, Saw, SawStop, deeds}
+use Rattle.hwp_law_run.specs.hwp_core_rule.Pages.{SawState}
 use Rattle.hwp_law_run.specs.hwp_report_text.declared.Answer.{Answer}
 use Rattle.hwp_law_run.specs.hwp_report_text.declared.Answer.TheVariants as answers
 use Rattle.hwp_law_run.specs.hwp_law_commands.Commands.{process_of_thread}

@@ -7,7 +7,7 @@ use Rattle.hwp_law_run.specs.hwp_geom.declared.Layout.{Layout}
 use Rattle.hwp_law_run.specs.hwp_geom.declared.Who.{Who}
 use Rattle.hwp_law_run.specs.hwp_core_rule.declared.SharedWord.TheVariants as places
 use Rattle.hwp_law_run.specs.hwp_core_rule.declared.View.{View}
-use Rattle.hwp_law_run.specs.hwp_core_task.Known.{Covers, Saw}
+use Rattle.hwp_law_run.specs.hwp_core_rule.Known.{Covers, Saw}
 use Rattle.hwp_law_run.specs.hwp_script_read.declared.Command.{Command}
 use Rattle.hwp_law_run.specs.hwp_report_text.declared.Answer.{Answer}
 use Rattle.hwp_law_run.specs.hwp_law.Losses.{numbers_after, tells_number}

@@ -14,7 +14,6 @@ pub use Rattle.hwp_soft.specs.hwp_claim as hwp_claim
 pub use Rattle.hwp_soft.specs.hwp_claim_act as hwp_claim_act
 pub use Rattle.hwp_soft.specs.hwp_claim_frame as hwp_claim_frame
 pub use Rattle.hwp_law_run.specs.hwp_core_rule as hwp_core_rule
-pub use Rattle.hwp_law_run.specs.hwp_core_task as hwp_core_task
 pub use Rattle.hwp_cpu_row.specs.hwp_cpu_check as hwp_cpu_check
 pub use Rattle.hwp_cpu_row.specs as hwp_cpu_row
 pub use Rattle.hwp_cpu_copy.specs.hwp_evict as hwp_evict

@@ -13,8 +13,8 @@ use Rattle.hwp_law_run.specs.hwp_page.Step.{IsOf}
 use Rattle.hwp_law_run.specs.hwp_core_rule.declared.State.{State}
 use Rattle.hwp_law_run.specs.hwp_core_rule.Opening.{opening}
 use Rattle.hwp_law_run.specs.hwp_core_rule.Rule.{Holds}
-use Rattle.hwp_law_run.specs.hwp_core_task.Boards.{AreSeated, Played, view_of}
-use Rattle.hwp_law_run.specs.hwp_core_task.Ranks.{Pending, words_at}
+use Rattle.hwp_law_run.specs.hwp_core_rule.Boards.{AreSeated, Played, view_of}
+use Rattle.hwp_law_run.specs.hwp_core_rule.Ranks.{Pending, words_at}
 use Rattle.hwp_law_run.specs.hwp_script_read.declared.Command.{Command}
 use Rattle.hwp_law_run.specs.hwp_script_read.declared.Command.TheVariants as commands
 use Rattle.hwp_law_run.specs.hwp_script_read.declared.Script.{Script}

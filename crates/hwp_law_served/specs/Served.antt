@@ -18,7 +18,7 @@ use Rattle.hwp_law_run.specs.hwp_core_rule.declared.View.{View}
 use Rattle.hwp_law_run.specs.hwp_core_rule.Lists.{EachMember}
 use Rattle.hwp_law_run.specs.hwp_core_rule.parts.Holdings.{HoldsNothing}
 use Rattle.hwp_law_run.specs.hwp_core_rule.parts.Policies.{settings_of}
-use Rattle.hwp_law_run.specs.hwp_core_task.Known.{Saw}
+use Rattle.hwp_law_run.specs.hwp_core_rule.Known.{Saw}
 use Rattle.hwp_law_run.specs.hwp_script_read.declared.Command.{Command}
 use Rattle.hwp_law_run.specs.hwp_script_read.declared.Command.TheVariants as commands
 use Rattle.hwp_law_run.specs.hwp_report_text.declared.Answer.{Answer}

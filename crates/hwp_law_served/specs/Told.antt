@@ -10,7 +10,7 @@ use Rattle.hwp_law_run.specs.hwp_geom.declared.Who.{Who}
 use Rattle.hwp_law_run.specs.hwp_banks.declared.Origin.{Origin}
 use Rattle.hwp_law_run.specs.hwp_banks.declared.Origin.TheVariants as origins
 use Rattle.hwp_law_run.specs.hwp_core_rule.declared.View.{View}
-use Rattle.hwp_law_run.specs.hwp_core_task.Known.{such_deeds}
+use Rattle.hwp_law_run.specs.hwp_core_rule.Known.{such_deeds}
 use Rattle.hwp_law_run.specs.hwp_script_read.declared.Command.{Command}
 use Rattle.hwp_law_run.specs.hwp_script_read.declared.Command.TheVariants as commands
 use Rattle.hwp_law_run.specs.hwp_report_text.declared.Answer.{Answer}

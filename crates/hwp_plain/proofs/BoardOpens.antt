@@ -1,10 +1,10 @@
 -- The board at opening.
 use Rattle.std.proofs.Common.{◌≡◌, ℕ, List, map, sym, subst}
-use Rattle.hwp_core_task.specs.hwp_geom.declared.Layout.{Layout}
-use Rattle.hwp_core_task.specs.hwp_geom.Layout.{IsSound}
-use Rattle.hwp_core_task.specs.hwp_core_rule.Opening.{below, opening_words, opening_homes, opening_view, opening}
-use Rattle.hwp_core_task.specs.hwp_core_rule.Rule.{Holds}
-use Rattle.hwp_core_task.proofs.of_hwp_core_rule.BoardOpens.{opening-holds}
+use Rattle.hwp_core_rule.specs.hwp_geom.declared.Layout.{Layout}
+use Rattle.hwp_core_rule.specs.hwp_geom.Layout.{IsSound}
+use Rattle.hwp_core_rule.specs.Opening.{below, opening_words, opening_homes, opening_view, opening}
+use Rattle.hwp_core_rule.specs.Rule.{Holds}
+use Rattle.hwp_core_rule.proofs.BoardOpens.{opening-holds}
 use Rattle.hwp_plain.specs.declared.slot.Slot.{Slot}
 use Rattle.hwp_plain.specs.declared.trail.Trail.TheVariants.{Opening}
 use Rattle.hwp_plain.specs.Boards.{IsBoard, state_of}

@@ -1,10 +1,10 @@
 -- The cache words stand in the list of all words, one for each page.
 use Rattle.std.proofs.Common.{◌≡◌, ℕ, ◌+◌, ◌-◌, ◌≤◌, ◌<◌, ◌^◌, List, drop, take, length, ap, ◌∙◌, arith}
 use Rattle.std.proofs.lemmas.List.{length-drop, length-take-le}
-use Rattle.hwp_core_task.specs.hwp_geom.declared.Layout.{Layout}
-use Rattle.hwp_core_task.specs.hwp_core_rule.Words.{caches_from, size}
-use Rattle.hwp_core_task.specs.hwp_core_rule.declared.State.{State}
-use Rattle.hwp_core_task.specs.hwp_core_rule.Rule.{Holds}
+use Rattle.hwp_core_rule.specs.hwp_geom.declared.Layout.{Layout}
+use Rattle.hwp_core_rule.specs.Words.{caches_from, size}
+use Rattle.hwp_core_rule.specs.declared.State.{State}
+use Rattle.hwp_core_rule.specs.Rule.{Holds}
 
 pub caches-many : (layout : Layout) (s : State) → Holds layout s → (from len : ℕ) (words : List ℕ) → words ≡ s.words → from ≡ caches_from layout + 0 → len ≡ length layout.pages → length (take (from + len - from) (drop from words)) ≡ length layout.pages
 caches-many layout s h from len words is at many =

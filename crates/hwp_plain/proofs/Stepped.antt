@@ -3,39 +3,39 @@ use Rattle.std.proofs.Common.{◌≡◌, ℕ, ◌+◌, ◌^◌, ◌<◌, Bool, t
 use Rattle.std.specs.declared.snapshot.Snapshot.{Snapshot}
 use Rattle.std.proofs.lemmas.List.{length-map}
 use Rattle.std.proofs.lemmas.Option.{slice_get_read, get_or_from_slice_get}
-use Rattle.hwp_core_task.specs.hwp_geom.declared.Cpu.{Cpu}
-use Rattle.hwp_core_task.specs.hwp_geom.declared.Layout.{Layout}
-use Rattle.hwp_core_task.specs.hwp_geom.declared.Who.{Who}
-use Rattle.hwp_core_task.specs.hwp_page.History.{BodyValue, IsReplay}
-use Rattle.hwp_core_task.specs.hwp_core_rule.declared.Log.{Log}
-use Rattle.hwp_core_task.specs.hwp_core_rule.declared.SharedWord.{SharedWord}
-use Rattle.hwp_core_task.specs.hwp_core_rule.declared.Rec.{Rec}
-use Rattle.hwp_core_task.specs.hwp_core_rule.declared.SlotMove.{SlotMove}
-use Rattle.hwp_core_task.specs.hwp_core_rule.declared.State.{State}
-use Rattle.hwp_core_task.specs.hwp_core_rule.declared.Step.{Step}
-use Rattle.hwp_core_task.specs.hwp_core_rule.declared.View.{View}
-use Rattle.hwp_core_task.specs.hwp_core_rule.Asks.{AsksOf}
-use Rattle.hwp_core_task.specs.hwp_core_rule.Logs.{log_of}
-use Rattle.hwp_core_task.specs.hwp_core_rule.Moves.{Move, Told}
-use Rattle.hwp_core_task.specs.hwp_core_rule.Opening.{opening_view}
-use Rattle.hwp_core_task.specs.hwp_core_rule.SlotMoves.{slot_move, is_out, homes_moved, takes, IsWithin, LeavesHome, MeetsSlot}
-use Rattle.hwp_core_task.specs.hwp_core_rule.Steps.{place_of, word_after, kind_of}
-use Rattle.hwp_core_task.specs.hwp_core_rule.Views.{view_after}
-use Rattle.hwp_core_task.specs.hwp_core_rule.Words.{index, size, IsPlace}
-use Rattle.hwp_core_task.proofs.of_hwp_core_rule.MoveKeeps.{holds-moved}
-use Rattle.hwp_core_task.proofs.of_hwp_core_rule.StepKeeps.{keeps}
-use Rattle.hwp_core_task.specs.hwp_geom.declared.Kind.{Kind}
-use Rattle.hwp_core_task.specs.declared.Turn.{Turn}
-use Rattle.hwp_core_task.specs.declared.Turn.TheVariants as turns
-use Rattle.hwp_core_task.specs.Boards.{Played}
-use Rattle.hwp_core_task.specs.Calls.{CanMake, FitsLayout, Steps, logs, rec_of}
+use Rattle.hwp_core_rule.specs.hwp_geom.declared.Cpu.{Cpu}
+use Rattle.hwp_core_rule.specs.hwp_geom.declared.Layout.{Layout}
+use Rattle.hwp_core_rule.specs.hwp_geom.declared.Who.{Who}
+use Rattle.hwp_core_rule.specs.hwp_page.History.{BodyValue, IsReplay}
+use Rattle.hwp_core_rule.specs.declared.Log.{Log}
+use Rattle.hwp_core_rule.specs.declared.SharedWord.{SharedWord}
+use Rattle.hwp_core_rule.specs.declared.Rec.{Rec}
+use Rattle.hwp_core_rule.specs.declared.SlotMove.{SlotMove}
+use Rattle.hwp_core_rule.specs.declared.State.{State}
+use Rattle.hwp_core_rule.specs.declared.Step.{Step}
+use Rattle.hwp_core_rule.specs.declared.View.{View}
+use Rattle.hwp_core_rule.specs.Asks.{AsksOf}
+use Rattle.hwp_core_rule.specs.Logs.{log_of}
+use Rattle.hwp_core_rule.specs.Moves.{Move, Told}
+use Rattle.hwp_core_rule.specs.Opening.{opening_view}
+use Rattle.hwp_core_rule.specs.SlotMoves.{slot_move, is_out, homes_moved, takes, IsWithin, LeavesHome, MeetsSlot}
+use Rattle.hwp_core_rule.specs.Steps.{place_of, word_after, kind_of}
+use Rattle.hwp_core_rule.specs.Views.{view_after}
+use Rattle.hwp_core_rule.specs.Words.{index, size, IsPlace}
+use Rattle.hwp_core_rule.proofs.MoveKeeps.{holds-moved}
+use Rattle.hwp_core_rule.proofs.StepKeeps.{keeps}
+use Rattle.hwp_core_rule.specs.hwp_geom.declared.Kind.{Kind}
+use Rattle.hwp_core_rule.specs.declared.Turn.{Turn}
+use Rattle.hwp_core_rule.specs.declared.Turn.TheVariants as turns
+use Rattle.hwp_core_rule.specs.Boards.{Played}
+use Rattle.hwp_core_rule.specs.Calls.{CanMake, FitsLayout, Steps, logs, rec_of}
 use Rattle.hwp_plain.specs.declared.slot.Slot.{Slot}
 use Rattle.hwp_plain.specs.declared.trail.Trail.{Trail}
 use Rattle.hwp_plain.specs.declared.trail.Trail.TheViews.{Made}
 use Rattle.hwp_plain.specs.Boards.{Board, IsBoard, IsReached, Moves, logged, own_view, state_of}
 use Rattle.hwp_plain.specs.Slots.{home_of, AreOfLayout}
 use Rattle.hwp_plain.specs.Trails.{made_of, played, views_of}
-use Rattle.hwp_core_task.proofs.of_hwp_core_rule.MetWords.{asks-taken, slot-within, slot-home}
+use Rattle.hwp_core_rule.proofs.MetWords.{asks-taken, slot-within, slot-home}
 use Rattle.hwp_plain.proofs.TrailViews.{view-there, view-now, views-are}
 
 -- the content is that of the body that went out, or came home

@@ -2,17 +2,17 @@
 use Rattle.std.proofs.Common.{◌≡◌, ◌≢◌, ◌⊎◌, inl, inr, ℕ, ◌<◌, List, Some, map, set, length, slice_get, get_or, refl, sym, ◌∙◌, subst}
 use Rattle.std.proofs.lemmas.List.{length-map, length-set, get_or-set_same, get_or-set_other}
 use Rattle.std.proofs.lemmas.Option.{slice_get-get_or, get_or_from_slice_get}
-use Rattle.hwp_core_task.specs.hwp_geom.declared.Cpu.{Cpu}
-use Rattle.hwp_core_task.specs.hwp_geom.declared.Layout.{Layout}
-use Rattle.hwp_core_task.specs.hwp_core_rule.declared.Part.{Part}
-use Rattle.hwp_core_task.specs.hwp_core_rule.declared.Rec.{Rec}
-use Rattle.hwp_core_task.specs.hwp_core_rule.declared.View.{View}
-use Rattle.hwp_core_task.specs.hwp_core_rule.Lists.{SomeMember}
-use Rattle.hwp_core_task.specs.hwp_core_rule.Opening.{below, opening_view}
-use Rattle.hwp_core_task.specs.hwp_core_rule.Views.{view_after}
-use Rattle.hwp_core_task.proofs.of_hwp_core_rule.KeptTurns.{part-after}
-use Rattle.hwp_core_task.proofs.of_hwp_core_rule.Lists.{at_map, same-or}
-use Rattle.hwp_core_task.proofs.of_hwp_core_rule.WordsOpen.{length-below, below-at}
+use Rattle.hwp_core_rule.specs.hwp_geom.declared.Cpu.{Cpu}
+use Rattle.hwp_core_rule.specs.hwp_geom.declared.Layout.{Layout}
+use Rattle.hwp_core_rule.specs.declared.Part.{Part}
+use Rattle.hwp_core_rule.specs.declared.Rec.{Rec}
+use Rattle.hwp_core_rule.specs.declared.View.{View}
+use Rattle.hwp_core_rule.specs.Lists.{SomeMember}
+use Rattle.hwp_core_rule.specs.Opening.{below, opening_view}
+use Rattle.hwp_core_rule.specs.Views.{view_after}
+use Rattle.hwp_core_rule.proofs.KeptTurns.{part-after}
+use Rattle.hwp_core_rule.proofs.Lists.{at_map, same-or}
+use Rattle.hwp_core_rule.proofs.WordsOpen.{length-below, below-at}
 use Rattle.hwp_plain.specs.declared.trail.Trail.{Trail, Opening, Made'}
 use Rattle.hwp_plain.specs.Trails.{made_of, views_of}
 

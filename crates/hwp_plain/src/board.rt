@@ -1,17 +1,17 @@
 ghost use Rattle.std.specs.Prelude.{◌≡◌, ◌<◌, true, false, [], cond, None, IfOk, length};
-ghost use Rattle.hwp_core_task.specs.hwp_geom.Layout.{IsSound};
-ghost use Rattle.hwp_core_task.specs.hwp_core_rule.Lists.{EachMember};
-ghost use Rattle.hwp_core_task.specs.hwp_core_rule.Opening.{opening};
-ghost use Rattle.hwp_core_task.specs.hwp_core_rule.parts.Holdings.{HoldsNothing};
-ghost use Rattle.hwp_core_task.specs.Calls.{CanMake, Steps, logs, rec_of};
+ghost use Rattle.hwp_core_rule.specs.hwp_geom.Layout.{IsSound};
+ghost use Rattle.hwp_core_rule.specs.Lists.{EachMember};
+ghost use Rattle.hwp_core_rule.specs.Opening.{opening};
+ghost use Rattle.hwp_core_rule.specs.parts.Holdings.{HoldsNothing};
+ghost use Rattle.hwp_core_rule.specs.Calls.{CanMake, Steps, logs, rec_of};
 ghost use Rattle.hwp_plain.specs.Boards.{IsReached, Moves, own_view, with_turn};
 ghost use Rattle.hwp_plain_words.specs.Ends.{AreHistories, IsMachineOf};
-ghost use Rattle.hwp_core_task.specs.Boards.{AreSeated};
+ghost use Rattle.hwp_core_rule.specs.Boards.{AreSeated};
 
 use crate::bodies::{bodies_of, slots_of};
 use crate::slot::{Slot, carry};
 use crate::trail::{Trail, tell};
-use hwp_core_task::{
+use hwp_core_rule::{
     Body, Cpu, Entry, Kind, Layout, List, Met, OutOfMemory, Page, SharedWord, Step, Turn, Who,
     index,
 };
@@ -38,7 +38,7 @@ impl Model for PlainBoard {
     ghost use Rattle.std.specs.Arc.{arc_value};
     ghost use Rattle.hwp_plain.specs.Boards.{Board, IsBoard, state_of};
     ghost use Rattle.hwp_plain.specs.Trails.{played};
-    ghost use Rattle.hwp_core_task.specs.hwp_kill.contracts.Slots as sets;
+    ghost use Rattle.hwp_core_rule.specs.hwp_kill.contracts.Slots as sets;
     ghost use Rattle.std.specs.Coded.{codes};
 
     ghost Value = { Board };

@@ -2,7 +2,7 @@ ghost use Rattle.std.specs.Prelude.{◌≡◌, map, IfOk};
 ghost use Rattle.hwp_plain.specs.Slots.{body_in, in_slot};
 
 use crate::slot::Slot;
-use hwp_core_task::{Body, OutOfMemory};
+use hwp_core_rule::{Body, OutOfMemory};
 use std::alloc::Global;
 
 /// Slots at home, with these bodies.

@@ -1,7 +1,7 @@
 ghost use Rattle.std.specs.Prelude.{◌≡◌, true};
 
 use crate::board::PlainBoard;
-use hwp_core_task::{Body, Layout, Met, Ops, Step, Who};
+use hwp_core_rule::{Body, Layout, Met, Ops, Step, Who};
 
 impl Ops for PlainBoard {
     ghost use Rattle.hwp_plain.specs.Boards.{own_view, Moves};

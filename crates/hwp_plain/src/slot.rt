@@ -1,12 +1,12 @@
 ghost use Rattle.std.specs.Prelude.{◌≡◌, false, Some, None, cond, map, length, option_map};
-ghost use Rattle.hwp_core_task.specs.hwp_geom.declared.Layout.{Layout};
-ghost use Rattle.hwp_core_task.specs.hwp_page.History.{BodyValue, IsReplay};
-ghost use Rattle.hwp_core_task.specs.hwp_core_rule.Logs.{log_of};
-ghost use Rattle.hwp_core_task.specs.hwp_core_rule.SlotMoves.{IsWithin, LeavesHome, MeetsSlot, homes_moved, is_out};
-ghost use Rattle.hwp_core_task.specs.Calls.{FitsLayout};
+ghost use Rattle.hwp_core_rule.specs.hwp_geom.declared.Layout.{Layout};
+ghost use Rattle.hwp_core_rule.specs.hwp_page.History.{BodyValue, IsReplay};
+ghost use Rattle.hwp_core_rule.specs.Logs.{log_of};
+ghost use Rattle.hwp_core_rule.specs.SlotMoves.{IsWithin, LeavesHome, MeetsSlot, homes_moved, is_out};
+ghost use Rattle.hwp_core_rule.specs.Calls.{FitsLayout};
 ghost use Rattle.hwp_plain.specs.Slots.{home_of, AreOfLayout};
 
-use hwp_core_task::{Body, SlotMove};
+use hwp_core_rule::{Body, SlotMove};
 use std::mem;
 use std::snapshot::Snapshot;
 

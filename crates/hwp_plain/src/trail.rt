@@ -1,7 +1,7 @@
 ghost use Rattle.std.specs.Prelude.{◌≡◌};
 ghost use Rattle.hwp_plain.specs.Trails.{played, told, views_of};
 
-use hwp_core_task::{Body, Cpu, Step, Turn, Who};
+use hwp_core_rule::{Body, Cpu, Step, Turn, Who};
 use std::snapshot::Snapshot;
 
 /// The moves of a board since its opening: at run time the last one alone, and the rest for clauses.

@@ -1,5 +1,5 @@
 use crate::board::PlainBoard;
-use hwp_core_task::{Board, Cpu, Kind, Task, Turn, advance};
+use hwp_core_rule::{Board, Cpu, Kind, Task, Turn, advance};
 
 impl Board for PlainBoard {
     ghost layout = { λ b. b.layout };

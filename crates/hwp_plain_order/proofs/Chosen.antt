@@ -3,11 +3,11 @@ use Rattle.std.proofs.Common.{◌≡◌, ◌≢◌, ℕ, zero, suc, ◌<◌, ◌
 use Rattle.std.proofs.lemmas.Bool.{cases_lt}
 use Rattle.std.proofs.lemmas.List.{get_or-set_same, get_or-set_other, length-set, get_or-map, length-map}
 use Rattle.hwp_script_read.specs.hwp_geom.declared.Frame.{Frame}
-use Rattle.hwp_core_task.specs.hwp_core_rule.declared.Step.{Step}
-use Rattle.hwp_core_task.specs.Boards.{view_of}
-use Rattle.hwp_core_task.specs.Ranks.{HasFrame, HasPage, Pending, Quiet}
-use Rattle.hwp_core_task.specs.Turns.{Member}
-use Rattle.hwp_core_task.specs.Classes.{IsScheduled}
+use Rattle.hwp_core_rule.specs.declared.Step.{Step}
+use Rattle.hwp_core_rule.specs.Boards.{view_of}
+use Rattle.hwp_core_rule.specs.Ranks.{HasFrame, HasPage, Pending, Quiet}
+use Rattle.hwp_core_rule.specs.Turns.{Member}
+use Rattle.hwp_core_rule.specs.Classes.{IsScheduled}
 use Rattle.hwp_plain_order.specs.Order.{Running, IsAt, AreOver, level_by, level, levels, IsChosen, seat_of}
 use Rattle.hwp_plain_order.specs.Rank.{has_one, words_in}
 use Rattle.hwp_plain_order.specs.Ready.{Ready, AreLevels, Claimed, IsNext}

@@ -8,12 +8,12 @@ use Rattle.hwp_script_read.specs.hwp_geom.declared.Cpu.{Cpu}
 use Rattle.hwp_script_read.specs.hwp_geom.declared.Frame.{Frame}
 use Rattle.hwp_script_read.specs.hwp_geom.declared.Layout.{Layout}
 use Rattle.hwp_script_read.specs.hwp_geom.Layout.{IsSound}
-use Rattle.hwp_core_task.specs.hwp_words.Frames.{is_poisoned}
-use Rattle.hwp_core_task.specs.hwp_core_rule.Opening.{opening, opening_frame}
-use Rattle.hwp_core_task.proofs.of_hwp_core_rule.WordsOpen.{opening-frames, frame-opened}
-use Rattle.hwp_core_task.specs.Boards.{view_of}
-use Rattle.hwp_core_task.specs.Ranks.{Pending, words_at}
-use Rattle.hwp_core_task.specs.Turns.{Member}
+use Rattle.hwp_core_rule.specs.hwp_words.Frames.{is_poisoned}
+use Rattle.hwp_core_rule.specs.Opening.{opening, opening_frame}
+use Rattle.hwp_core_rule.proofs.WordsOpen.{opening-frames, frame-opened}
+use Rattle.hwp_core_rule.specs.Boards.{view_of}
+use Rattle.hwp_core_rule.specs.Ranks.{Pending, words_at}
+use Rattle.hwp_core_rule.specs.Turns.{Member}
 use Rattle.hwp_plain_order.specs.Order.{IsAt, cpu_of, running}
 use Rattle.hwp_plain_order.specs.Ready.{IsCrew}
 

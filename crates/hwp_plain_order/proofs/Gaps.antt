@@ -2,7 +2,7 @@
 use Rattle.std.proofs.Common.{◌≡◌, ◌≢◌, ℕ, zero, suc, ◌+◌, ◌<◌, ◌≤◌, ◌==◌, ◌⊎◌, inl, inr, Bool, true, false, cond, List, [], ◌∷◌, length, get_or, set, refl, ap, ◌∙◌, arith}
 use Rattle.std.proofs.lemmas.Bool.{eqb-true, eq-eqb}
 use Rattle.std.proofs.lemmas.List.{get_or-set_same, length-set}
-use Rattle.hwp_core_task.specs.Ranks.{cpu_room}
+use Rattle.hwp_core_rule.specs.Ranks.{cpu_room}
 use Rattle.hwp_plain_order.specs.Order.{IsChosen}
 use Rattle.hwp_plain_order.specs.Rank.{gap, gaps, phi, has_one, stage, ceiling, number_of}
 

@@ -7,7 +7,6 @@ pub mod LowestLevel
 pub mod ScheduleTells
 pub mod Turns
 pub mod CrewOpens
-pub use Rattle.hwp_core_task.proofs.of_hwp_core_rule as of_hwp_core_rule
-pub use Rattle.hwp_core_task.proofs as of_hwp_core_task
+pub use Rattle.hwp_core_rule.proofs as of_hwp_core_rule
 pub use Rattle.hwp_script_read.proofs.of_hwp_script_lines as of_hwp_script_lines
 pub use Rattle.hwp_script_read.proofs as of_hwp_script_read

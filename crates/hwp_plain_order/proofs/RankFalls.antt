@@ -6,16 +6,16 @@ use Rattle.hwp_script_read.specs.hwp_geom.declared.Cpu.{Cpu}
 use Rattle.hwp_script_read.specs.hwp_geom.declared.Frame.{Frame}
 use Rattle.hwp_script_read.specs.hwp_geom.declared.Layout.{Layout}
 use Rattle.hwp_script_read.specs.hwp_geom.Limits.{cpu_limit}
-use Rattle.hwp_core_task.specs.hwp_core_rule.declared.Step.{Step}
-use Rattle.hwp_core_task.specs.hwp_core_rule.declared.View.{View}
-use Rattle.hwp_core_task.specs.hwp_core_rule.Rule.{Holds}
-use Rattle.hwp_core_task.specs.declared.Turn.{Turn}
-use Rattle.hwp_core_task.specs.declared.Turn.TheVariants as turns
-use Rattle.hwp_core_task.specs.Boards.{Played, view_of, AreSeated}
-use Rattle.hwp_core_task.specs.Ranks.{CostFalls, HasFailed, OtherHand, Pending, cpu_room, failure_room, failures_left, is_refused, is_waits, top, words_at}
-use Rattle.hwp_core_task.specs.Turns.{Member}
-use Rattle.hwp_core_task.specs.Classes.{IsScheduled}
-use Rattle.hwp_core_task.proofs.Failures.{failures-few}
+use Rattle.hwp_core_rule.specs.declared.Step.{Step}
+use Rattle.hwp_core_rule.specs.declared.View.{View}
+use Rattle.hwp_core_rule.specs.Rule.{Holds}
+use Rattle.hwp_core_rule.specs.declared.Turn.{Turn}
+use Rattle.hwp_core_rule.specs.declared.Turn.TheVariants as turns
+use Rattle.hwp_core_rule.specs.Boards.{Played, view_of, AreSeated}
+use Rattle.hwp_core_rule.specs.Ranks.{CostFalls, HasFailed, OtherHand, Pending, cpu_room, failure_room, failures_left, is_refused, is_waits, top, words_at}
+use Rattle.hwp_core_rule.specs.Turns.{Member}
+use Rattle.hwp_core_rule.specs.Classes.{IsScheduled}
+use Rattle.hwp_core_rule.proofs.Failures.{failures-few}
 use Rattle.hwp_plain_order.specs.Order.{Running, IsAt, IsNoMemory, TurnOf, levels, IsChosen, cpu_of, seat_of}
 use Rattle.hwp_plain_order.specs.Rank.{words_in, phi, has_one, stage, is_none, over_at, aborts_at, cost_at, need_at, ceiling, number_of, rank}
 use Rattle.hwp_plain_order.specs.Ready.{AreLevels, Claimed, Ready, IsNext}

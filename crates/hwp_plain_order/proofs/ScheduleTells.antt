@@ -2,8 +2,8 @@
 use Rattle.std.proofs.Common.{◌≡◌, ℕ, ◌+◌, ◌<◌, ◌≤◌, inl, inr, List, [], ◌∷◌, ◌++◌, length, take, get_or, refl, sym, ap, ◌∙◌, subst, append_assoc}
 use Rattle.std.proofs.lemmas.List.{append-nil, take_more, take_all}
 use Rattle.hwp_script_read.specs.declared.Go.{Go}
-use Rattle.hwp_core_task.specs.Boards.{Played}
-use Rattle.hwp_core_task.specs.Turns.{Member}
+use Rattle.hwp_core_rule.specs.Boards.{Played}
+use Rattle.hwp_core_rule.specs.Turns.{Member}
 use Rattle.hwp_plain_order.specs.Order.{Running, IsOver, AreOver, TurnOf, EndsWord, told_of, Word, Schedule, levels, IsChosen, Finishing, InOrder, logged, Grows}
 
 logged-append : (ps qs log : List Played) → logged (ps ++ qs) log ≡ logged qs (logged ps log)

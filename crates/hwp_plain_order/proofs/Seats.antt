@@ -6,16 +6,16 @@ use Rattle.std.proofs.lemmas.Option.{slice_get-get_or}
 use Rattle.hwp_script_read.specs.hwp_geom.declared.Layout.{Layout}
 use Rattle.hwp_script_read.specs.hwp_geom.Layout.{IsSound}
 use Rattle.hwp_script_read.specs.hwp_geom.Limits.{cpu_limit}
-use Rattle.hwp_core_task.specs.hwp_core_rule.declared.Part.{Part}
-use Rattle.hwp_core_task.specs.hwp_core_rule.declared.View.{View}
-use Rattle.hwp_core_task.specs.hwp_core_rule.Lists.{SomeMember}
-use Rattle.hwp_core_task.specs.hwp_core_rule.Opening.{opening_view}
-use Rattle.hwp_core_task.specs.hwp_core_rule.parts.Holdings.{HoldsNothing, ProcessorsApart}
-use Rattle.hwp_core_task.proofs.of_hwp_core_rule.Lists.{at_map}
-use Rattle.hwp_core_task.proofs.of_hwp_core_rule.NotLater.{one-view}
-use Rattle.hwp_core_task.specs.Boards.{view_of}
-use Rattle.hwp_core_task.specs.Ranks.{HasFrame, HasPage}
-use Rattle.hwp_core_task.specs.Turns.{Member}
+use Rattle.hwp_core_rule.specs.declared.Part.{Part}
+use Rattle.hwp_core_rule.specs.declared.View.{View}
+use Rattle.hwp_core_rule.specs.Lists.{SomeMember}
+use Rattle.hwp_core_rule.specs.Opening.{opening_view}
+use Rattle.hwp_core_rule.specs.parts.Holdings.{HoldsNothing, ProcessorsApart}
+use Rattle.hwp_core_rule.proofs.Lists.{at_map}
+use Rattle.hwp_core_rule.proofs.NotLater.{one-view}
+use Rattle.hwp_core_rule.specs.Boards.{view_of}
+use Rattle.hwp_core_rule.specs.Ranks.{HasFrame, HasPage}
+use Rattle.hwp_core_rule.specs.Turns.{Member}
 use Rattle.hwp_plain_order.specs.Order.{Running, seat_of}
 use Rattle.hwp_plain_order.specs.Ready.{Ready}
 

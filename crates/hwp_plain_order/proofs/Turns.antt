@@ -6,19 +6,19 @@ use Rattle.std.proofs.Math.Seq.{take-set-lt}
 use Rattle.hwp_script_read.specs.hwp_geom.declared.Cpu.{Cpu}
 use Rattle.hwp_script_read.specs.hwp_geom.declared.Kind.{Kind}
 use Rattle.hwp_script_read.specs.hwp_geom.declared.Layout.{Layout}
-use Rattle.hwp_core_task.specs.hwp_core_rule.declared.State.{State}
-use Rattle.hwp_core_task.specs.hwp_core_rule.declared.Step.{Step}
-use Rattle.hwp_core_task.specs.hwp_core_rule.Rule.{Holds}
+use Rattle.hwp_core_rule.specs.declared.State.{State}
+use Rattle.hwp_core_rule.specs.declared.Step.{Step}
+use Rattle.hwp_core_rule.specs.Rule.{Holds}
 use Rattle.hwp_script_read.specs.hwp_geom.Limits.{cpu_limit}
 use Rattle.hwp_script_read.specs.declared.Go.{Go}
 use Rattle.hwp_script_read.specs.declared.Until.{Until}
 use Rattle.hwp_script_read.specs.declared.Until.TheVariants as untils
-use Rattle.hwp_core_task.specs.declared.Turn.{Turn}
-use Rattle.hwp_core_task.specs.declared.Turn.TheVariants as turns
-use Rattle.hwp_core_task.specs.Boards.{Played, TakesTurn, TakesTurnBy, view_of, AreSeated}
-use Rattle.hwp_core_task.specs.Calls.{logs, rec_of}
-use Rattle.hwp_core_task.specs.Ranks.{is_waits}
-use Rattle.hwp_core_task.specs.Turns.{Member}
+use Rattle.hwp_core_rule.specs.declared.Turn.{Turn}
+use Rattle.hwp_core_rule.specs.declared.Turn.TheVariants as turns
+use Rattle.hwp_core_rule.specs.Boards.{Played, TakesTurn, TakesTurnBy, view_of, AreSeated}
+use Rattle.hwp_core_rule.specs.Calls.{logs, rec_of}
+use Rattle.hwp_core_rule.specs.Ranks.{is_waits}
+use Rattle.hwp_core_rule.specs.Turns.{Member}
 use Rattle.hwp_plain_order.specs.Order.{Running, running, IsAt, IsNoMemory, IsOver, IsRefused, EndsCommand, Word, Grows, EndsWord, Finishing, told_of, IsChosen, cpu_of, seat_of}
 use Rattle.hwp_plain_order.specs.Rank.{words_in, rank, need_at}
 use Rattle.hwp_plain_order.specs.Ready.{AreLevels, InPlay, IsFinished, IsNext, NoneTold, Ready, TurnOrNone, TurnOrOver, TurnTold}

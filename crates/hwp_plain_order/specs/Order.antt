@@ -3,17 +3,17 @@ use Rattle.std.specs.Prelude.{◌≡◌, ℕ, ◌<◌, ◌≤◌, ◌⊎◌, Lis
 use Rattle.hwp_script_read.specs.hwp_geom.declared.Cpu.{Cpu}
 use Rattle.hwp_script_read.specs.hwp_geom.declared.Kind.{Kind}
 use Rattle.hwp_script_read.specs.hwp_geom.declared.Layout.{Layout}
-use Rattle.hwp_core_task.specs.hwp_core_rule.declared.State.{State}
-use Rattle.hwp_core_task.specs.hwp_core_rule.Steps.{kind_of}
+use Rattle.hwp_core_rule.specs.declared.State.{State}
+use Rattle.hwp_core_rule.specs.Steps.{kind_of}
 use Rattle.hwp_script_read.specs.declared.Go.{Go}
 use Rattle.hwp_script_read.specs.declared.Until.{Until}
 use Rattle.hwp_script_read.specs.declared.Until.TheVariants as untils
-use Rattle.hwp_core_task.specs.declared.Turn.{Turn}
-use Rattle.hwp_core_task.specs.declared.Turn.TheVariants as turns
-use Rattle.hwp_core_task.specs.Boards.{Played}
-use Rattle.hwp_core_task.specs.Calls.{logs, rec_of}
-use Rattle.hwp_core_task.specs.Ranks.{Made}
-use Rattle.hwp_core_task.specs.Turns.{Member}
+use Rattle.hwp_core_rule.specs.declared.Turn.{Turn}
+use Rattle.hwp_core_rule.specs.declared.Turn.TheVariants as turns
+use Rattle.hwp_core_rule.specs.Boards.{Played}
+use Rattle.hwp_core_rule.specs.Calls.{logs, rec_of}
+use Rattle.hwp_core_rule.specs.Ranks.{Made}
+use Rattle.hwp_core_rule.specs.Turns.{Member}
 
 -- tasks that run on a board, each at the place of its processor
 pub record Running (S : Type 0) : Type 0 where

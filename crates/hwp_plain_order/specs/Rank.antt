@@ -1,8 +1,8 @@
 -- The rank of running tasks: what each turn of the finishing order lowers.
 use Rattle.std.specs.Prelude.{ℕ, ◌+◌, ◌-◌, ◌*◌, ◌==◌, Bool, true, false, cond, List, [], ◌∷◌, map, get_or, set, Option, Some, None}
-use Rattle.hwp_core_task.specs.hwp_core_rule.Words.{Words}
-use Rattle.hwp_core_task.specs.Ranks.{cpu_room, failure_weight, failures_left, top, words_at}
-use Rattle.hwp_core_task.specs.Turns.{Member}
+use Rattle.hwp_core_rule.specs.Words.{Words}
+use Rattle.hwp_core_rule.specs.Ranks.{cpu_room, failure_weight, failures_left, top, words_at}
+use Rattle.hwp_core_rule.specs.Turns.{Member}
 use Rattle.hwp_plain_order.specs.Order.{Running}
 
 abbrev pub words_in : {S : Type 0} → Running S → Words

@@ -3,13 +3,13 @@ use Rattle.std.specs.Prelude.{◌≡◌, ◌≢◌, ℕ, ◌<◌, ◌≤◌, ◌
 use Rattle.hwp_script_read.specs.hwp_geom.declared.Frame.{Frame}
 use Rattle.hwp_script_read.specs.hwp_geom.declared.Kind.{Kind}
 use Rattle.hwp_script_read.specs.hwp_geom.Limits.{cpu_limit}
-use Rattle.hwp_core_task.specs.hwp_core_rule.Rule.{Holds}
-use Rattle.hwp_core_task.specs.declared.Turn.{Turn}
-use Rattle.hwp_core_task.specs.declared.Turn.TheVariants as turns
-use Rattle.hwp_core_task.specs.Boards.{Played, view_of, AreSeated}
-use Rattle.hwp_core_task.specs.Ranks.{Pending}
-use Rattle.hwp_core_task.specs.Turns.{Member}
-use Rattle.hwp_core_task.specs.Classes.{IsScheduled}
+use Rattle.hwp_core_rule.specs.Rule.{Holds}
+use Rattle.hwp_core_rule.specs.declared.Turn.{Turn}
+use Rattle.hwp_core_rule.specs.declared.Turn.TheVariants as turns
+use Rattle.hwp_core_rule.specs.Boards.{Played, view_of, AreSeated}
+use Rattle.hwp_core_rule.specs.Ranks.{Pending}
+use Rattle.hwp_core_rule.specs.Turns.{Member}
+use Rattle.hwp_core_rule.specs.Classes.{IsScheduled}
 use Rattle.hwp_plain_order.specs.Order.{Running, IsAt, IsChosen, IsOver, TurnOf, cpu_of, seat_of, told_of}
 use Rattle.hwp_plain_order.specs.Rank.{words_in}
 

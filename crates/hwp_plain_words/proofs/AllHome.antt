@@ -2,27 +2,27 @@
 use Rattle.std.proofs.Common.{◌≡◌, ◌⊎◌, ℕ, ◌+◌, ◌-◌, ◌<◌, ◌≤◌, ◌==◌, Bool, true, false, cond, List, Option, Some, length, map, take, drop, slice_get, refl, sym, ap, ◌∙◌, subst, arith, inl, inr}
 use Rattle.std.proofs.lemmas.Bool.{cases_lt, eqb-false}
 use Rattle.std.proofs.lemmas.Option.{slice_get_within}
-use Rattle.hwp_core_task.specs.hwp_geom.declared.Layout.{Layout}
-use Rattle.hwp_core_task.specs.hwp_geom.declared.Page.{Page}
-use Rattle.hwp_core_task.specs.hwp_words.Frames.{lock_of}
-use Rattle.hwp_core_task.specs.hwp_core_rule.declared.FrameLock.{FrameLock}
-use Rattle.hwp_core_task.specs.hwp_core_rule.declared.Log.{Log}
-use Rattle.hwp_core_task.specs.hwp_core_rule.declared.PageLock.{PageLock}
-use Rattle.hwp_core_task.specs.hwp_core_rule.declared.Ref.{Ref}
-use Rattle.hwp_core_task.specs.hwp_core_rule.declared.State.{State}
-use Rattle.hwp_core_task.specs.hwp_core_rule.declared.View.{View}
-use Rattle.hwp_core_task.specs.hwp_core_rule.Lists.{EachMember}
-use Rattle.hwp_core_task.specs.hwp_core_rule.Rule.{Holds}
-use Rattle.hwp_core_task.specs.hwp_core_rule.SlotMoves.{IsIn}
-use Rattle.hwp_core_task.specs.hwp_core_rule.Views.{locks_on, page_locks_on}
-use Rattle.hwp_core_task.specs.hwp_core_rule.Words.{caches_from, words_of}
-use Rattle.hwp_core_task.specs.hwp_core_rule.parts.Bodies.{IsAtHome}
-use Rattle.hwp_core_task.specs.hwp_core_rule.parts.Holdings.{HoldsNothing}
-use Rattle.hwp_core_task.specs.hwp_core_rule.parts.Owners.{NamesOwn}
-use Rattle.hwp_core_task.proofs.of_hwp_core_rule.Lists.{each-map, each-weaken, sum-zero}
-use Rattle.hwp_core_task.proofs.of_hwp_core_rule.MetWords.{named-body}
-use Rattle.hwp_core_task.proofs.of_hwp_core_rule.MoveKeeps.{shaped}
-use Rattle.hwp_core_task.proofs.of_hwp_core_rule.WordsByKind.{word-there}
+use Rattle.hwp_core_rule.specs.hwp_geom.declared.Layout.{Layout}
+use Rattle.hwp_core_rule.specs.hwp_geom.declared.Page.{Page}
+use Rattle.hwp_core_rule.specs.hwp_words.Frames.{lock_of}
+use Rattle.hwp_core_rule.specs.declared.FrameLock.{FrameLock}
+use Rattle.hwp_core_rule.specs.declared.Log.{Log}
+use Rattle.hwp_core_rule.specs.declared.PageLock.{PageLock}
+use Rattle.hwp_core_rule.specs.declared.Ref.{Ref}
+use Rattle.hwp_core_rule.specs.declared.State.{State}
+use Rattle.hwp_core_rule.specs.declared.View.{View}
+use Rattle.hwp_core_rule.specs.Lists.{EachMember}
+use Rattle.hwp_core_rule.specs.Rule.{Holds}
+use Rattle.hwp_core_rule.specs.SlotMoves.{IsIn}
+use Rattle.hwp_core_rule.specs.Views.{locks_on, page_locks_on}
+use Rattle.hwp_core_rule.specs.Words.{caches_from, words_of}
+use Rattle.hwp_core_rule.specs.parts.Bodies.{IsAtHome}
+use Rattle.hwp_core_rule.specs.parts.Holdings.{HoldsNothing}
+use Rattle.hwp_core_rule.specs.parts.Owners.{NamesOwn}
+use Rattle.hwp_core_rule.proofs.Lists.{each-map, each-weaken, sum-zero}
+use Rattle.hwp_core_rule.proofs.MetWords.{named-body}
+use Rattle.hwp_core_rule.proofs.MoveKeeps.{shaped}
+use Rattle.hwp_core_rule.proofs.WordsByKind.{word-there}
 use Rattle.hwp_plain_words.specs.Ends.{AreLed, HasBody}
 
 module _ (layout : Layout) (s : State) (h : Holds layout s) (nothing : EachMember HoldsNothing s.views) where

@@ -2,13 +2,13 @@
 use Rattle.std.proofs.Common.{◌≡◌, ℕ, suc, ◌+◌, List, [], ◌∷◌, ◌++◌, Option, Some, None, map, replicate, refl, sym, ap, ◌∙◌, arith}
 use Rattle.std.proofs.lemmas.List.{append_assoc, append-nil, map-append, replicate_more}
 use Rattle.std.proofs.lemmas.Option.{none-some, same_Some}
-use Rattle.hwp_core_task.specs.hwp_geom.declared.Layout.{Layout}
-use Rattle.hwp_core_task.specs.hwp_page.History.{BodyValue, IsFresh}
-use Rattle.hwp_core_task.specs.hwp_core_rule.declared.Log.{Log}
-use Rattle.hwp_core_task.specs.hwp_core_rule.Lists.{EachMember}
-use Rattle.hwp_core_task.specs.hwp_core_rule.Opening.{below, opening_log}
-use Rattle.hwp_core_task.proofs.of_hwp_core_rule.Lists.{each-push}
-use Rattle.hwp_core_task.specs.Calls.{FitsLayout}
+use Rattle.hwp_core_rule.specs.hwp_geom.declared.Layout.{Layout}
+use Rattle.hwp_core_rule.specs.hwp_page.History.{BodyValue, IsFresh}
+use Rattle.hwp_core_rule.specs.declared.Log.{Log}
+use Rattle.hwp_core_rule.specs.Lists.{EachMember}
+use Rattle.hwp_core_rule.specs.Opening.{below, opening_log}
+use Rattle.hwp_core_rule.proofs.Lists.{each-push}
+use Rattle.hwp_core_rule.specs.Calls.{FitsLayout}
 use Rattle.hwp_plain_words.specs.Openings.{home_with}
 
 -- one number more

@@ -2,12 +2,12 @@
 use Rattle.std.proofs.Common.{◌≡◌, ◌≢◌, ◌⊎◌, ℕ, zero, suc, ◌+◌, ◌<◌, ◌≤◌, List, [], ◌∷◌, ◌++◌, Some, None, length, set, slice_get, slice_index, refl, sym, ap, ◌∙◌, arith, inl, inr}
 use Rattle.std.proofs.lemmas.List.{length-append}
 use Rattle.std.proofs.lemmas.Option.{none-some, same_Some, slice_get-get_or}
-use Rattle.hwp_core_task.specs.hwp_geom.declared.Page.{Page}
-use Rattle.hwp_core_task.specs.hwp_page.declared.Entry.{Entry}
-use Rattle.hwp_core_task.specs.hwp_core_rule.declared.Log.{Log}
-use Rattle.hwp_core_task.specs.hwp_core_rule.Lists.{Homes}
-use Rattle.hwp_core_task.proofs.of_hwp_core_rule.PageWords.{same-page}
-use Rattle.hwp_core_task.proofs.of_hwp_core_rule.Lists.{set_else}
+use Rattle.hwp_core_rule.specs.hwp_geom.declared.Page.{Page}
+use Rattle.hwp_core_rule.specs.hwp_page.declared.Entry.{Entry}
+use Rattle.hwp_core_rule.specs.declared.Log.{Log}
+use Rattle.hwp_core_rule.specs.Lists.{Homes}
+use Rattle.hwp_core_rule.proofs.PageWords.{same-page}
+use Rattle.hwp_core_rule.proofs.Lists.{set_else}
 use Rattle.hwp_plain_words.specs.Ends.{AreHistories, AreLed, HasBody, slot_by}
 
 -- a member of a list that was pushed on

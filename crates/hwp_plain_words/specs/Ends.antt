@@ -1,10 +1,10 @@
 -- What a board comes to at the end of a run, when no lock is held and no body is in hand.
 use Rattle.std.specs.Prelude.{◌≡◌, ℕ, ◌+◌, ◌-◌, ◌==◌, ◌++◌, cond, length, List, map, Option, Some, slice_get}
-use Rattle.hwp_core_task.specs.hwp_geom.declared.Layout.{Layout}
-use Rattle.hwp_core_task.specs.hwp_geom.declared.Page.{Page}
-use Rattle.hwp_core_task.specs.hwp_page.declared.Entry.{Entry}
-use Rattle.hwp_core_task.specs.hwp_core_rule.declared.Log.{Log}
-use Rattle.hwp_core_task.specs.hwp_core_rule.Lists.{Homes, SomeMember}
+use Rattle.hwp_core_rule.specs.hwp_geom.declared.Layout.{Layout}
+use Rattle.hwp_core_rule.specs.hwp_geom.declared.Page.{Page}
+use Rattle.hwp_core_rule.specs.hwp_page.declared.Entry.{Entry}
+use Rattle.hwp_core_rule.specs.declared.Log.{Log}
+use Rattle.hwp_core_rule.specs.Lists.{Homes, SomeMember}
 use Rattle.hwp_plain_words.specs.declared.machine.Machine.{Machine}
 use Rattle.hwp_plain_words.specs.Openings.{home_with}
 

@@ -2,9 +2,9 @@
 use Rattle.std.specs.Prelude.{ℕ, List, not, Bool, Option, Some}
 use Rattle.std.specs.List.{sum_by}
 use Rattle.std.specs.Int.{from_bool}
-use Rattle.hwp_core_task.specs.hwp_page.History.{BodyValue}
-use Rattle.hwp_core_task.specs.hwp_core_rule.declared.Log.{Log}
-use Rattle.hwp_core_task.specs.Calls.{logs}
+use Rattle.hwp_core_rule.specs.hwp_page.History.{BodyValue}
+use Rattle.hwp_core_rule.specs.declared.Log.{Log}
+use Rattle.hwp_core_rule.specs.Calls.{logs}
 
 -- the frames that aren't the kernel's
 abbrev pub usable_in : List Bool → ℕ

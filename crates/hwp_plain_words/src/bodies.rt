@@ -1,12 +1,12 @@
 ghost use Rattle.std.specs.Prelude.{◌≡◌, map, IfOk};
 ghost use Rattle.std.specs.Arc.{arc_value};
-ghost use Rattle.hwp_core_task.specs.hwp_geom.Layout.{IsSound};
-ghost use Rattle.hwp_core_task.specs.hwp_core_rule.Lists.{EachMember};
-ghost use Rattle.hwp_core_task.specs.hwp_core_rule.Opening.{opening_homes};
-ghost use Rattle.hwp_core_task.specs.Calls.{FitsLayout};
+ghost use Rattle.hwp_core_rule.specs.hwp_geom.Layout.{IsSound};
+ghost use Rattle.hwp_core_rule.specs.Lists.{EachMember};
+ghost use Rattle.hwp_core_rule.specs.Opening.{opening_homes};
+ghost use Rattle.hwp_core_rule.specs.Calls.{FitsLayout};
 ghost use Rattle.hwp_plain_words.specs.Openings.{home_with};
 
-use hwp_core_task::{Body, Layout, OutOfMemory, Page};
+use hwp_core_rule::{Body, Layout, OutOfMemory, Page};
 use std::alloc::Global;
 use std::sync::Arc;
 

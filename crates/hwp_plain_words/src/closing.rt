@@ -1,10 +1,10 @@
 ghost use Rattle.std.specs.Prelude.{◌≡◌, ◌≤◌, Some, None, map, length, slice_get, slice_set, IfOk};
-ghost use Rattle.hwp_core_task.specs.hwp_geom.Limits.{frame_limit, page_limit};
-ghost use Rattle.hwp_core_task.specs.hwp_core_rule.declared.Log.{Log};
+ghost use Rattle.hwp_core_rule.specs.hwp_geom.Limits.{frame_limit, page_limit};
+ghost use Rattle.hwp_core_rule.specs.declared.Log.{Log};
 ghost use Rattle.hwp_plain_words.specs.Openings.{home_with};
 ghost use Rattle.hwp_plain_words.specs.Ends.{slot_by, AreLed, AreHistories};
 
-use hwp_core_task::{Body, Entry, List, OutOfMemory};
+use hwp_core_rule::{Body, Entry, List, OutOfMemory};
 use std::alloc::Global;
 
 /// The histories of the bodies that the cache words lead to, in the order of the pages. The bodies are what is in the slots of

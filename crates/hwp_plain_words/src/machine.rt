@@ -2,7 +2,7 @@ ghost use Rattle.std.specs.Prelude.{◌≡◌, ◌+◌, map, length, IfOk};
 ghost use Rattle.hwp_plain_words.specs.Openings.{home_with};
 ghost use Rattle.hwp_plain_words.specs.Ends.{IsMachineOf};
 
-use hwp_core_task::{Body, Layout, OutOfMemory};
+use hwp_core_rule::{Body, Layout, OutOfMemory};
 
 /// What a run leaves: the shared words, and what is in each slot.
 #[derive(Drop)]

@@ -1,11 +1,11 @@
 ghost use Rattle.std.specs.Prelude.{◌≡◌, ◌*◌, ◌<◌, ◌≤◌, ◌++◌, map, length, take, drop, replicate, OnOk, IfOk};
-ghost use Rattle.hwp_core_task.specs.hwp_geom.Layout.{IsSound};
-ghost use Rattle.hwp_core_task.specs.hwp_geom.Limits.{frame_limit, translation_limit};
-ghost use Rattle.hwp_core_task.specs.hwp_core_rule.Opening.{below, opening_frame, free_bits, opening_free, opening_words};
-ghost use Rattle.hwp_core_task.specs.hwp_core_rule.Words.{free_words};
+ghost use Rattle.hwp_core_rule.specs.hwp_geom.Layout.{IsSound};
+ghost use Rattle.hwp_core_rule.specs.hwp_geom.Limits.{frame_limit, translation_limit};
+ghost use Rattle.hwp_core_rule.specs.Opening.{below, opening_frame, free_bits, opening_free, opening_words};
+ghost use Rattle.hwp_core_rule.specs.Words.{free_words};
 ghost use Rattle.hwp_plain_words.specs.Openings.{usable_in};
 
-use hwp_core_task::{Layout, OutOfMemory};
+use hwp_core_rule::{Layout, OutOfMemory};
 use std::alloc::Global;
 
 /// All words at opening, those of each kind after those of the kind before.

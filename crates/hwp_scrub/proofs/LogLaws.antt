@@ -7,12 +7,12 @@ use Rattle.hwp_cpu_control.specs.hwp_page.History.{BodyValue}
 use Rattle.hwp_cpu_control.specs.hwp_core_rule.declared.Step.{Step}
 use Rattle.hwp_cpu_control.specs.hwp_core_rule.declared.View.{View}
 use Rattle.hwp_cpu_control.specs.hwp_core_rule.Lasting.{IsMild}
-use Rattle.hwp_cpu_control.specs.hwp_core_task.declared.Turn.{Turn}
-use Rattle.hwp_cpu_control.specs.hwp_core_task.declared.Turn.TheVariants.{Moved}
-use Rattle.hwp_cpu_control.specs.hwp_core_task.Calls.{CanMake, Steps}
-use Rattle.hwp_cpu_control.specs.hwp_core_task.Classes.{TellsClass}
-use Rattle.hwp_cpu_control.specs.hwp_core_task.Ranks.{IsRanked, is_waits}
-use Rattle.hwp_cpu_control.proofs.of_hwp_core_task.StepRanks.{rank-of}
+use Rattle.hwp_cpu_control.specs.hwp_core_rule.declared.Turn.{Turn}
+use Rattle.hwp_cpu_control.specs.hwp_core_rule.declared.Turn.TheVariants.{Moved}
+use Rattle.hwp_cpu_control.specs.hwp_core_rule.Calls.{CanMake, Steps}
+use Rattle.hwp_cpu_control.specs.hwp_core_rule.Classes.{TellsClass}
+use Rattle.hwp_cpu_control.specs.hwp_core_rule.Ranks.{IsRanked, is_waits}
+use Rattle.hwp_cpu_control.proofs.of_hwp_core_rule.StepRanks.{rank-of}
 use Rattle.hwp_cpu_control.specs.declared.ReadStopAnswer.{ReadStopAnswer}
 use Rattle.hwp_cpu_control.specs.declared.read_stop.ReadStopAt.{ReadStopAt}
 use Rattle.hwp_cpu_control.specs.declared.read_stop.ReadStopAt.TheVariants as read_at

@@ -11,10 +11,10 @@ use Rattle.hwp_cpu_control.specs.hwp_words.Stops.{is_stopped}
 use Rattle.hwp_cpu_control.specs.hwp_core_rule.declared.Mark.{Mark}
 use Rattle.hwp_cpu_control.specs.hwp_core_rule.declared.Step.{Step}
 use Rattle.hwp_cpu_control.specs.hwp_core_rule.declared.View.{View}
-use Rattle.hwp_cpu_control.specs.hwp_core_task.declared.Turn.{Turn}
-use Rattle.hwp_cpu_control.specs.hwp_core_task.Calls.{Steps, logs}
-use Rattle.hwp_cpu_control.proofs.of_hwp_core_task.StepLeaves.{steps-planned}
-use Rattle.hwp_cpu_control.proofs.of_hwp_core_task.MadeEntries.{ListsNone, deeds-same}
+use Rattle.hwp_cpu_control.specs.hwp_core_rule.declared.Turn.{Turn}
+use Rattle.hwp_cpu_control.specs.hwp_core_rule.Calls.{Steps, logs}
+use Rattle.hwp_cpu_control.proofs.of_hwp_core_rule.StepLeaves.{steps-planned}
+use Rattle.hwp_cpu_control.proofs.of_hwp_core_rule.MadeEntries.{ListsNone, deeds-same}
 use Rattle.hwp_cpu_check.specs.hwp_claim_act.declared.Failed.{Failed}
 use Rattle.hwp_cpu_check.specs.hwp_claim_act.Abandoned.{AddsFailure}
 use Rattle.hwp_cpu_check.specs.hwp_claim_frame.Done.{Grows, Marking, counts_owed, marking_of}

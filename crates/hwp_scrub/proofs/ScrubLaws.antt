@@ -20,14 +20,14 @@ use Rattle.hwp_cpu_check.specs.hwp_core_rule.declared.Step.{Step}
 use Rattle.hwp_cpu_check.specs.hwp_core_rule.declared.Step.TheVariants as steps
 use Rattle.hwp_cpu_check.specs.hwp_core_rule.declared.View.{View}
 use Rattle.hwp_cpu_check.specs.hwp_core_rule.Lists.{EachMember}
-use Rattle.hwp_cpu_check.specs.hwp_core_task.declared.Turn.{Turn}
-use Rattle.hwp_cpu_check.specs.hwp_core_task.Calls.{CanMake, IsOnTurn, Steps, logs}
-use Rattle.hwp_cpu_check.specs.hwp_core_task.Hands.{hand_of, empty}
-use Rattle.hwp_cpu_check.proofs.of_hwp_core_task.StepLeaves.{can-make, hand-planned, on-turn-after, steps-planned}
-use Rattle.hwp_cpu_check.specs.hwp_core_task.Known.{HasMadeNone, is_failure}
-use Rattle.hwp_cpu_check.proofs.of_hwp_core_task.MadeEntries.{deeds-same}
-use Rattle.hwp_cpu_check.proofs.of_hwp_core_task.OwedLosses.{losses-same}
-use Rattle.hwp_cpu_check.proofs.of_hwp_core_task.SightKeeps.{saw-load, saw-stays}
+use Rattle.hwp_cpu_check.specs.hwp_core_rule.declared.Turn.{Turn}
+use Rattle.hwp_cpu_check.specs.hwp_core_rule.Calls.{CanMake, IsOnTurn, Steps, logs}
+use Rattle.hwp_cpu_check.specs.hwp_core_rule.Hands.{hand_of, empty}
+use Rattle.hwp_cpu_check.proofs.of_hwp_core_rule.StepLeaves.{can-make, hand-planned, on-turn-after, steps-planned}
+use Rattle.hwp_cpu_check.specs.hwp_core_rule.Known.{HasMadeNone, is_failure}
+use Rattle.hwp_cpu_check.proofs.of_hwp_core_rule.MadeEntries.{deeds-same}
+use Rattle.hwp_cpu_check.proofs.of_hwp_core_rule.StepOwes.{losses-same}
+use Rattle.hwp_cpu_check.proofs.of_hwp_core_rule.SightKeeps.{saw-load, saw-stays}
 use Rattle.hwp_cpu_check.specs.hwp_claim_act.Abandoned.{AddsFailure}
 use Rattle.hwp_cpu_check.proofs.of_hwp_claim_act.ActAdds.{only-failed-stays}
 use Rattle.hwp_cpu_check.specs.hwp_banks.Banks.{Banks}

@@ -17,13 +17,13 @@ use Rattle.hwp_cpu_check.specs.hwp_core_rule.Moves.{Move}
 use Rattle.hwp_cpu_check.specs.hwp_core_rule.Rule.{Holds}
 use Rattle.hwp_cpu_check.specs.hwp_core_rule.Lasting.{IsMild, LeavesPoison}
 use Rattle.hwp_cpu_check.specs.hwp_core_rule.Words.{Words}
-use Rattle.hwp_cpu_check.specs.hwp_core_task.declared.Turn.{Turn}
-use Rattle.hwp_cpu_check.specs.hwp_core_task.Boards.{view_of}
-use Rattle.hwp_cpu_check.specs.hwp_core_task.Calls.{logs, rec_of}
-use Rattle.hwp_cpu_check.specs.hwp_core_task.Classes.{TellsClass}
-use Rattle.hwp_cpu_check.specs.hwp_core_task.Hands.{hand_of, empty}
-use Rattle.hwp_cpu_check.specs.hwp_core_task.Ranks.{CostFalls, HasFailed, HasFrame, HasPage, IsRanked, Made, OtherHand, Pending, Quiet, failure_weight, failures_left, is_refused, is_waits, top, words_at}
-use Rattle.hwp_cpu_check.proofs.of_hwp_core_task.StepRanks.{part-made, pending-kept}
+use Rattle.hwp_cpu_check.specs.hwp_core_rule.declared.Turn.{Turn}
+use Rattle.hwp_cpu_check.specs.hwp_core_rule.Boards.{view_of}
+use Rattle.hwp_cpu_check.specs.hwp_core_rule.Calls.{logs, rec_of}
+use Rattle.hwp_cpu_check.specs.hwp_core_rule.Classes.{TellsClass}
+use Rattle.hwp_cpu_check.specs.hwp_core_rule.Hands.{hand_of, empty}
+use Rattle.hwp_cpu_check.specs.hwp_core_rule.Ranks.{CostFalls, HasFailed, HasFrame, HasPage, IsRanked, Made, OtherHand, Pending, Quiet, failure_weight, failures_left, is_refused, is_waits, top, words_at}
+use Rattle.hwp_cpu_check.proofs.of_hwp_core_rule.StepRanks.{part-made, pending-kept}
 use Rattle.hwp_cpu_check.proofs.of_hwp_core.TaskTells.{no-frame, no-page}
 use Rattle.hwp_cpu_check.specs.hwp_claim.Fails as fails
 use Rattle.hwp_cpu_check.proofs.of_hwp_claim.FailRank.{fail-small}

@@ -15,7 +15,7 @@ use Rattle.hwp_cpu_check.specs.hwp_core_rule.declared.SharedWord.{SharedWord}
 use Rattle.hwp_cpu_check.specs.hwp_core_rule.declared.SharedWord.TheVariants as places
 use Rattle.hwp_cpu_check.specs.hwp_core_rule.declared.View.{View}
 use Rattle.hwp_cpu_check.proofs.of_hwp_core_rule.Lists.{set_here}
-use Rattle.hwp_cpu_check.specs.hwp_core_task.Known.{Saw}
+use Rattle.hwp_cpu_check.specs.hwp_core_rule.Known.{Saw}
 use Rattle.hwp_cpu_check.specs.hwp_report_text.Acts.{is_panic, is_stopping}
 use Rattle.hwp_cpu_check.specs.hwp_banks.Banks.{Banks, empty_banks}
 use Rattle.hwp_cpu_check.specs.hwp_severity.Handling.{has_stop}

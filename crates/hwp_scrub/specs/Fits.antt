@@ -8,10 +8,10 @@ use Rattle.hwp_cpu_check.specs.hwp_banks.Events.{bank_count}
 use Rattle.hwp_cpu_check.specs.hwp_core_rule.declared.Made.{Made}
 use Rattle.hwp_cpu_check.specs.hwp_core_rule.declared.SharedWord.TheVariants as places
 use Rattle.hwp_cpu_check.specs.hwp_core_rule.declared.View.{View}
-use Rattle.hwp_cpu_check.specs.hwp_core_task.Calls.{IsOnTurn}
-use Rattle.hwp_cpu_check.specs.hwp_core_task.Hands.{hand_of, empty}
-use Rattle.hwp_cpu_check.specs.hwp_core_task.Known.{HasMadeNone, HasOnly, SawStop, is_failure}
-use Rattle.hwp_cpu_check.specs.hwp_core_task.Turns.{Member}
+use Rattle.hwp_cpu_check.specs.hwp_core_rule.Calls.{IsOnTurn}
+use Rattle.hwp_cpu_check.specs.hwp_core_rule.Hands.{hand_of, empty}
+use Rattle.hwp_cpu_check.specs.hwp_core_rule.Known.{HasMadeNone, HasOnly, SawStop, is_failure}
+use Rattle.hwp_cpu_check.specs.hwp_core_rule.Turns.{Member}
 use Rattle.hwp_cpu_check.specs.hwp_banks.Banks.{Banks, empty_banks}
 use Rattle.hwp_cpu_check.specs.hwp_severity.Handling.{has_stop}
 use Rattle.hwp_cpu_check.specs.declared.Handler.{Handler}

@@ -13,8 +13,8 @@ use Rattle.hwp_cpu_check.specs.hwp_banks.Banks.{raw_bank}
 use Rattle.hwp_scrub.specs.declared.log.LocalChange.{LocalChange}
 use Rattle.hwp_scrub.specs.declared.log.LocalChange.TheVariants as changes
 use Rattle.hwp_scrub.specs.declared.log.Log.{Log}
-use Rattle.hwp_cpu_control.specs.hwp_core_task.declared.Turn.TheVariants.{Moved}
-use Rattle.hwp_cpu_control.specs.hwp_core_task.Turns.{Member}
+use Rattle.hwp_cpu_control.specs.hwp_core_rule.declared.Turn.TheVariants.{Moved}
+use Rattle.hwp_cpu_control.specs.hwp_core_rule.Turns.{Member}
 
 abbrev pub begin : Who → LocalChange → Banks → Log
 begin who change banks = record { read = reads.begin who; change = change; before = record { marker = record {}; value = banks }; banks = banks }

@@ -13,8 +13,8 @@ use Rattle.hwp_cpu_check.specs.hwp_words.Stops.{is_stopped}
 use Rattle.hwp_cpu_check.specs.hwp_core_rule.declared.SharedWord.TheVariants as places
 use Rattle.hwp_cpu_check.specs.hwp_core_rule.declared.Step.{Step}
 use Rattle.hwp_cpu_check.specs.hwp_core_rule.declared.Step.TheVariants as steps
-use Rattle.hwp_cpu_check.specs.hwp_core_task.declared.Turn.{Turn}
-use Rattle.hwp_cpu_check.specs.hwp_core_task.declared.Turn.TheVariants.{Moved, NoMemory}
+use Rattle.hwp_cpu_check.specs.hwp_core_rule.declared.Turn.{Turn}
+use Rattle.hwp_cpu_check.specs.hwp_core_rule.declared.Turn.TheVariants.{Moved, NoMemory}
 use Rattle.hwp_cpu_check.specs.hwp_report_text.declared.Acted.TheVariants as acts
 use Rattle.hwp_cpu_check.specs.hwp_banks.Banks.{Banks, empty_banks}
 use Rattle.hwp_cpu_check.specs.declared.Handler.{Handler}

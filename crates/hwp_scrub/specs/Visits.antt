@@ -11,7 +11,7 @@ use Rattle.hwp_cpu_check.specs.hwp_banks.Events.{bank_count, bank_of}
 use Rattle.hwp_cpu_check.specs.hwp_core_rule.declared.SharedWord.{SharedWord}
 use Rattle.hwp_cpu_check.specs.hwp_core_rule.declared.SharedWord.TheVariants as places
 use Rattle.hwp_cpu_check.specs.hwp_core_rule.declared.View.{View}
-use Rattle.hwp_cpu_check.specs.hwp_core_task.Known.{Saw}
+use Rattle.hwp_cpu_check.specs.hwp_core_rule.Known.{Saw}
 use Rattle.hwp_cpu_check.specs.hwp_banks.Banks.{Banks, empty_banks}
 use Rattle.hwp_cpu_check.specs.hwp_severity.declared.Arrival.{Arrival}
 use Rattle.hwp_cpu_check.specs.declared.EventOutcome.{EventOutcome}

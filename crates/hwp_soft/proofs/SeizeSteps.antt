@@ -22,12 +22,12 @@ use Rattle.hwp_core.specs.hwp_core_rule.Logs.{log_of}
 use Rattle.hwp_core.specs.hwp_core_rule.Views.{noted, stamp_of}
 use Rattle.hwp_core.specs.hwp_core_rule.parts.Entries.{Shows}
 use Rattle.hwp_core.proofs.of_hwp_core_rule.Lists.{some-last}
-use Rattle.hwp_core.specs.hwp_core_task.Calls.{IsOnTurn, Steps, logs}
-use Rattle.hwp_core.specs.hwp_core_task.Hands.{Hand, empty, hand_of}
-use Rattle.hwp_core.proofs.of_hwp_core_task.StepLeaves.{hand-planned}
-use Rattle.hwp_core.specs.hwp_core_task.Known.{HasMadeNoneBeside, is_by}
-use Rattle.hwp_core.proofs.of_hwp_core_task.MadeEntries.{deeds-same, made-kept}
-use Rattle.hwp_core.proofs.of_hwp_core_task.SightKeeps.{saw-bad-of-load, saw-load}
+use Rattle.hwp_core.specs.hwp_core_rule.Calls.{IsOnTurn, Steps, logs}
+use Rattle.hwp_core.specs.hwp_core_rule.Hands.{Hand, empty, hand_of}
+use Rattle.hwp_core.proofs.of_hwp_core_rule.StepLeaves.{hand-planned}
+use Rattle.hwp_core.specs.hwp_core_rule.Known.{HasMadeNoneBeside, is_by}
+use Rattle.hwp_core.proofs.of_hwp_core_rule.MadeEntries.{deeds-same, made-kept}
+use Rattle.hwp_core.proofs.of_hwp_core_rule.SightKeeps.{saw-bad-of-load, saw-load}
 use Rattle.hwp_core.specs.Holds.{HoldsPage, held}
 use Rattle.hwp_core.specs.Unlocks as unlocks
 use Rattle.hwp_core.proofs.GiveUpLaws.{page-given-up}

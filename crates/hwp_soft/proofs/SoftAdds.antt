@@ -17,9 +17,9 @@ use Rattle.hwp_core.specs.hwp_core_rule.declared.Mark.{Mark}
 use Rattle.hwp_core.specs.hwp_core_rule.declared.Step.{Step}
 use Rattle.hwp_core.specs.hwp_core_rule.declared.Step.TheVariants as steps
 use Rattle.hwp_core.specs.hwp_core_rule.declared.View.{View}
-use Rattle.hwp_core.specs.hwp_core_task.declared.Turn.{Turn}
-use Rattle.hwp_core.specs.hwp_core_task.Calls.{Steps, logs}
-use Rattle.hwp_core.proofs.of_hwp_core_task.StepLeaves.{steps-planned}
+use Rattle.hwp_core.specs.hwp_core_rule.declared.Turn.{Turn}
+use Rattle.hwp_core.specs.hwp_core_rule.Calls.{Steps, logs}
+use Rattle.hwp_core.proofs.of_hwp_core_rule.StepLeaves.{steps-planned}
 use Rattle.hwp_core.specs.declared.refer.Refer.{Refer}
 use Rattle.hwp_core.specs.declared.refer.ReferAt.{ReferAt}
 use Rattle.hwp_core.specs.declared.refer.ReferAt.TheVariants as refer_at

@@ -8,14 +8,14 @@ use Rattle.hwp_core.specs.hwp_page.History.{BodyValue}
 use Rattle.hwp_core.specs.hwp_core_rule.declared.Made.{Made}
 use Rattle.hwp_core.specs.hwp_core_rule.declared.Step.{Step}
 use Rattle.hwp_core.specs.hwp_core_rule.declared.View.{View}
-use Rattle.hwp_core.specs.hwp_core_task.declared.Turn.{Turn}
-use Rattle.hwp_core.specs.hwp_core_task.Calls.{IsOnTurn, Steps, logs}
-use Rattle.hwp_core.specs.hwp_core_task.Hands.{empty, hand_of}
-use Rattle.hwp_core.proofs.of_hwp_core_task.StepLeaves.{hand-planned, on-turn-after, steps-planned}
-use Rattle.hwp_core.specs.hwp_core_task.Known.{HasMadeNoneBeside, is_by}
-use Rattle.hwp_core.specs.hwp_core_task.Turns.{IsTask}
-use Rattle.hwp_core.proofs.of_hwp_core_task.MadeEntries.{deeds-same, has-made-stays}
-use Rattle.hwp_core.proofs.of_hwp_core_task.SightKeeps.{saw-adopted-stays, saw-bad-of-stays, saw-stays}
+use Rattle.hwp_core.specs.hwp_core_rule.declared.Turn.{Turn}
+use Rattle.hwp_core.specs.hwp_core_rule.Calls.{IsOnTurn, Steps, logs}
+use Rattle.hwp_core.specs.hwp_core_rule.Hands.{empty, hand_of}
+use Rattle.hwp_core.proofs.of_hwp_core_rule.StepLeaves.{hand-planned, on-turn-after, steps-planned}
+use Rattle.hwp_core.specs.hwp_core_rule.Known.{HasMadeNoneBeside, is_by}
+use Rattle.hwp_core.specs.hwp_core_rule.Turns.{IsTask}
+use Rattle.hwp_core.proofs.of_hwp_core_rule.MadeEntries.{deeds-same, has-made-stays}
+use Rattle.hwp_core.proofs.of_hwp_core_rule.SightKeeps.{saw-adopted-stays, saw-bad-of-stays, saw-stays}
 use Rattle.hwp_core.specs.declared.give_up.GiveUp.{GiveUp}
 use Rattle.hwp_core.specs.declared.give_up.GiveUpAt.{GiveUpAt}
 use Rattle.hwp_core.specs.declared.give_up.GiveUpAt.TheVariants as give_up_at

@@ -18,13 +18,13 @@ use Rattle.hwp_core.specs.hwp_core_rule.Moves.{Move}
 use Rattle.hwp_core.specs.hwp_core_rule.Rule.{Holds}
 use Rattle.hwp_core.specs.hwp_core_rule.Lasting.{IsMild}
 use Rattle.hwp_core.specs.hwp_core_rule.Words.{Words, free_words}
-use Rattle.hwp_core.specs.hwp_core_task.declared.Turn.{Turn}
-use Rattle.hwp_core.specs.hwp_core_task.declared.Turn.TheVariants.{Moved}
-use Rattle.hwp_core.specs.hwp_core_task.Boards.{view_of}
-use Rattle.hwp_core.specs.hwp_core_task.Calls.{logs, rec_of}
-use Rattle.hwp_core.specs.hwp_core_task.Hands.{Hand}
-use Rattle.hwp_core.specs.hwp_core_task.Ranks.{IsRanked, Made, OtherHand, Pending, Quiet, failures_left, is_waits, words_at, free_room, take_most}
-use Rattle.hwp_core.proofs.of_hwp_core_task.StepRanks.{failed, met, pending-kept, retire-fails, steps-on, words-after, words-kept}
+use Rattle.hwp_core.specs.hwp_core_rule.declared.Turn.{Turn}
+use Rattle.hwp_core.specs.hwp_core_rule.declared.Turn.TheVariants.{Moved}
+use Rattle.hwp_core.specs.hwp_core_rule.Boards.{view_of}
+use Rattle.hwp_core.specs.hwp_core_rule.Calls.{logs, rec_of}
+use Rattle.hwp_core.specs.hwp_core_rule.Hands.{Hand}
+use Rattle.hwp_core.specs.hwp_core_rule.Ranks.{IsRanked, Made, OtherHand, Pending, Quiet, failures_left, is_waits, words_at, free_room, take_most}
+use Rattle.hwp_core.proofs.of_hwp_core_rule.StepRanks.{failed, met, pending-kept, retire-fails, steps-on, words-after, words-kept}
 use Rattle.hwp_core.specs.declared.refer.Refer.{Refer}
 use Rattle.hwp_core.specs.declared.refer.ReferAt.{ReferAt}
 use Rattle.hwp_core.specs.declared.refer.ReferAt.TheVariants as refer_at

@@ -10,9 +10,9 @@ use Rattle.hwp_core.specs.hwp_core_rule.declared.Step.{Step}
 use Rattle.hwp_core.specs.hwp_core_rule.declared.Step.TheVariants as steps
 use Rattle.hwp_core.specs.hwp_core_rule.declared.View.{View}
 use Rattle.hwp_core.specs.hwp_core_rule.Lasting.{LeavesPoison}
-use Rattle.hwp_core.specs.hwp_core_task.Classes.{TellsClass}
-use Rattle.hwp_core.specs.hwp_core_task.Hands.{empty, hand_of}
-use Rattle.hwp_core.proofs.of_hwp_core_task.Failures.{mild-leaves}
+use Rattle.hwp_core.specs.hwp_core_rule.Classes.{TellsClass}
+use Rattle.hwp_core.specs.hwp_core_rule.Hands.{empty, hand_of}
+use Rattle.hwp_core.proofs.of_hwp_core_rule.Failures.{mild-leaves}
 use Rattle.hwp_core.specs.declared.give_up.GiveUp.{GiveUp}
 use Rattle.hwp_core.specs.declared.give_up.GiveUpAt.{GiveUpAt}
 use Rattle.hwp_core.specs.declared.give_up.GiveUpAt.TheVariants as give_up_at

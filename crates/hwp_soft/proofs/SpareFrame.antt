@@ -27,11 +27,11 @@ use Rattle.hwp_core.proofs.of_hwp_core_rule.Lists.{at_map, same-number}
 use Rattle.hwp_core.proofs.of_hwp_core_rule.MetWords.{frame-word, hand-bare}
 use Rattle.hwp_core.proofs.of_hwp_core_rule.MoveKeeps.{shaped}
 use Rattle.hwp_core.proofs.of_hwp_core_rule.kinds.Adopt.{unreferenced}
-use Rattle.hwp_core.specs.hwp_core_task.Calls.{IsOnTurn, Steps}
-use Rattle.hwp_core.specs.hwp_core_task.Hands.{Hand, hand_of}
-use Rattle.hwp_core.proofs.of_hwp_core_task.StepLeaves.{steps-planned}
-use Rattle.hwp_core.specs.hwp_core_task.Known.{deeds}
-use Rattle.hwp_core.proofs.of_hwp_core_task.SightKeeps.{saw-adopt}
+use Rattle.hwp_core.specs.hwp_core_rule.Calls.{IsOnTurn, Steps}
+use Rattle.hwp_core.specs.hwp_core_rule.Hands.{Hand, hand_of}
+use Rattle.hwp_core.proofs.of_hwp_core_rule.StepLeaves.{steps-planned}
+use Rattle.hwp_core.specs.hwp_core_rule.Known.{deeds}
+use Rattle.hwp_core.proofs.of_hwp_core_rule.SightKeeps.{saw-adopt}
 use Rattle.hwp_core.specs.declared.release.Release.{Release}
 use Rattle.hwp_core.specs.declared.release.ReleaseAt.{ReleaseAt}
 use Rattle.hwp_core.specs.declared.release.ReleaseAt.TheVariants as release_at

@@ -12,10 +12,10 @@ use Rattle.hwp_core.specs.hwp_core_rule.declared.View.{View}
 use Rattle.hwp_core.specs.hwp_core_rule.Logs.{log_of}
 use Rattle.hwp_core.specs.hwp_core_rule.Views.{unpoisoned, with_refs}
 use Rattle.hwp_core.specs.hwp_core_rule.parts.Entries.{HasSeen}
-use Rattle.hwp_core.specs.hwp_core_task.Calls.{IsOnTurn}
-use Rattle.hwp_core.specs.hwp_core_task.Hands.{Hand, hand_of, empty}
-use Rattle.hwp_core.specs.hwp_core_task.Known.{HasMadeBeside, HasMadeNoneBeside, Saw, SawBadOf, SawStop}
-use Rattle.hwp_core.specs.hwp_core_task.Turns.{Member}
+use Rattle.hwp_core.specs.hwp_core_rule.Calls.{IsOnTurn}
+use Rattle.hwp_core.specs.hwp_core_rule.Hands.{Hand, hand_of, empty}
+use Rattle.hwp_core.specs.hwp_core_rule.Known.{HasMadeBeside, HasMadeNoneBeside, Saw, SawBadOf, SawStop}
+use Rattle.hwp_core.specs.hwp_core_rule.Turns.{Member}
 use Rattle.hwp_core.specs.declared.give_up.GiveUp.{GiveUp}
 use Rattle.hwp_core.specs.declared.release.Release.{Release}
 use Rattle.hwp_core.specs.declared.release.ReleaseAt.{ReleaseAt}

@@ -18,13 +18,13 @@ use Rattle.hwp_core.specs.hwp_core_rule.Lists.{SomeMember}
 use Rattle.hwp_core.specs.hwp_core_rule.Views.{unpoisoned}
 use Rattle.hwp_core.specs.hwp_core_rule.Words.{Words}
 use Rattle.hwp_core.specs.hwp_core_rule.parts.Marks.{revivals_by}
-use Rattle.hwp_core.specs.hwp_core_task.declared.Turn.{Turn}
-use Rattle.hwp_core.specs.hwp_core_task.declared.Turn.TheVariants.{Moved, Changed}
-use Rattle.hwp_core.specs.hwp_core_task.Calls.{IsOnTurn}
-use Rattle.hwp_core.specs.hwp_core_task.Hands.{Hand, hand_of, empty}
-use Rattle.hwp_core.specs.hwp_core_task.Ranks.{stale, failure_weight, stale_weight}
-use Rattle.hwp_core.specs.hwp_core_task.Known.{HasMadeNone, Saw, SawStop}
-use Rattle.hwp_core.specs.hwp_core_task.Turns.{Member}
+use Rattle.hwp_core.specs.hwp_core_rule.declared.Turn.{Turn}
+use Rattle.hwp_core.specs.hwp_core_rule.declared.Turn.TheVariants.{Moved, Changed}
+use Rattle.hwp_core.specs.hwp_core_rule.Calls.{IsOnTurn}
+use Rattle.hwp_core.specs.hwp_core_rule.Hands.{Hand, hand_of, empty}
+use Rattle.hwp_core.specs.hwp_core_rule.Ranks.{stale, failure_weight, stale_weight}
+use Rattle.hwp_core.specs.hwp_core_rule.Known.{HasMadeNone, Saw, SawStop}
+use Rattle.hwp_core.specs.hwp_core_rule.Turns.{Member}
 use Rattle.hwp_soft.specs.declared.unpoison.Unpoison.{Unpoison}
 use Rattle.hwp_soft.specs.declared.unpoison.UnpoisonAt.{UnpoisonAt}
 use Rattle.hwp_soft.specs.declared.unpoison.UnpoisonAt.TheVariants as at

@@ -1,5 +1,5 @@
 ghost use Rattle.std.specs.Prelude.{◌≡◌};
-ghost use Rattle.hwp_core.specs.hwp_core_task.declared.Turn.TheVariants.{Moved};
+ghost use Rattle.hwp_core.specs.hwp_core_rule.declared.Turn.TheVariants.{Moved};
 ghost use Rattle.hwp_soft.specs.Unpoisons.{after_bad, after_count, after_frame, after_revive, after_stop, answer, begin, is_revivable};
 
 use hwp_claim::{

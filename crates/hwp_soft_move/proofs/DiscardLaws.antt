@@ -17,16 +17,16 @@ use Rattle.hwp_claim_frame.specs.hwp_core_rule.Lasting.{IsMild, LeavesPoison}
 use Rattle.hwp_claim_frame.specs.hwp_core_rule.Views.{is_lock_of, less_refs, without}
 use Rattle.hwp_claim_frame.specs.hwp_core_rule.Words.{Words}
 use Rattle.hwp_claim_frame.proofs.of_hwp_core_rule.Lists.{same-number}
-use Rattle.hwp_claim_frame.specs.hwp_core_task.declared.Turn.{Turn}
-use Rattle.hwp_claim_frame.specs.hwp_core_task.declared.Turn.TheVariants.{Moved}
-use Rattle.hwp_claim_frame.specs.hwp_core_task.Boards.{view_of}
-use Rattle.hwp_claim_frame.specs.hwp_core_task.Calls.{CanMake, IsOnTurn, Steps, logs}
-use Rattle.hwp_claim_frame.specs.hwp_core_task.Hands.{Hand, hand_of, empty}
-use Rattle.hwp_claim_frame.specs.hwp_core_task.Ranks.{IsRanked, Made, Pending, is_waits, words_at}
-use Rattle.hwp_claim_frame.proofs.of_hwp_core_task.Failures.{mild-leaves}
-use Rattle.hwp_claim_frame.proofs.of_hwp_core_task.StepRanks.{pending-kept}
-use Rattle.hwp_claim_frame.proofs.of_hwp_core_task.StepLeaves.{on-turn-after, hand-planned, steps-planned, can-make}
-use Rattle.hwp_claim_frame.proofs.of_hwp_core_task.SightKeeps.{saw-stays}
+use Rattle.hwp_claim_frame.specs.hwp_core_rule.declared.Turn.{Turn}
+use Rattle.hwp_claim_frame.specs.hwp_core_rule.declared.Turn.TheVariants.{Moved}
+use Rattle.hwp_claim_frame.specs.hwp_core_rule.Boards.{view_of}
+use Rattle.hwp_claim_frame.specs.hwp_core_rule.Calls.{CanMake, IsOnTurn, Steps, logs}
+use Rattle.hwp_claim_frame.specs.hwp_core_rule.Hands.{Hand, hand_of, empty}
+use Rattle.hwp_claim_frame.specs.hwp_core_rule.Ranks.{IsRanked, Made, Pending, is_waits, words_at}
+use Rattle.hwp_claim_frame.proofs.of_hwp_core_rule.Failures.{mild-leaves}
+use Rattle.hwp_claim_frame.proofs.of_hwp_core_rule.StepRanks.{pending-kept}
+use Rattle.hwp_claim_frame.proofs.of_hwp_core_rule.StepLeaves.{on-turn-after, hand-planned, steps-planned, can-make}
+use Rattle.hwp_claim_frame.proofs.of_hwp_core_rule.SightKeeps.{saw-stays}
 use Rattle.hwp_claim_frame.specs.hwp_core.declared.release.Release.{Release}
 use Rattle.hwp_claim_frame.specs.hwp_core.declared.release.ReleaseAt.{ReleaseAt}
 use Rattle.hwp_claim_frame.specs.hwp_core.declared.release.ReleaseAt.TheVariants as release_at

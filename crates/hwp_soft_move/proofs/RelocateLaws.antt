@@ -30,13 +30,13 @@ use Rattle.hwp_claim_frame.specs.hwp_core_rule.Logs.{state_of, fitting_word}
 use Rattle.hwp_claim_frame.specs.hwp_core_rule.Views.{is_body_of, locks_on, noted, refs_on, sighted, stamp_of, with_refs}
 use Rattle.hwp_claim_frame.proofs.of_hwp_core_rule.Lists.{same-number}
 use Rattle.hwp_claim_frame.proofs.of_hwp_core_rule.MetWords.{frame-named}
-use Rattle.hwp_claim_frame.specs.hwp_core_task.declared.Turn.{Turn}
-use Rattle.hwp_claim_frame.specs.hwp_core_task.Calls.{CanMake, IsOnTurn, Steps, logs}
-use Rattle.hwp_claim_frame.specs.hwp_core_task.Hands.{Hand, empty, hand_of}
-use Rattle.hwp_claim_frame.proofs.of_hwp_core_task.StepLeaves.{on-turn-after, steps-planned, can-make, can-put}
-use Rattle.hwp_claim_frame.specs.hwp_core_task.Known.{deeds}
-use Rattle.hwp_claim_frame.specs.hwp_core_task.Turns.{IsTask}
-use Rattle.hwp_claim_frame.proofs.of_hwp_core_task.MadeEntries.{ListsNone, deeds-same, has-made-stays}
+use Rattle.hwp_claim_frame.specs.hwp_core_rule.declared.Turn.{Turn}
+use Rattle.hwp_claim_frame.specs.hwp_core_rule.Calls.{CanMake, IsOnTurn, Steps, logs}
+use Rattle.hwp_claim_frame.specs.hwp_core_rule.Hands.{Hand, empty, hand_of}
+use Rattle.hwp_claim_frame.proofs.of_hwp_core_rule.StepLeaves.{on-turn-after, steps-planned, can-make, can-put}
+use Rattle.hwp_claim_frame.specs.hwp_core_rule.Known.{deeds}
+use Rattle.hwp_claim_frame.specs.hwp_core_rule.Turns.{IsTask}
+use Rattle.hwp_claim_frame.proofs.of_hwp_core_rule.MadeEntries.{ListsNone, deeds-same, has-made-stays}
 use Rattle.hwp_claim_frame.specs.hwp_core.declared.refer.Refer.{Refer}
 use Rattle.hwp_claim_frame.specs.hwp_core.declared.refer.ReferAt.{ReferAt}
 use Rattle.hwp_claim_frame.specs.hwp_core.declared.refer.ReferAt.TheVariants as refer_at

@@ -26,11 +26,11 @@ use Rattle.hwp_claim_frame.specs.hwp_core_rule.Views.{frame_in, is_body_of, less
 use Rattle.hwp_claim_frame.specs.hwp_core_rule.Words.{Words}
 use Rattle.hwp_claim_frame.proofs.of_hwp_core_rule.Lists.{same-number, same-or, set_here, set_else}
 use Rattle.hwp_claim_frame.proofs.of_hwp_core_rule.MetWords.{frame-named, lock-knows}
-use Rattle.hwp_claim_frame.specs.hwp_core_task.Calls.{CanMake, Steps}
-use Rattle.hwp_claim_frame.specs.hwp_core_task.Hands.{Hand, hand_of}
-use Rattle.hwp_claim_frame.specs.hwp_core_task.Ranks.{translation_room}
-use Rattle.hwp_claim_frame.proofs.of_hwp_core_task.StepLeaves.{on-turn-after, hand-planned, steps-planned, can-make}
-use Rattle.hwp_claim_frame.proofs.of_hwp_core_task.MadeEntries.{ListsNone}
+use Rattle.hwp_claim_frame.specs.hwp_core_rule.Calls.{CanMake, Steps}
+use Rattle.hwp_claim_frame.specs.hwp_core_rule.Hands.{Hand, hand_of}
+use Rattle.hwp_claim_frame.specs.hwp_core_rule.Ranks.{translation_room}
+use Rattle.hwp_claim_frame.proofs.of_hwp_core_rule.StepLeaves.{on-turn-after, hand-planned, steps-planned, can-make}
+use Rattle.hwp_claim_frame.proofs.of_hwp_core_rule.MadeEntries.{ListsNone}
 use Rattle.hwp_claim_frame.specs.hwp_core.Holds.{page_lock}
 use Rattle.hwp_claim_frame.specs.hwp_core.Clears.{IsNextFrom, is_done}
 use Rattle.hwp_claim_frame.specs.hwp_core.Vacates.{page_held}

@@ -10,7 +10,7 @@ use Rattle.hwp_claim_frame.specs.hwp_geom.declared.VSlot.{VSlot}
 use Rattle.hwp_claim_frame.specs.hwp_geom.declared.Who.{Who}
 use Rattle.hwp_claim_frame.specs.hwp_kill.Limits.{slot_limit}
 use Rattle.hwp_claim_frame.specs.hwp_kill.Lowest.{HasNoneFrom, IsLowestFrom}
-use Rattle.hwp_claim_frame.specs.hwp_core_task.declared.Turn.TheVariants.{Moved}
+use Rattle.hwp_claim_frame.specs.hwp_core_rule.declared.Turn.TheVariants.{Moved}
 use Rattle.hwp_claim_frame.specs.hwp_core.Clears.{IsNextFrom}
 use Rattle.hwp_soft_move.specs.declared.relocate.Relocate.{Relocate}
 use Rattle.hwp_soft_move.specs.declared.relocate.RelocateAt.{RelocateAt}

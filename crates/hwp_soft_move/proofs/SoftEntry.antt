@@ -30,7 +30,7 @@ use Rattle.hwp_claim_frame.specs.hwp_core_rule.Views.{is_body_of, more_of}
 use Rattle.hwp_claim_frame.specs.hwp_core_rule.parts.Entries.{HasSeen}
 use Rattle.hwp_claim_frame.specs.hwp_core_rule.parts.Fits.{FitsWords}
 use Rattle.hwp_claim_frame.proofs.of_hwp_core_rule.Lists.{same-number}
-use Rattle.hwp_claim_frame.specs.hwp_core_task.Hands.{body_in}
+use Rattle.hwp_claim_frame.specs.hwp_core_rule.Hands.{body_in}
 use Rattle.hwp_claim_frame.specs.hwp_core.Holds.{page_lock}
 use Rattle.hwp_claim_frame.proofs.of_hwp_core.VacateLaws.{put-fits-of}
 use Rattle.hwp_soft_move.specs.Relocating.{HasEntry}

@@ -10,10 +10,10 @@ use Rattle.hwp_claim_frame.specs.hwp_core_rule.declared.Step.TheVariants as step
 use Rattle.hwp_claim_frame.specs.hwp_core_rule.declared.View.{View}
 use Rattle.hwp_claim_frame.specs.hwp_core_rule.Asks.{OwesCount}
 use Rattle.hwp_claim_frame.specs.hwp_core_rule.Words.{Words}
-use Rattle.hwp_claim_frame.specs.hwp_core_task.Calls.{IsOnTurn}
-use Rattle.hwp_claim_frame.specs.hwp_core_task.Hands.{hand_of, empty}
-use Rattle.hwp_claim_frame.specs.hwp_core_task.Turns.{Member}
-use Rattle.hwp_claim_frame.specs.hwp_core_task.declared.Turn.TheVariants.{Moved}
+use Rattle.hwp_claim_frame.specs.hwp_core_rule.Calls.{IsOnTurn}
+use Rattle.hwp_claim_frame.specs.hwp_core_rule.Hands.{hand_of, empty}
+use Rattle.hwp_claim_frame.specs.hwp_core_rule.Turns.{Member}
+use Rattle.hwp_claim_frame.specs.hwp_core_rule.declared.Turn.TheVariants.{Moved}
 use Rattle.hwp_claim_frame.specs.hwp_core.declared.unlock.Unlock.{Unlock}
 use Rattle.hwp_claim_frame.specs.hwp_core.Unlocks as unlocks
 use Rattle.hwp_claim_frame.specs.hwp_core.Unlocks.{empty_frame}

@@ -19,10 +19,10 @@ use Rattle.hwp_claim_frame.specs.hwp_core_rule.Asks.{OwesCount}
 use Rattle.hwp_claim_frame.specs.hwp_core_rule.Logs.{log_of, state_of, fitting_word}
 use Rattle.hwp_claim_frame.specs.hwp_core_rule.Views.{unpoisoned}
 use Rattle.hwp_claim_frame.specs.hwp_core_rule.parts.Entries.{HasSeen}
-use Rattle.hwp_claim_frame.specs.hwp_core_task.Calls.{IsOnTurn}
-use Rattle.hwp_claim_frame.specs.hwp_core_task.Hands.{Hand, body_in, empty, hand_of}
-use Rattle.hwp_claim_frame.specs.hwp_core_task.Known.{HasMadeBeside, HasMadeNoneBeside}
-use Rattle.hwp_claim_frame.specs.hwp_core_task.Turns.{Member}
+use Rattle.hwp_claim_frame.specs.hwp_core_rule.Calls.{IsOnTurn}
+use Rattle.hwp_claim_frame.specs.hwp_core_rule.Hands.{Hand, body_in, empty, hand_of}
+use Rattle.hwp_claim_frame.specs.hwp_core_rule.Known.{HasMadeBeside, HasMadeNoneBeside}
+use Rattle.hwp_claim_frame.specs.hwp_core_rule.Turns.{Member}
 use Rattle.hwp_claim_frame.specs.hwp_core.declared.refer.Refer.{Refer}
 use Rattle.hwp_claim_frame.specs.hwp_core.declared.refer.ReferAt.{ReferAt}
 use Rattle.hwp_claim_frame.specs.hwp_core.declared.refer.ReferAt.TheVariants as refer_at

@@ -21,8 +21,8 @@ use Rattle.hwp_claim_frame.specs.hwp_core_rule.declared.Step.TheVariants as step
 use Rattle.hwp_claim_frame.specs.hwp_core_rule.declared.View.{View}
 use Rattle.hwp_claim_frame.specs.hwp_core_rule.Logs.{state_of}
 use Rattle.hwp_claim_frame.specs.hwp_core_rule.Words.{Words}
-use Rattle.hwp_claim_frame.specs.hwp_core_task.Calls.{IsOnTurn}
-use Rattle.hwp_claim_frame.specs.hwp_core_task.Hands.{Hand, hand_of}
+use Rattle.hwp_claim_frame.specs.hwp_core_rule.Calls.{IsOnTurn}
+use Rattle.hwp_claim_frame.specs.hwp_core_rule.Hands.{Hand, hand_of}
 use Rattle.hwp_claim_frame.specs.hwp_core.Releases.{new_lock}
 use Rattle.hwp_claim_frame.specs.hwp_core.Clears.{IsNextFrom, is_done}
 use Rattle.hwp_claim_frame.specs.hwp_core.Vacates.{page_held}

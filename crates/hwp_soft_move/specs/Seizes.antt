@@ -11,12 +11,12 @@ use Rattle.hwp_claim_frame.specs.hwp_core_rule.declared.Step.{Step}
 use Rattle.hwp_claim_frame.specs.hwp_core_rule.declared.Step.TheVariants as steps
 use Rattle.hwp_claim_frame.specs.hwp_core_rule.declared.View.{View}
 use Rattle.hwp_claim_frame.specs.hwp_core_rule.Words.{Words}
-use Rattle.hwp_claim_frame.specs.hwp_core_task.declared.Turn.{Turn}
-use Rattle.hwp_claim_frame.specs.hwp_core_task.declared.Turn.TheVariants.{Moved}
-use Rattle.hwp_claim_frame.specs.hwp_core_task.Calls.{IsOnTurn}
-use Rattle.hwp_claim_frame.specs.hwp_core_task.Hands.{hand_of, empty}
-use Rattle.hwp_claim_frame.specs.hwp_core_task.Known.{Saw}
-use Rattle.hwp_claim_frame.specs.hwp_core_task.Turns.{Member}
+use Rattle.hwp_claim_frame.specs.hwp_core_rule.declared.Turn.{Turn}
+use Rattle.hwp_claim_frame.specs.hwp_core_rule.declared.Turn.TheVariants.{Moved}
+use Rattle.hwp_claim_frame.specs.hwp_core_rule.Calls.{IsOnTurn}
+use Rattle.hwp_claim_frame.specs.hwp_core_rule.Hands.{hand_of, empty}
+use Rattle.hwp_claim_frame.specs.hwp_core_rule.Known.{Saw}
+use Rattle.hwp_claim_frame.specs.hwp_core_rule.Turns.{Member}
 use Rattle.hwp_claim_frame.specs.declared.grab.Grab.{Grab}
 use Rattle.hwp_claim_frame.specs.declared.grab.GrabAnswer.{GrabAnswer}
 use Rattle.hwp_claim_frame.specs.declared.grab.GrabAnswer.TheVariants as grab_answers
@@ -29,7 +29,7 @@ use Rattle.hwp_claim_frame.specs.Claims.{IsGrabbing, SawPoison, has_ended_at}
 use Rattle.hwp_claim_frame.specs.Grabs as grabs
 use Rattle.hwp_claim_frame.specs.Meets as meets
 use Rattle.hwp_claim_frame.specs.Meets.{HoldsFree, HoldsMet}
-use Rattle.hwp_claim_frame.specs.hwp_core_task.Ranks.{stale_weight}
+use Rattle.hwp_claim_frame.specs.hwp_core_rule.Ranks.{stale_weight}
 use Rattle.hwp_soft_move.specs.declared.seize.Seize.{Seize}
 use Rattle.hwp_soft_move.specs.declared.seize.SeizeAt.{SeizeAt}
 use Rattle.hwp_soft_move.specs.declared.seize.SeizeAt.TheVariants as at

@@ -1,6 +1,6 @@
 ghost use Rattle.std.specs.Prelude.{◌≡◌, ◌-◌, is_none};
 ghost use Rattle.hwp_claim_frame.specs.hwp_core.Refers as refers;
-ghost use Rattle.hwp_claim_frame.specs.hwp_core_task.declared.Turn.TheVariants.{Moved};
+ghost use Rattle.hwp_claim_frame.specs.hwp_core_rule.declared.Turn.TheVariants.{Moved};
 ghost use Rattle.hwp_soft_move.specs.declared.relocate.RelocateAt.TheVariants as states;
 ghost use Rattle.hwp_soft_move.specs.Relocations.{IsBegun, plan, StartsRemap, after_remap};
 

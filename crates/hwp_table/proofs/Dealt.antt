@@ -2,11 +2,11 @@
 use Rattle.std.proofs.Common.{◌≡◌, ◌≢◌, ℕ, zero, suc, ◌+◌, ◌<◌, ◌==◌, Bool, true, false, not, cond, List, [], ◌∷◌, filter, map, drop, slice_get, refl, sym, ap, ◌∙◌, subst, arith, ne_eqb}
 use Rattle.std.specs.Prelude.{Some, None}
 use Rattle.std.proofs.lemmas.Option.{none-some, same_Some, slice_get_within}
-use Rattle.hwp_core_task.specs.hwp_core_rule.declared.View.{View}
-use Rattle.hwp_core_task.specs.hwp_core_rule.Lists.{EachMember}
-use Rattle.hwp_core_task.specs.hwp_core_rule.Opening.{below, opening_view}
-use Rattle.hwp_core_task.proofs.of_hwp_core_rule.Lists.{each-map, same-number}
-use Rattle.hwp_core_task.proofs.of_hwp_core_rule.WordsOpen.{below-at, length-below}
+use Rattle.hwp_core_rule.specs.declared.View.{View}
+use Rattle.hwp_core_rule.specs.Lists.{EachMember}
+use Rattle.hwp_core_rule.specs.Opening.{below, opening_view}
+use Rattle.hwp_core_rule.proofs.Lists.{each-map, same-number}
+use Rattle.hwp_core_rule.proofs.WordsOpen.{below-at, length-below}
 use Rattle.hwp_table_words.specs.Known.{Known, dealt, forgetting, idling, kept}
 use Rattle.hwp_table_words.specs.Stands.{Me}
 

@@ -6,14 +6,14 @@ use Rattle.std.proofs.lemmas.List.Sums.{sum_by-append, sum_by-cons}
 use Rattle.std.proofs.lemmas.Option.{none-some, same_Some, slice_get_within}
 use Rattle.std.specs.Int.{from_bool}
 use Rattle.atomic_table.specs.Seated.{TableId}
-use Rattle.hwp_core_task.specs.hwp_geom.declared.Layout.{Layout}
-use Rattle.hwp_core_task.specs.hwp_core_rule.declared.FrameLock.{FrameLock}
-use Rattle.hwp_core_task.specs.hwp_core_rule.declared.PageLock.{PageLock}
-use Rattle.hwp_core_task.specs.hwp_core_rule.declared.View.{View}
-use Rattle.hwp_core_task.specs.hwp_core_rule.Lists.{EachMember}
-use Rattle.hwp_core_task.specs.hwp_core_rule.parts.Holdings.{HoldsNothing}
-use Rattle.hwp_core_task.proofs.of_hwp_core_rule.Lists.{at_last, at_longer, at_map, each-push, from_bool-same, same-or}
-use Rattle.hwp_core_task.specs.declared.Turn.{Turn}
+use Rattle.hwp_core_rule.specs.hwp_geom.declared.Layout.{Layout}
+use Rattle.hwp_core_rule.specs.declared.FrameLock.{FrameLock}
+use Rattle.hwp_core_rule.specs.declared.PageLock.{PageLock}
+use Rattle.hwp_core_rule.specs.declared.View.{View}
+use Rattle.hwp_core_rule.specs.Lists.{EachMember}
+use Rattle.hwp_core_rule.specs.parts.Holdings.{HoldsNothing}
+use Rattle.hwp_core_rule.proofs.Lists.{at_last, at_longer, at_map, each-push, from_bool-same, same-or}
+use Rattle.hwp_core_rule.specs.declared.Turn.{Turn}
 use Rattle.hwp_table_words.specs.Ends.{HasAll}
 use Rattle.hwp_table_words.specs.Known.{Known, Whole, either_whole, joining, views_for}
 use Rattle.hwp_table_words.specs.Seats.{SeatValue, cpu, mine, slots_of}

@@ -4,14 +4,14 @@ use Rattle.std.specs.Prelude.{Some}
 use Rattle.std.proofs.lemmas.List.{length-map}
 use Rattle.std.proofs.lemmas.Option.{same_Some, slice_get_within, get_or_from_slice_get}
 use Rattle.atomic_table.specs.Seated.{TableId}
-use Rattle.hwp_core_task.specs.hwp_geom.declared.Layout.{Layout}
-use Rattle.hwp_core_task.specs.hwp_geom.Layout.{IsSound}
-use Rattle.hwp_core_task.specs.hwp_core_rule.declared.View.{View}
-use Rattle.hwp_core_task.specs.hwp_core_rule.Opening.{below, opening, opening_homes, opening_view, opening_words}
-use Rattle.hwp_core_task.specs.hwp_core_rule.Rule.{Holds}
-use Rattle.hwp_core_task.proofs.of_hwp_core_rule.Lists.{at_map, at_set, map-was, set_here}
-use Rattle.hwp_core_task.proofs.of_hwp_core_rule.BoardOpens.{opening-holds}
-use Rattle.hwp_core_task.proofs.of_hwp_core_rule.WordsOpen.{below-at, length-below}
+use Rattle.hwp_core_rule.specs.hwp_geom.declared.Layout.{Layout}
+use Rattle.hwp_core_rule.specs.hwp_geom.Layout.{IsSound}
+use Rattle.hwp_core_rule.specs.declared.View.{View}
+use Rattle.hwp_core_rule.specs.Opening.{below, opening, opening_homes, opening_view, opening_words}
+use Rattle.hwp_core_rule.specs.Rule.{Holds}
+use Rattle.hwp_core_rule.proofs.Lists.{at_map, at_set, map-was, set_here}
+use Rattle.hwp_core_rule.proofs.BoardOpens.{opening-holds}
+use Rattle.hwp_core_rule.proofs.WordsOpen.{below-at, length-below}
 use Rattle.hwp_plain.specs.Boards.{IsReached}
 use Rattle.hwp_table_words.specs.Known.{Whole, first_known, idling, note, with_note}
 use Rattle.hwp_table_words.specs.Seats.{SeatValue, mine}

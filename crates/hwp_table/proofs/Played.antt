@@ -1,7 +1,7 @@
 -- Moves with their turns.
 use Rattle.std.proofs.Common.{◌≡◌, ℕ, List, [], ◌∷◌, length, refl, ap, arith}
-use Rattle.hwp_core_task.specs.hwp_core_rule.declared.Rec.{Rec}
-use Rattle.hwp_core_task.specs.declared.Turn.{Turn}
+use Rattle.hwp_core_rule.specs.declared.Rec.{Rec}
+use Rattle.hwp_core_rule.specs.declared.Turn.{Turn}
 use Rattle.hwp_plain.specs.Boards.{moves_of, with_turn}
 use Rattle.hwp_table.specs.Turns.{played, with_newest}
 

@@ -6,8 +6,8 @@ use Rattle.std.proofs.lemmas.Option.{same_Some}
 use Rattle.std.proofs.lemmas.List.Sums.{sum_by-append}
 use Rattle.std.specs.Int.{from_bool}
 use Rattle.atomic_table.specs.Seated.{TableId}
-use Rattle.hwp_core_task.specs.hwp_geom.declared.Layout.{Layout}
-use Rattle.hwp_core_task.proofs.of_hwp_core_rule.Lists.{at_set, at_map, set_again, set_here}
+use Rattle.hwp_core_rule.specs.hwp_geom.declared.Layout.{Layout}
+use Rattle.hwp_core_rule.proofs.Lists.{at_set, at_map, set_again, set_here}
 use Rattle.hwp_table_words.specs.Known.{Whole, either_whole, times}
 use Rattle.hwp_table_words.specs.Seats.{SeatValue, mine}
 use Rattle.hwp_table.specs.Seats.{AreSeats, Handed, IsHandedOver, IsHeld, IsSeatOf, with_rights, without_rights, whole_at, whole_in, whole_of}

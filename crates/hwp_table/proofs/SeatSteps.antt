@@ -3,32 +3,32 @@ use Rattle.std.proofs.Common.{◌≡◌, ℕ, suc, ◌<◌, false, Bool, List, [
 use Rattle.std.proofs.lemmas.List.{map-set}
 use Rattle.std.proofs.lemmas.Option.{same_Some, slice_get-get_or, get_or_from_slice_get}
 use Rattle.atomic_table.specs.Seated.{TableId}
-use Rattle.hwp_core_task.specs.hwp_geom.declared.Kind.{Kind}
-use Rattle.hwp_core_task.specs.hwp_geom.declared.Layout.{Layout}
-use Rattle.hwp_core_task.specs.hwp_geom.declared.Who.{Who}
-use Rattle.hwp_core_task.specs.hwp_page.History.{BodyValue}
-use Rattle.hwp_core_task.specs.hwp_core_rule.declared.Rec.{Rec}
-use Rattle.hwp_core_task.specs.hwp_core_rule.declared.State.{State}
-use Rattle.hwp_core_task.specs.hwp_core_rule.declared.Step.{Step}
-use Rattle.hwp_core_task.specs.hwp_core_rule.declared.View.{View}
-use Rattle.hwp_core_task.specs.hwp_core_rule.Moves.{Move, Run}
-use Rattle.hwp_core_task.specs.hwp_core_rule.Opening.{opening, opening_view}
-use Rattle.hwp_core_task.specs.hwp_core_rule.SlotMoves.{takes}
-use Rattle.hwp_core_task.specs.hwp_core_rule.Steps.{kind_of}
-use Rattle.hwp_core_task.specs.hwp_core_rule.Views.{view_after}
-use Rattle.hwp_core_task.proofs.of_hwp_core_rule.Lists.{at_map, at_set, set_here}
-use Rattle.hwp_core_task.proofs.of_hwp_core_rule.MoveKeeps.{holds-moved}
-use Rattle.hwp_core_task.proofs.of_hwp_core_rule.StepKeeps.{keeps}
-use Rattle.hwp_core_task.specs.declared.Turn.{Turn}
-use Rattle.hwp_core_task.specs.declared.Turn.TheVariants.{Moved}
-use Rattle.hwp_core_task.specs.Boards.{view_of}
-use Rattle.hwp_core_task.specs.Calls.{CanMake, Steps, logs, rec_of}
+use Rattle.hwp_core_rule.specs.hwp_geom.declared.Kind.{Kind}
+use Rattle.hwp_core_rule.specs.hwp_geom.declared.Layout.{Layout}
+use Rattle.hwp_core_rule.specs.hwp_geom.declared.Who.{Who}
+use Rattle.hwp_core_rule.specs.hwp_page.History.{BodyValue}
+use Rattle.hwp_core_rule.specs.declared.Rec.{Rec}
+use Rattle.hwp_core_rule.specs.declared.State.{State}
+use Rattle.hwp_core_rule.specs.declared.Step.{Step}
+use Rattle.hwp_core_rule.specs.declared.View.{View}
+use Rattle.hwp_core_rule.specs.Moves.{Move, Run}
+use Rattle.hwp_core_rule.specs.Opening.{opening, opening_view}
+use Rattle.hwp_core_rule.specs.SlotMoves.{takes}
+use Rattle.hwp_core_rule.specs.Steps.{kind_of}
+use Rattle.hwp_core_rule.specs.Views.{view_after}
+use Rattle.hwp_core_rule.proofs.Lists.{at_map, at_set, set_here}
+use Rattle.hwp_core_rule.proofs.MoveKeeps.{holds-moved}
+use Rattle.hwp_core_rule.proofs.StepKeeps.{keeps}
+use Rattle.hwp_core_rule.specs.declared.Turn.{Turn}
+use Rattle.hwp_core_rule.specs.declared.Turn.TheVariants.{Moved}
+use Rattle.hwp_core_rule.specs.Boards.{view_of}
+use Rattle.hwp_core_rule.specs.Calls.{CanMake, Steps, logs, rec_of}
 use Rattle.hwp_plain.specs.Boards.{Board, logged, moves_of}
 use Rattle.hwp_plain.specs.Boards as plain
 use Rattle.hwp_table_words.specs.Known.{Whole, known_after, mine_after, times, whole_after}
 use Rattle.hwp_table_words.specs.Plays.{Finds}
 use Rattle.hwp_table_words.specs.Seats.{HasRight, Moves, SeatValue, cpu, cpu_of, mine, mine_of}
-use Rattle.hwp_core_task.proofs.of_hwp_core_rule.MetWords.{asks-content}
+use Rattle.hwp_core_rule.proofs.MetWords.{asks-content}
 use Rattle.hwp_table.specs.Boards.{IsSeatBoard, state_of}
 use Rattle.hwp_table.specs.Seats.{AreSeats, IsHandedOver, IsHeld, IsSeatOf, whole_at}
 use Rattle.hwp_table.specs.Turns.{played}

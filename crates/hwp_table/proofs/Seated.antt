@@ -2,16 +2,16 @@
 use Rattle.std.proofs.Common.{◌≡◌, ℕ, Bool, true, false, cond, List, [], ◌∷◌, map, set, get_or, sym, ap, ◌∙◌, subst}
 use Rattle.std.proofs.lemmas.Option.{get_or_from_slice_get}
 use Rattle.atomic_table.specs.Seated.{TableId}
-use Rattle.hwp_core_task.specs.hwp_geom.declared.Cpu.{Cpu}
-use Rattle.hwp_core_task.specs.hwp_geom.declared.Layout.{Layout}
-use Rattle.hwp_core_task.specs.hwp_core_rule.declared.Rec.{Rec}
-use Rattle.hwp_core_task.specs.hwp_core_rule.declared.State.{State}
-use Rattle.hwp_core_task.specs.hwp_core_rule.declared.View.{View}
-use Rattle.hwp_core_task.specs.hwp_core_rule.Moves.{Run}
-use Rattle.hwp_core_task.specs.hwp_core_rule.Opening.{opening, opening_view}
-use Rattle.hwp_core_task.specs.hwp_core_rule.Views.{view_after}
-use Rattle.hwp_core_task.specs.declared.Turn.{Turn}
-use Rattle.hwp_core_task.specs.Boards.{AreSeated}
+use Rattle.hwp_core_rule.specs.hwp_geom.declared.Cpu.{Cpu}
+use Rattle.hwp_core_rule.specs.hwp_geom.declared.Layout.{Layout}
+use Rattle.hwp_core_rule.specs.declared.Rec.{Rec}
+use Rattle.hwp_core_rule.specs.declared.State.{State}
+use Rattle.hwp_core_rule.specs.declared.View.{View}
+use Rattle.hwp_core_rule.specs.Moves.{Run}
+use Rattle.hwp_core_rule.specs.Opening.{opening, opening_view}
+use Rattle.hwp_core_rule.specs.Views.{view_after}
+use Rattle.hwp_core_rule.specs.declared.Turn.{Turn}
+use Rattle.hwp_core_rule.specs.Boards.{AreSeated}
 use Rattle.hwp_plain.specs.Boards.{moves_of, with_turn}
 use Rattle.hwp_plain.proofs.TrailViews.{AreViews, views-open, views-more, view-there}
 use Rattle.hwp_table_words.specs.Seats.{SeatValue, mine}

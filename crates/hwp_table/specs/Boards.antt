@@ -1,10 +1,10 @@
 -- What a board of seats keeps.
 use Rattle.std.specs.Prelude.{◌≡◌, ℕ, ◌<◌, List, length, map}
 use Rattle.atomic_table.specs.Seated.{TableId}
-use Rattle.hwp_core_task.specs.hwp_geom.declared.Layout.{Layout}
-use Rattle.hwp_core_task.specs.hwp_core_rule.declared.State.{State}
-use Rattle.hwp_core_task.specs.declared.Turn.{Turn}
-use Rattle.hwp_core_task.specs.Boards.{Played}
+use Rattle.hwp_core_rule.specs.hwp_geom.declared.Layout.{Layout}
+use Rattle.hwp_core_rule.specs.declared.State.{State}
+use Rattle.hwp_core_rule.specs.declared.Turn.{Turn}
+use Rattle.hwp_core_rule.specs.Boards.{Played}
 use Rattle.hwp_plain.specs.Boards.{IsReached, moves_of}
 use Rattle.hwp_table_words.specs.Known.{Whole}
 use Rattle.hwp_table_words.specs.Seats.{IsTableOf, SeatValue, mine}

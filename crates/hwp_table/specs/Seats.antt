@@ -1,11 +1,11 @@
 -- The seats of a board, one for each processor. One of them has all rights, and knows the whole.
 use Rattle.std.specs.Prelude.{◌≡◌, ◌≢◌, ℕ, ◌<◌, ◌≤◌, ◌⊎◌, List, [], ◌∷◌, ◌++◌, Option, Some, None, length, map, slice_get, slice_set}
 use Rattle.atomic_table.specs.Seated.{TableId}
-use Rattle.hwp_core_task.specs.hwp_geom.declared.Layout.{Layout}
-use Rattle.hwp_core_task.specs.hwp_core_rule.declared.View.{View}
-use Rattle.hwp_core_task.specs.hwp_core_rule.Lists.{EachMember}
-use Rattle.hwp_core_task.specs.hwp_core_rule.Opening.{opening_view}
-use Rattle.hwp_core_task.specs.hwp_core_rule.parts.Holdings.{HoldsNothing}
+use Rattle.hwp_core_rule.specs.hwp_geom.declared.Layout.{Layout}
+use Rattle.hwp_core_rule.specs.declared.View.{View}
+use Rattle.hwp_core_rule.specs.Lists.{EachMember}
+use Rattle.hwp_core_rule.specs.Opening.{opening_view}
+use Rattle.hwp_core_rule.specs.parts.Holdings.{HoldsNothing}
 use Rattle.hwp_table_words.specs.tlb.Caching.{idle_caching}
 use Rattle.hwp_table_words.specs.Known.{Known, Whole, let_go, note, times, views_for, with_note}
 use Rattle.hwp_table_words.specs.Seats.{IsTableOf, SeatValue, cpu, mine}

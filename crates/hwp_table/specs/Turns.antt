@@ -1,9 +1,9 @@
 -- The turns of the moves, the newest first.
 use Rattle.std.specs.Prelude.{ℕ, List, [], ◌∷◌}
-use Rattle.hwp_core_task.specs.hwp_core_rule.declared.Rec.{Rec}
-use Rattle.hwp_core_task.specs.declared.Turn.{Turn}
-use Rattle.hwp_core_task.specs.declared.Turn.TheVariants as turns
-use Rattle.hwp_core_task.specs.Boards.{Played}
+use Rattle.hwp_core_rule.specs.declared.Rec.{Rec}
+use Rattle.hwp_core_rule.specs.declared.Turn.{Turn}
+use Rattle.hwp_core_rule.specs.declared.Turn.TheVariants as turns
+use Rattle.hwp_core_rule.specs.Boards.{Played}
 use Rattle.hwp_table.specs.declared.turns.Turns.{Turns, Opening, Made'}
 
 abbrev pub turns_of : Turns → List Turn

@@ -1,13 +1,13 @@
 ghost use Rattle.std.specs.Prelude.{◌≡◌, ℕ, ◌<◌, true, false, [], cond, None, IfOk, Some, map, slice_get};
 ghost use Rattle.atomic_table.specs.Seated.{TableId};
-ghost use Rattle.hwp_core_task.specs.hwp_core_rule.Lists.{EachMember};
-ghost use Rattle.hwp_core_task.specs.hwp_core_rule.Opening.{opening};
-ghost use Rattle.hwp_core_task.specs.hwp_core_rule.parts.Holdings.{HoldsNothing};
+ghost use Rattle.hwp_core_rule.specs.Lists.{EachMember};
+ghost use Rattle.hwp_core_rule.specs.Opening.{opening};
+ghost use Rattle.hwp_core_rule.specs.parts.Holdings.{HoldsNothing};
 ghost use Rattle.hwp_table.specs.Seats.{AreSeats, IsHeld, no_table};
 ghost use Rattle.hwp_table.specs.Boards.{whole_then};
 ghost use Rattle.hwp_table_words.specs.Ends.{HasAll};
-ghost use Rattle.hwp_core_task.specs.Boards.{AreSeated};
-ghost use Rattle.hwp_core_task.specs.Calls.{CanMake, Steps, logs, rec_of};
+ghost use Rattle.hwp_core_rule.specs.Boards.{AreSeated};
+ghost use Rattle.hwp_core_rule.specs.Calls.{CanMake, Steps, logs, rec_of};
 ghost use Rattle.hwp_plain.specs.Boards.{IsReached, Moves, own_view, with_turn};
 ghost use Rattle.hwp_table_words.specs.Known.{first_knowing};
 ghost use Rattle.hwp_table_words.specs.Seats.{IsTableOf, mine};
@@ -15,7 +15,7 @@ ghost use Rattle.hwp_table_words.specs.Seats.{IsTableOf, mine};
 use crate::dealing::{deal_seats, gather_seats};
 use crate::hand::hand_over;
 use crate::turns::{Turns, tell};
-use hwp_core_task::{Body, Cpu, Kind, Layout, List, Met, Ops, OutOfMemory, Step, Turn, Who};
+use hwp_core_rule::{Body, Cpu, Kind, Layout, List, Met, Ops, OutOfMemory, Step, Turn, Who};
 use hwp_table_words::{Pass, SeatOps, Sheet, Ways, let_go};
 use std::alloc::Global;
 use std::marker::{Brand, Model, PhantomData};
@@ -49,7 +49,7 @@ impl<'a, N: OfTable, W: Ways> Model for SeatBoard<'a, N, W> {
     ghost use Rattle.hwp_table.specs.Boards.{IsAtTable, state_of};
     ghost use Rattle.hwp_table.specs.Seats.{whole_at};
     ghost use Rattle.hwp_table.specs.Turns.{played, turns_of};
-    ghost use Rattle.hwp_core_task.specs.hwp_kill.contracts.Slots as sets;
+    ghost use Rattle.hwp_core_rule.specs.hwp_kill.contracts.Slots as sets;
     ghost use Rattle.std.specs.Coded.{codes};
 
     ghost Value = { Board };

@@ -1,10 +1,10 @@
 ghost use Rattle.std.specs.Prelude.{◌≡◌, [], map, IfOk};
-ghost use Rattle.hwp_core_task.specs.hwp_core_rule.Opening.{below};
+ghost use Rattle.hwp_core_rule.specs.Opening.{below};
 ghost use Rattle.hwp_table_words.specs.Known.{first_known, idling, let_go};
 ghost use Rattle.hwp_table_words.specs.Seats.{IsTableOf};
 ghost use Rattle.hwp_table.specs.Seats.{AreThese, Gathering, IsGathered, seat_open};
 
-use hwp_core_task::{Cpu, Layout, OutOfMemory};
+use hwp_core_rule::{Cpu, Layout, OutOfMemory};
 use hwp_table_words::{Pass, SeatOps, Sheet, Ways, join, split};
 use std::alloc::Global;
 

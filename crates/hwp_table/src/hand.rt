@@ -1,6 +1,6 @@
 ghost use Rattle.std.specs.Prelude.{◌≡◌, ◌<◌, length};
 ghost use Rattle.atomic_table.specs.Seated.{TableId};
-ghost use Rattle.hwp_core_task.specs.hwp_core_rule.Lists.{EachMember};
+ghost use Rattle.hwp_core_rule.specs.Lists.{EachMember};
 ghost use Rattle.hwp_table.specs.Seats.{IsHandedOver};
 
 use hwp_table_words::{SeatOps, Ways};

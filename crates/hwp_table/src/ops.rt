@@ -1,7 +1,7 @@
 ghost use Rattle.std.specs.Prelude.{◌≡◌, true};
 
 use crate::board::{OfTable, SeatBoard};
-use hwp_core_task::{Board, Body, Cpu, Kind, Layout, Met, Ops, Step, Task, Turn, Who, advance};
+use hwp_core_rule::{Board, Body, Cpu, Kind, Layout, Met, Ops, Step, Task, Turn, Who, advance};
 use hwp_table_words::Ways;
 
 impl<'a, N: OfTable, W: Ways> Ops for SeatBoard<'a, N, W> {

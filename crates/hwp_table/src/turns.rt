@@ -1,7 +1,7 @@
 ghost use Rattle.std.specs.Prelude.{◌≡◌, cond};
 ghost use Rattle.hwp_table.specs.Turns.{turns_of, with_newest};
 
-use hwp_core_task::Turn;
+use hwp_core_rule::Turn;
 use std::snapshot::Snapshot;
 
 /// The turns of a board since its opening: at run time the last one alone, and the rest for clauses.

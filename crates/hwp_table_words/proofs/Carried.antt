@@ -4,26 +4,26 @@ use Rattle.std.specs.Prelude.{Option, Some, None}
 use Rattle.std.proofs.lemmas.List.{length-append, length-map, map-append}
 use Rattle.std.proofs.lemmas.Option.{none-some, same_Some}
 use Rattle.std.specs.Int.{from_bool}
-use Rattle.hwp_core_task.specs.hwp_geom.declared.Frame.{Frame}
-use Rattle.hwp_core_task.specs.hwp_geom.declared.Layout.{Layout}
-use Rattle.hwp_core_task.specs.hwp_geom.declared.Page.{Page}
-use Rattle.hwp_core_task.specs.hwp_geom.declared.Who.{Who}
-use Rattle.hwp_core_task.specs.hwp_core_rule.declared.FrameLock.{FrameLock}
-use Rattle.hwp_core_task.specs.hwp_core_rule.declared.Log.{Log}
-use Rattle.hwp_core_task.specs.hwp_core_rule.declared.PageLock.{PageLock}
-use Rattle.hwp_core_task.specs.hwp_core_rule.declared.Rec.{Rec}
-use Rattle.hwp_core_task.specs.hwp_core_rule.declared.SlotMove.{SlotMove}
-use Rattle.hwp_core_task.specs.hwp_core_rule.declared.SlotMove.TheVariants as moves
-use Rattle.hwp_core_task.specs.hwp_core_rule.declared.Step.{Step}
-use Rattle.hwp_core_task.specs.hwp_core_rule.declared.Step.TheVariants as steps
-use Rattle.hwp_core_task.specs.hwp_core_rule.declared.View.{View}
-use Rattle.hwp_core_task.specs.hwp_core_rule.Asks.{AsksOf, HasLock, HasPageLock}
-use Rattle.hwp_core_task.specs.hwp_core_rule.Moves.{Told}
-use Rattle.hwp_core_task.specs.hwp_core_rule.SlotMoves.{slot_move, moved_out}
-use Rattle.hwp_core_task.specs.hwp_core_rule.Steps.{goes}
-use Rattle.hwp_core_task.specs.hwp_core_rule.Views.{view_after, noted}
-use Rattle.hwp_core_task.proofs.of_hwp_core_rule.KnownByLocks.{lock-listed, page-listed}
-use Rattle.hwp_core_task.proofs.of_hwp_core_rule.Lists.{at_map, same-or, same-number, sum-map, from_bool-same, from_bool-other}
+use Rattle.hwp_core_rule.specs.hwp_geom.declared.Frame.{Frame}
+use Rattle.hwp_core_rule.specs.hwp_geom.declared.Layout.{Layout}
+use Rattle.hwp_core_rule.specs.hwp_geom.declared.Page.{Page}
+use Rattle.hwp_core_rule.specs.hwp_geom.declared.Who.{Who}
+use Rattle.hwp_core_rule.specs.declared.FrameLock.{FrameLock}
+use Rattle.hwp_core_rule.specs.declared.Log.{Log}
+use Rattle.hwp_core_rule.specs.declared.PageLock.{PageLock}
+use Rattle.hwp_core_rule.specs.declared.Rec.{Rec}
+use Rattle.hwp_core_rule.specs.declared.SlotMove.{SlotMove}
+use Rattle.hwp_core_rule.specs.declared.SlotMove.TheVariants as moves
+use Rattle.hwp_core_rule.specs.declared.Step.{Step}
+use Rattle.hwp_core_rule.specs.declared.Step.TheVariants as steps
+use Rattle.hwp_core_rule.specs.declared.View.{View}
+use Rattle.hwp_core_rule.specs.Asks.{AsksOf, HasLock, HasPageLock}
+use Rattle.hwp_core_rule.specs.Moves.{Told}
+use Rattle.hwp_core_rule.specs.SlotMoves.{slot_move, moved_out}
+use Rattle.hwp_core_rule.specs.Steps.{goes}
+use Rattle.hwp_core_rule.specs.Views.{view_after, noted}
+use Rattle.hwp_core_rule.proofs.KnownByLocks.{lock-listed, page-listed}
+use Rattle.hwp_core_rule.proofs.Lists.{at_map, same-or, same-number, sum-map, from_bool-same, from_bool-other}
 use Rattle.hwp_table_words.specs.Carrying.{vacant, IsCarried, IsFirst, HasRoom, laid, brought, order_after}
 use Rattle.hwp_table_words.specs.Known.{less, times}
 use Rattle.hwp_table_words.specs.Plays.{IsFront, carried}

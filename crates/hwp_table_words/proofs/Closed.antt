@@ -8,17 +8,17 @@ use Rattle.std.proofs.lemmas.List.{length-map}
 use Rattle.std.proofs.lemmas.Option.{same_Some, slice_get_within}
 use Rattle.std.specs.Int.{from_bool}
 use Rattle.atomic_table.specs.Table.{Final, Seen}
-use Rattle.hwp_core_task.specs.hwp_geom.declared.Layout.{Layout}
-use Rattle.hwp_core_task.specs.hwp_core_rule.declared.State.{State}
-use Rattle.hwp_core_task.specs.hwp_core_rule.declared.View.{View}
-use Rattle.hwp_core_task.specs.hwp_core_rule.Lists.{EachMember}
-use Rattle.hwp_core_task.specs.hwp_core_rule.Moves.{Run}
-use Rattle.hwp_core_task.specs.hwp_core_rule.Opening.{opening}
-use Rattle.hwp_core_task.specs.hwp_core_rule.Rule.{Holds}
-use Rattle.hwp_core_task.specs.hwp_core_rule.parts.Holdings.{HoldsNothing}
-use Rattle.hwp_core_task.specs.hwp_core_rule.Words.{size, words_of}
-use Rattle.hwp_core_task.proofs.of_hwp_core_rule.CountsBelow.{some-term}
-use Rattle.hwp_core_task.proofs.of_hwp_core_rule.Lists.{at_map}
+use Rattle.hwp_core_rule.specs.hwp_geom.declared.Layout.{Layout}
+use Rattle.hwp_core_rule.specs.declared.State.{State}
+use Rattle.hwp_core_rule.specs.declared.View.{View}
+use Rattle.hwp_core_rule.specs.Lists.{EachMember}
+use Rattle.hwp_core_rule.specs.Moves.{Run}
+use Rattle.hwp_core_rule.specs.Opening.{opening}
+use Rattle.hwp_core_rule.specs.Rule.{Holds}
+use Rattle.hwp_core_rule.specs.parts.Holdings.{HoldsNothing}
+use Rattle.hwp_core_rule.specs.Words.{size, words_of}
+use Rattle.hwp_core_rule.proofs.CountsBelow.{some-term}
+use Rattle.hwp_core_rule.proofs.Lists.{at_map}
 use Rattle.hwp_plain_words.specs.Openings.{home_with}
 use Rattle.hwp_plain_words.proofs.AllHome.{all-home}
 use Rattle.hwp_table_words.specs.Ends.{HasAll, IsEnd, board_of}

@@ -8,14 +8,14 @@ use Rattle.std.proofs.lemmas.Nat.{mod-mul-add, mod_below}
 use native.Mathlib.Nat.{mul-le-mul, mul_comm, zero-mul}
 use Rattle.atomic_table.specs.Seated.{TableId}
 use Rattle.atomic_table.specs.Table.{keeps, Allows, stepped}
-use Rattle.hwp_core_task.specs.hwp_geom.declared.Layout.{Layout}
-use Rattle.hwp_core_task.specs.hwp_geom.Layout.{IsSound}
-use Rattle.hwp_core_task.specs.hwp_geom.Limits.{file_limit, frame_limit, page_limit, process_limit, thread_limit, translation_limit}
-use Rattle.hwp_core_task.specs.hwp_core_rule.declared.State.{State}
-use Rattle.hwp_core_task.specs.hwp_core_rule.Rule.{Holds}
-use Rattle.hwp_core_task.specs.hwp_core_rule.Steps.{exchanged}
-use Rattle.hwp_core_task.specs.hwp_core_rule.Words.{size}
-use Rattle.hwp_core_task.proofs.of_hwp_core_rule.Lists.{at_map, set_again}
+use Rattle.hwp_core_rule.specs.hwp_geom.declared.Layout.{Layout}
+use Rattle.hwp_core_rule.specs.hwp_geom.Layout.{IsSound}
+use Rattle.hwp_core_rule.specs.hwp_geom.Limits.{file_limit, frame_limit, page_limit, process_limit, thread_limit, translation_limit}
+use Rattle.hwp_core_rule.specs.declared.State.{State}
+use Rattle.hwp_core_rule.specs.Rule.{Holds}
+use Rattle.hwp_core_rule.specs.Steps.{exchanged}
+use Rattle.hwp_core_rule.specs.Words.{size}
+use Rattle.hwp_core_rule.proofs.Lists.{at_map, set_again}
 use Rattle.hwp_table_words.specs.tlb.Caching.{Caching}
 use Rattle.hwp_table_words.specs.tlb.Rule.{CachesAgree, HaveViews, Seat}
 use Rattle.hwp_table_words.specs.tlb.Steps.{filled, flushed, looked}

@@ -4,8 +4,8 @@ use mathlib.Core.Option.{some, some-injective, some-ne-none}
 use lib.ListN.{get_elem?}
 use Rattle.std.proofs.lemmas.List.{map-append, map-set}
 use Rattle.atomic_table.specs.Table.{Act, stepped}
-use Rattle.hwp_core_task.specs.hwp_geom.declared.Layout.{Layout}
-use Rattle.hwp_core_task.specs.hwp_core_rule.Words.{size}
+use Rattle.hwp_core_rule.specs.hwp_geom.declared.Layout.{Layout}
+use Rattle.hwp_core_rule.specs.Words.{size}
 use Rattle.hwp_table_words.specs.Known.{Knowing}
 use Rattle.hwp_table_words.specs.Rules.{Kept, Reached, cache_seat}
 use Rattle.hwp_table_words.specs.Stands.{CachedTable, Content, Table, first_part, stand}

@@ -4,17 +4,17 @@ use Rattle.std.specs.Prelude.{Any, Option}
 use Rattle.std.specs.Int.{from_bool}
 use Rattle.std.proofs.lemmas.Option.{none-some, same_Some}
 use native.Mathlib.Nat.{zero-mul}
-use Rattle.hwp_core_task.specs.hwp_geom.declared.Frame.{Frame}
-use Rattle.hwp_core_task.specs.hwp_geom.declared.Layout.{Layout}
-use Rattle.hwp_core_task.specs.hwp_geom.declared.VSlot.{VSlot}
-use Rattle.hwp_core_task.specs.hwp_core_rule.declared.Step.{Step}
-use Rattle.hwp_core_task.specs.hwp_core_rule.declared.Step.TheVariants as steps
-use Rattle.hwp_core_task.specs.hwp_core_rule.declared.View.{View}
-use Rattle.hwp_core_task.specs.hwp_core_rule.Steps.{goes}
-use Rattle.hwp_core_task.specs.hwp_core_rule.declared.SharedWord.{SharedWord}
-use Rattle.hwp_core_task.specs.hwp_core_rule.declared.SharedWord.TheVariants as shared
-use Rattle.hwp_core_task.specs.hwp_core_rule.Views.{locks_on}
-use Rattle.hwp_core_task.proofs.of_hwp_core_rule.Lists.{from_bool-other, from_bool-same, same-or}
+use Rattle.hwp_core_rule.specs.hwp_geom.declared.Frame.{Frame}
+use Rattle.hwp_core_rule.specs.hwp_geom.declared.Layout.{Layout}
+use Rattle.hwp_core_rule.specs.hwp_geom.declared.VSlot.{VSlot}
+use Rattle.hwp_core_rule.specs.declared.Step.{Step}
+use Rattle.hwp_core_rule.specs.declared.Step.TheVariants as steps
+use Rattle.hwp_core_rule.specs.declared.View.{View}
+use Rattle.hwp_core_rule.specs.Steps.{goes}
+use Rattle.hwp_core_rule.specs.declared.SharedWord.{SharedWord}
+use Rattle.hwp_core_rule.specs.declared.SharedWord.TheVariants as shared
+use Rattle.hwp_core_rule.specs.Views.{locks_on}
+use Rattle.hwp_core_rule.proofs.Lists.{from_bool-other, from_bool-same, same-or}
 use Rattle.hwp_table_words.specs.tlb.Caching.{Caching, upto_of}
 use Rattle.hwp_table_words.specs.tlb.Rule.{frames_of, locks_in, times}
 use Rattle.hwp_table_words.specs.tlb.Steps.{IsGuarded, shown_after}

@@ -5,7 +5,7 @@ use Rattle.std.specs.List.{remove}
 use Rattle.std.proofs.lemmas.List.{length-append, map-append}
 use Rattle.std.specs.Int.{from_bool}
 use Rattle.atomic_table.specs.Table.{turned}
-use Rattle.hwp_core_task.proofs.of_hwp_core_rule.Lists.{same-or, same-number, from_bool-other}
+use Rattle.hwp_core_rule.proofs.Lists.{same-or, same-number, from_bool-other}
 use Rattle.hwp_table_words.specs.Carrying.{vacant}
 use Rattle.hwp_table_words.specs.Known.{times}
 use Rattle.hwp_table_words.specs.Stands.{Content}

@@ -1,17 +1,17 @@
 -- What a step leaves of the guard: only the lock of a frame or of a page that went leaves frames to be swept.
 use Rattle.std.proofs.Common.{◌≡◌, ◌⊎◌, ℕ, ◌+◌, ◌<◌, ◌≤◌, ◌==◌, Bool, true, cond, List, [], ◌∷◌, ◌++◌, length, inl, inr, refl, sym, ap, ◌∙◌, subst, arith}
 use Rattle.std.specs.Int.{from_bool}
-use Rattle.hwp_core_task.specs.hwp_geom.declared.Frame.{Frame}
-use Rattle.hwp_core_task.specs.hwp_geom.declared.Layout.{Layout}
-use Rattle.hwp_core_task.specs.hwp_geom.declared.Page.{Page}
-use Rattle.hwp_core_task.specs.hwp_core_rule.declared.Rec.{Rec}
-use Rattle.hwp_core_task.specs.hwp_core_rule.declared.Step.{Step}
-use Rattle.hwp_core_task.specs.hwp_core_rule.declared.Step.TheVariants as steps
-use Rattle.hwp_core_task.specs.hwp_core_rule.declared.View.{View}
-use Rattle.hwp_core_task.specs.hwp_core_rule.Moves.{Told}
-use Rattle.hwp_core_task.specs.hwp_core_rule.Steps.{goes}
-use Rattle.hwp_core_task.specs.hwp_core_rule.Views.{locks_on, noted, view_after}
-use Rattle.hwp_core_task.proofs.of_hwp_core_rule.Lists.{same-or, from_bool-other, from_bool-same}
+use Rattle.hwp_core_rule.specs.hwp_geom.declared.Frame.{Frame}
+use Rattle.hwp_core_rule.specs.hwp_geom.declared.Layout.{Layout}
+use Rattle.hwp_core_rule.specs.hwp_geom.declared.Page.{Page}
+use Rattle.hwp_core_rule.specs.declared.Rec.{Rec}
+use Rattle.hwp_core_rule.specs.declared.Step.{Step}
+use Rattle.hwp_core_rule.specs.declared.Step.TheVariants as steps
+use Rattle.hwp_core_rule.specs.declared.View.{View}
+use Rattle.hwp_core_rule.specs.Moves.{Told}
+use Rattle.hwp_core_rule.specs.Steps.{goes}
+use Rattle.hwp_core_rule.specs.Views.{locks_on, noted, view_after}
+use Rattle.hwp_core_rule.proofs.Lists.{same-or, from_bool-other, from_bool-same}
 use Rattle.hwp_table_words.specs.tlb.Caching.{Caching, upto_of}
 use Rattle.hwp_table_words.specs.tlb.Rule.{frames_of, times}
 use Rattle.hwp_table_words.specs.tlb.Steps.{IsGuarded, caching_after}

@@ -23,5 +23,5 @@ mod Closed
 mod OrderLocks
 mod Guarded
 mod SeatMakes
-pub use Rattle.hwp_core_task.proofs.of_hwp_core_rule as of_hwp_core_rule
+pub use Rattle.hwp_core_rule.proofs as of_hwp_core_rule
 pub use Rattle.hwp_plain_words.proofs as of_hwp_plain_words

@@ -5,8 +5,8 @@ use mathlib.Core.Option.{Option, some, none, some-injective, some-ne-none}
 use lib.ListN.{get_elem?}
 use Rattle.std.proofs.lemmas.List.{map-set}
 use Rattle.std.proofs.lemmas.Option.{none-some, same_Some}
-use Rattle.hwp_core_task.specs.hwp_core_rule.declared.Log.{Log}
-use Rattle.hwp_core_task.specs.Calls.{logs}
+use Rattle.hwp_core_rule.specs.declared.Log.{Log}
+use Rattle.hwp_core_rule.specs.Calls.{logs}
 use Rattle.hwp_table_words.specs.Stands.{Content, home_of}
 
 module _ {A : Type 0} where

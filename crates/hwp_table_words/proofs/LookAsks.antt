@@ -9,22 +9,22 @@ use Rattle.std.proofs.lemmas.Nat.{mod_below}
 use Rattle.std.proofs.lemmas.Option.{none-some, same_Some}
 use Rattle.atomic_table.specs.Seated.{TableId}
 use Rattle.atomic_table.specs.Table.{Act, keeps, Valid, Allows, stepped, carried_after, homes_after}
-use Rattle.hwp_core_task.specs.hwp_geom.declared.Frame.{Frame}
-use Rattle.hwp_core_task.specs.hwp_geom.declared.Layout.{Layout}
-use Rattle.hwp_core_task.specs.hwp_geom.declared.VSlot.{VSlot}
-use Rattle.hwp_core_task.specs.hwp_core_rule.declared.SharedWord.{SharedWord}
-use Rattle.hwp_core_task.specs.hwp_core_rule.declared.SharedWord.TheVariants as shared
-use Rattle.hwp_core_task.specs.hwp_core_rule.declared.State.{State}
-use Rattle.hwp_core_task.specs.hwp_core_rule.declared.Step.{Step}
-use Rattle.hwp_core_task.specs.hwp_core_rule.declared.Step.TheVariants as steps
-use Rattle.hwp_core_task.specs.hwp_core_rule.declared.View.{View}
-use Rattle.hwp_core_task.specs.hwp_core_rule.Lists.{SomeMember}
-use Rattle.hwp_core_task.specs.hwp_core_rule.SlotMoves.{slot_move}
-use Rattle.hwp_core_task.specs.hwp_core_rule.Steps.{place_of, word_after}
-use Rattle.hwp_core_task.specs.hwp_core_rule.Words.{IsPlace, index, size, words_of}
-use Rattle.hwp_core_task.specs.Calls.{CanMake}
-use Rattle.hwp_core_task.proofs.of_hwp_core_rule.Lists.{at_map, set-set, set_again, set_here}
-use Rattle.hwp_core_task.proofs.of_hwp_core_rule.WordsByKind.{index-within, words-read}
+use Rattle.hwp_core_rule.specs.hwp_geom.declared.Frame.{Frame}
+use Rattle.hwp_core_rule.specs.hwp_geom.declared.Layout.{Layout}
+use Rattle.hwp_core_rule.specs.hwp_geom.declared.VSlot.{VSlot}
+use Rattle.hwp_core_rule.specs.declared.SharedWord.{SharedWord}
+use Rattle.hwp_core_rule.specs.declared.SharedWord.TheVariants as shared
+use Rattle.hwp_core_rule.specs.declared.State.{State}
+use Rattle.hwp_core_rule.specs.declared.Step.{Step}
+use Rattle.hwp_core_rule.specs.declared.Step.TheVariants as steps
+use Rattle.hwp_core_rule.specs.declared.View.{View}
+use Rattle.hwp_core_rule.specs.Lists.{SomeMember}
+use Rattle.hwp_core_rule.specs.SlotMoves.{slot_move}
+use Rattle.hwp_core_rule.specs.Steps.{place_of, word_after}
+use Rattle.hwp_core_rule.specs.Words.{IsPlace, index, size, words_of}
+use Rattle.hwp_core_rule.specs.Calls.{CanMake}
+use Rattle.hwp_core_rule.proofs.Lists.{at_map, set-set, set_again, set_here}
+use Rattle.hwp_core_rule.proofs.WordsByKind.{index-within, words-read}
 use Rattle.hwp_table_words.specs.tlb.Rule.{CachesAgree, Seat, frames_of}
 use Rattle.hwp_table_words.specs.tlb.Steps.{IsGuarded, caching_after, hit}
 use Rattle.hwp_table_words.specs.tlb.Words.{hit_of, hit_to}

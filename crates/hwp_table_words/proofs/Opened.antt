@@ -9,17 +9,17 @@ use Rattle.std.proofs.Math.Seq.{drop-append_seam, take-append_seam}
 use Rattle.std.specs.List.{sum_by}
 use Rattle.std.specs.Int.{from_bool}
 use Rattle.atomic_table.specs.Table as table
-use Rattle.hwp_core_task.specs.hwp_geom.declared.Layout.{Layout}
-use Rattle.hwp_core_task.specs.hwp_geom.Layout.{IsSound}
-use Rattle.hwp_core_task.specs.hwp_core_rule.declared.State.{State}
-use Rattle.hwp_core_task.specs.hwp_core_rule.declared.View.{View}
-use Rattle.hwp_core_task.specs.hwp_core_rule.Lists.{EachMember}
-use Rattle.hwp_core_task.specs.hwp_core_rule.Opening.{below, opening, opening_homes, opening_view, opening_words}
-use Rattle.hwp_core_task.specs.hwp_core_rule.Words.{size}
-use Rattle.hwp_core_task.proofs.of_hwp_core_rule.Lists.{same-or, map-was, at_map, at_push, sum-map, from_bool-same, from_bool-other}
-use Rattle.hwp_core_task.proofs.of_hwp_core_rule.BoardOpens.{opening-holds, homes-length}
-use Rattle.hwp_core_task.proofs.of_hwp_core_rule.WordsOpen.{below-at}
-use Rattle.hwp_core_task.specs.Calls.{FitsLayout}
+use Rattle.hwp_core_rule.specs.hwp_geom.declared.Layout.{Layout}
+use Rattle.hwp_core_rule.specs.hwp_geom.Layout.{IsSound}
+use Rattle.hwp_core_rule.specs.declared.State.{State}
+use Rattle.hwp_core_rule.specs.declared.View.{View}
+use Rattle.hwp_core_rule.specs.Lists.{EachMember}
+use Rattle.hwp_core_rule.specs.Opening.{below, opening, opening_homes, opening_view, opening_words}
+use Rattle.hwp_core_rule.specs.Words.{size}
+use Rattle.hwp_core_rule.proofs.Lists.{same-or, map-was, at_map, at_push, sum-map, from_bool-same, from_bool-other}
+use Rattle.hwp_core_rule.proofs.BoardOpens.{opening-holds, homes-length}
+use Rattle.hwp_core_rule.proofs.WordsOpen.{below-at}
+use Rattle.hwp_core_rule.specs.Calls.{FitsLayout}
 use Rattle.hwp_plain_words.specs.Openings.{home_with}
 use Rattle.hwp_table_words.specs.Known.{Known, Whole, first_known, first_knowing, times, views_for}
 use Rattle.hwp_table_words.specs.Order.{IsOpened, in_rule}
@@ -72,7 +72,7 @@ own-view n i y e =
 
 homes-some : (slots : List Content) → map home_of (map some slots) ≡ map home_with slots
 homes-some [] = refl
-homes-some (x ∷ xs) = λ i. Some (Rattle.hwp_core_task.specs.Calls.logs x) ∷ homes-some xs i
+homes-some (x ∷ xs) = λ i. Some (Rattle.hwp_core_rule.specs.Calls.logs x) ∷ homes-some xs i
 
 -- the machine's words, and so many empty ones behind them
 pub opened-words : (layout : Layout) (places : ℕ) (words all : List ℕ) → IsSound layout → in_rule words ≡ opening_words layout → all ≡ words ++ replicate places 0 → IsOpened layout places all

@@ -9,23 +9,23 @@ use Rattle.std.proofs.lemmas.Option.{none-some}
 use Rattle.atomic_table.specs.Seated.{TableId}
 use Rattle.atomic_table.specs.Table.{Act, keeps, takes, gives, Valid, Allows, stepped, carried_after, put_back, rest}
 use Rattle.atomic_table.proofs.Lists as table
-use Rattle.hwp_core_task.specs.hwp_geom.declared.Layout.{Layout}
-use Rattle.hwp_core_task.specs.hwp_core_rule.declared.Log.{Log}
-use Rattle.hwp_core_task.specs.hwp_core_rule.declared.Rec.{Rec}
-use Rattle.hwp_core_task.specs.hwp_core_rule.declared.SlotMove.{SlotMove}
-use Rattle.hwp_core_task.specs.hwp_core_rule.declared.SlotMove.TheVariants as moves
-use Rattle.hwp_core_task.specs.hwp_core_rule.declared.State.{State}
-use Rattle.hwp_core_task.specs.hwp_core_rule.declared.Step.{Step}
-use Rattle.hwp_core_task.specs.hwp_core_rule.declared.View.{View}
-use Rattle.hwp_core_task.specs.hwp_core_rule.Lists.{Homes}
-use Rattle.hwp_core_task.specs.hwp_core_rule.Moves.{Move, Told, moved}
-use Rattle.hwp_core_task.specs.hwp_core_rule.Rule.{Holds}
-use Rattle.hwp_core_task.specs.hwp_core_rule.SlotMoves as slots
-use Rattle.hwp_core_task.specs.hwp_core_rule.SlotMoves.{slot_move, is_out, homes_moved, MeetsSlot, IsIn, LeavesHome}
-use Rattle.hwp_core_task.specs.hwp_core_rule.Steps.{place_of, word_after}
-use Rattle.hwp_core_task.specs.hwp_core_rule.Views.{view_after}
-use Rattle.hwp_core_task.specs.hwp_core_rule.Words.{index, size}
-use Rattle.hwp_core_task.specs.Calls.{FitsLayout, logs}
+use Rattle.hwp_core_rule.specs.hwp_geom.declared.Layout.{Layout}
+use Rattle.hwp_core_rule.specs.declared.Log.{Log}
+use Rattle.hwp_core_rule.specs.declared.Rec.{Rec}
+use Rattle.hwp_core_rule.specs.declared.SlotMove.{SlotMove}
+use Rattle.hwp_core_rule.specs.declared.SlotMove.TheVariants as moves
+use Rattle.hwp_core_rule.specs.declared.State.{State}
+use Rattle.hwp_core_rule.specs.declared.Step.{Step}
+use Rattle.hwp_core_rule.specs.declared.View.{View}
+use Rattle.hwp_core_rule.specs.Lists.{Homes}
+use Rattle.hwp_core_rule.specs.Moves.{Move, Told, moved}
+use Rattle.hwp_core_rule.specs.Rule.{Holds}
+use Rattle.hwp_core_rule.specs.SlotMoves as slots
+use Rattle.hwp_core_rule.specs.SlotMoves.{slot_move, is_out, homes_moved, MeetsSlot, IsIn, LeavesHome}
+use Rattle.hwp_core_rule.specs.Steps.{place_of, word_after}
+use Rattle.hwp_core_rule.specs.Views.{view_after}
+use Rattle.hwp_core_rule.specs.Words.{index, size}
+use Rattle.hwp_core_rule.specs.Calls.{FitsLayout, logs}
 use Rattle.hwp_table_words.specs.Known.{Known, Knowing, Whole, known_after, mine_after}
 use Rattle.hwp_table_words.specs.Order.{in_rule, in_table}
 use Rattle.hwp_table_words.specs.Plays.{Call, rec, carried, IsFront, Finds, IsMade, Makes}
@@ -33,9 +33,9 @@ use Rattle.hwp_table_words.specs.Rules.{Kept, Reached, Ruled, cache_seat}
 use Rattle.hwp_table_words.specs.Seats.{CanPlay}
 use Rattle.hwp_table_words.specs.Stands.{CachedTable, Content, Me, Table, first_me, first_part, home_of, stand, AreOfLayout}
 use Rattle.hwp_table_words.proofs.TableKeeps.{reached-holds, run-seats}
-use Rattle.hwp_core_task.proofs.of_hwp_core_rule.MetWords.{asks-content, slot-home}
-use Rattle.hwp_core_task.proofs.of_hwp_core_rule.Lists.{at_map}
-use Rattle.hwp_core_task.proofs.of_hwp_core_rule.WordsByKind.{index-within}
+use Rattle.hwp_core_rule.proofs.MetWords.{asks-content, slot-home}
+use Rattle.hwp_core_rule.proofs.Lists.{at_map}
+use Rattle.hwp_core_rule.proofs.WordsByKind.{index-within}
 use Rattle.hwp_table_words.proofs.FirstParts.{drop-set, element-map, first-stepped, kept-of}
 use Rattle.hwp_table_words.proofs.ListReads.{as-slice, home-was, home-out, home-in}
 use Rattle.hwp_table_words.proofs.WordOrder.{length-in_rule, in_rule-read, in_rule-set}

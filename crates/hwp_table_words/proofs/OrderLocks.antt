@@ -4,11 +4,11 @@ use Rattle.std.proofs.Common.{◌≡◌, ℕ, suc, ◌+◌, ◌<◌, ◌≤◌, 
 use Rattle.std.specs.Int.{from_bool}
 use Rattle.std.proofs.lemmas.Bool.{eqb-true}
 use Rattle.std.proofs.lemmas.List.{length-map}
-use Rattle.hwp_core_task.specs.hwp_geom.declared.Layout.{Layout}
-use Rattle.hwp_core_task.specs.hwp_core_rule.declared.PageLock.{PageLock}
-use Rattle.hwp_core_task.specs.hwp_core_rule.declared.View.{View}
-use Rattle.hwp_core_task.specs.hwp_core_rule.Views.{locks_on}
-use Rattle.hwp_core_task.proofs.of_hwp_core_rule.Lists.{from_bool-other, from_bool-same}
+use Rattle.hwp_core_rule.specs.hwp_geom.declared.Layout.{Layout}
+use Rattle.hwp_core_rule.specs.declared.PageLock.{PageLock}
+use Rattle.hwp_core_rule.specs.declared.View.{View}
+use Rattle.hwp_core_rule.specs.Views.{locks_on}
+use Rattle.hwp_core_rule.proofs.Lists.{from_bool-other, from_bool-same}
 use Rattle.hwp_table_words.specs.tlb.Rule.{frames_of, times}
 use Rattle.hwp_table_words.proofs.tlb.LockSlots.{pages_of}
 use Rattle.hwp_table_words.proofs.tlb.LockTimes.{times-append, times-cons, times-frames}

@@ -3,10 +3,10 @@ use Rattle.std.proofs.Common.{◌≡◌, ℕ, List, [], ◌∷◌, ◌++◌, Som
 use mathlib.Core.Option.{some}
 use lib.ListN.{get_elem?}
 use Rattle.atomic_table.specs.Table.{Splits, Joins}
-use Rattle.hwp_core_task.specs.hwp_geom.declared.Layout.{Layout}
-use Rattle.hwp_core_task.specs.hwp_core_rule.declared.State.{State}
-use Rattle.hwp_core_task.specs.hwp_core_rule.Words.{size}
-use Rattle.hwp_core_task.proofs.of_hwp_core_rule.Lists.{at_map, set_else}
+use Rattle.hwp_core_rule.specs.hwp_geom.declared.Layout.{Layout}
+use Rattle.hwp_core_rule.specs.declared.State.{State}
+use Rattle.hwp_core_rule.specs.Words.{size}
+use Rattle.hwp_core_rule.proofs.Lists.{at_map, set_else}
 use Rattle.hwp_table_words.specs.Known.{Known, Knowing, idle, idling, let_go, note, dealt, kept, forgetting, joined, joining}
 use Rattle.hwp_table_words.specs.Rules.{Kept, Reached, cache_seat}
 use Rattle.hwp_table_words.specs.Stands.{CachedTable, Table, first_part, stand}

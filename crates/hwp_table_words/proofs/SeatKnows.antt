@@ -4,17 +4,17 @@ use Rattle.std.proofs.lemmas.List.Sums.{sum_by-append, sum_by_push}
 use Rattle.std.proofs.lemmas.Option.{none-some, same_Some, slice_get_within}
 use Rattle.std.specs.List.{sum_by}
 use Rattle.std.specs.Int.{from_bool}
-use Rattle.hwp_core_task.specs.hwp_geom.declared.Layout.{Layout}
-use Rattle.hwp_core_task.specs.hwp_core_rule.declared.Rec.{Rec}
-use Rattle.hwp_core_task.specs.hwp_core_rule.declared.State.{State}
-use Rattle.hwp_core_task.specs.hwp_core_rule.declared.View.{View}
-use Rattle.hwp_core_task.specs.hwp_core_rule.Lists.{EachMember, SomeMember}
-use Rattle.hwp_core_task.specs.hwp_core_rule.Moves.{moved}
-use Rattle.hwp_core_task.specs.hwp_core_rule.SlotMoves.{homes_after}
-use Rattle.hwp_core_task.specs.hwp_core_rule.Steps.{place_of, word_after}
-use Rattle.hwp_core_task.specs.hwp_core_rule.Views.{view_after}
-use Rattle.hwp_core_task.specs.hwp_core_rule.Words.{index}
-use Rattle.hwp_core_task.proofs.of_hwp_core_rule.Lists.{same-or, same-number, map-was, at_set, at_push, set_here, set_else, sum-set, sum-map, term-le, terms-le, from_bool-same}
+use Rattle.hwp_core_rule.specs.hwp_geom.declared.Layout.{Layout}
+use Rattle.hwp_core_rule.specs.declared.Rec.{Rec}
+use Rattle.hwp_core_rule.specs.declared.State.{State}
+use Rattle.hwp_core_rule.specs.declared.View.{View}
+use Rattle.hwp_core_rule.specs.Lists.{EachMember, SomeMember}
+use Rattle.hwp_core_rule.specs.Moves.{moved}
+use Rattle.hwp_core_rule.specs.SlotMoves.{homes_after}
+use Rattle.hwp_core_rule.specs.Steps.{place_of, word_after}
+use Rattle.hwp_core_rule.specs.Views.{view_after}
+use Rattle.hwp_core_rule.specs.Words.{index}
+use Rattle.hwp_core_rule.proofs.Lists.{same-or, same-number, map-was, at_set, at_push, set_here, set_else, sum-set, sum-map, term-le, terms-le, from_bool-same}
 use Rattle.hwp_table_words.specs.Known.{Known, Whole, times, views_for, idle, let_go, note, dealt, kept, joined, either_whole, known_after, mine_after, whole_after}
 use Rattle.hwp_table_words.specs.Rules.{Ruled, IsOwn, IsWhole}
 use Rattle.hwp_table_words.proofs.SeatMoves.{let-go-own, kept-own, dealt-own, joined-own, after-own, other-own, none-own}

@@ -6,10 +6,10 @@ use Rattle.std.proofs.lemmas.List.Elements.{filter-append}
 use Rattle.std.proofs.lemmas.List.Sums.{sum_by-append, sum_by-cons}
 use Rattle.std.specs.Int.{from_bool}
 use Rattle.std.specs.List.{sum_by}
-use Rattle.hwp_core_task.specs.hwp_geom.declared.Layout.{Layout}
-use Rattle.hwp_core_task.specs.hwp_core_rule.declared.Rec.{Rec}
-use Rattle.hwp_core_task.specs.hwp_core_rule.declared.View.{View}
-use Rattle.hwp_core_task.proofs.of_hwp_core_rule.Lists.{same-or, sum-map}
+use Rattle.hwp_core_rule.specs.hwp_geom.declared.Layout.{Layout}
+use Rattle.hwp_core_rule.specs.declared.Rec.{Rec}
+use Rattle.hwp_core_rule.specs.declared.View.{View}
+use Rattle.hwp_core_rule.proofs.Lists.{same-or, sum-map}
 use Rattle.hwp_table_words.specs.Known.{Known, dealt, joined, kept, known_after, let_go, mine_after, moves_by, views_for}
 use Rattle.hwp_table_words.specs.Rules.{IsOwn}
 use Rattle.hwp_table_words.proofs.Times.{sum-parts}

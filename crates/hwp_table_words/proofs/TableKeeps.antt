@@ -1,18 +1,18 @@
 -- The table keeps the frame rule, since moves lead to it from the opening.
 use Rattle.std.proofs.Common.{◌≡◌, ℕ, List, [], ◌∷◌, length, ap, ◌∙◌, sym, subst}
 use Rattle.std.proofs.lemmas.List.{length-map, length-set}
-use Rattle.hwp_core_task.specs.hwp_geom.declared.Layout.{Layout}
-use Rattle.hwp_core_task.specs.hwp_geom.Layout.{IsSound}
-use Rattle.hwp_core_task.specs.hwp_core_rule.declared.Rec.{Rec}
-use Rattle.hwp_core_task.specs.hwp_core_rule.declared.State.{State}
-use Rattle.hwp_core_task.specs.hwp_core_rule.Moves.{Run}
-use Rattle.hwp_core_task.specs.hwp_core_rule.Opening.{below, opening, opening_view}
-use Rattle.hwp_core_task.specs.hwp_core_rule.Rule.{Holds}
-use Rattle.hwp_core_task.specs.hwp_core_rule.Views.{view_after}
-use Rattle.hwp_core_task.proofs.of_hwp_core_rule.MoveKeeps.{holds-moved}
-use Rattle.hwp_core_task.proofs.of_hwp_core_rule.BoardOpens.{opening-holds}
-use Rattle.hwp_core_task.proofs.of_hwp_core_rule.WordsOpen.{length-below}
-use Rattle.hwp_core_task.proofs.of_hwp_core_rule.StepKeeps.{keeps}
+use Rattle.hwp_core_rule.specs.hwp_geom.declared.Layout.{Layout}
+use Rattle.hwp_core_rule.specs.hwp_geom.Layout.{IsSound}
+use Rattle.hwp_core_rule.specs.declared.Rec.{Rec}
+use Rattle.hwp_core_rule.specs.declared.State.{State}
+use Rattle.hwp_core_rule.specs.Moves.{Run}
+use Rattle.hwp_core_rule.specs.Opening.{below, opening, opening_view}
+use Rattle.hwp_core_rule.specs.Rule.{Holds}
+use Rattle.hwp_core_rule.specs.Views.{view_after}
+use Rattle.hwp_core_rule.proofs.MoveKeeps.{holds-moved}
+use Rattle.hwp_core_rule.proofs.BoardOpens.{opening-holds}
+use Rattle.hwp_core_rule.proofs.WordsOpen.{length-below}
+use Rattle.hwp_core_rule.proofs.StepKeeps.{keeps}
 use Rattle.hwp_table_words.specs.Rules.{Reached}
 use Rattle.hwp_table_words.specs.Stands.{Table, stand}
 

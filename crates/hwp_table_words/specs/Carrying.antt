@@ -1,7 +1,7 @@
 -- The slots that a seat carries, while it makes a step. Between its steps they are all empty.
 use Rattle.std.specs.Prelude.{◌≡◌, ℕ, ◌<◌, List, [], ◌∷◌, None, map, drop, length}
-use Rattle.hwp_core_task.specs.hwp_core_rule.declared.SlotMove.{SlotMove}
-use Rattle.hwp_core_task.specs.hwp_core_rule.declared.SlotMove.TheVariants as moves
+use Rattle.hwp_core_rule.specs.declared.SlotMove.{SlotMove}
+use Rattle.hwp_core_rule.specs.declared.SlotMove.TheVariants as moves
 use Rattle.hwp_table_words.specs.Known.{times}
 use Rattle.hwp_table_words.specs.Stands.{Content}
 

@@ -1,15 +1,15 @@
 -- What a table comes to.
 use Rattle.std.specs.Prelude.{◌≡◌, ℕ, ◌*◌, ◌<◌, ◌⊎◌, List, Some, length, map, slice_get}
-use Rattle.hwp_core_task.specs.hwp_geom.declared.Layout.{Layout}
-use Rattle.hwp_core_task.specs.hwp_core_rule.declared.Rec.{Rec}
-use Rattle.hwp_core_task.specs.hwp_core_rule.declared.State.{State}
-use Rattle.hwp_core_task.specs.hwp_core_rule.declared.View.{View}
-use Rattle.hwp_core_task.specs.hwp_core_rule.Lists.{EachMember}
-use Rattle.hwp_core_task.specs.hwp_core_rule.Moves.{Run}
-use Rattle.hwp_core_task.specs.hwp_core_rule.Opening.{opening}
-use Rattle.hwp_core_task.specs.hwp_core_rule.Rule.{Holds}
-use Rattle.hwp_core_task.specs.hwp_core_rule.Words.{words_of}
-use Rattle.hwp_core_task.specs.hwp_core_rule.parts.Holdings.{HoldsNothing}
+use Rattle.hwp_core_rule.specs.hwp_geom.declared.Layout.{Layout}
+use Rattle.hwp_core_rule.specs.declared.Rec.{Rec}
+use Rattle.hwp_core_rule.specs.declared.State.{State}
+use Rattle.hwp_core_rule.specs.declared.View.{View}
+use Rattle.hwp_core_rule.specs.Lists.{EachMember}
+use Rattle.hwp_core_rule.specs.Moves.{Run}
+use Rattle.hwp_core_rule.specs.Opening.{opening}
+use Rattle.hwp_core_rule.specs.Rule.{Holds}
+use Rattle.hwp_core_rule.specs.Words.{words_of}
+use Rattle.hwp_core_rule.specs.parts.Holdings.{HoldsNothing}
 use Rattle.hwp_plain_words.specs.Openings.{home_with}
 use Rattle.hwp_table_words.specs.Known.{Known, Whole, moves_by, views_for}
 use Rattle.hwp_table_words.specs.Rules.{IsWhole}

@@ -2,15 +2,15 @@
 use Rattle.std.specs.Prelude.{ℕ, ◌==◌, not, cond, List, [], ◌∷◌, ◌++◌, Option, Some, None, filter, map, option_map, slice_set}
 use Rattle.std.specs.List.{sum_by}
 use Rattle.std.specs.Int.{from_bool}
-use Rattle.hwp_core_task.specs.hwp_geom.declared.Layout.{Layout}
-use Rattle.hwp_core_task.specs.hwp_core_rule.declared.Rec.{Rec}
-use Rattle.hwp_core_task.specs.hwp_core_rule.declared.View.{View}
-use Rattle.hwp_core_task.specs.hwp_core_rule.Lists.{Homes}
-use Rattle.hwp_core_task.specs.hwp_core_rule.Opening.{below, opening_homes, opening_view, opening_words}
-use Rattle.hwp_core_task.specs.hwp_core_rule.SlotMoves.{homes_after}
-use Rattle.hwp_core_task.specs.hwp_core_rule.Steps.{place_of, word_after}
-use Rattle.hwp_core_task.specs.hwp_core_rule.Views.{view_after, without}
-use Rattle.hwp_core_task.specs.hwp_core_rule.Words.{index}
+use Rattle.hwp_core_rule.specs.hwp_geom.declared.Layout.{Layout}
+use Rattle.hwp_core_rule.specs.declared.Rec.{Rec}
+use Rattle.hwp_core_rule.specs.declared.View.{View}
+use Rattle.hwp_core_rule.specs.Lists.{Homes}
+use Rattle.hwp_core_rule.specs.Opening.{below, opening_homes, opening_view, opening_words}
+use Rattle.hwp_core_rule.specs.SlotMoves.{homes_after}
+use Rattle.hwp_core_rule.specs.Steps.{place_of, word_after}
+use Rattle.hwp_core_rule.specs.Views.{view_after, without}
+use Rattle.hwp_core_rule.specs.Words.{index}
 use Rattle.hwp_table_words.specs.tlb.Caching.{Caching, forgotten, idle_caching, joined_caching}
 
 -- What the table is: all words and all slots at home, in the order of the frame rule, and the moves that led to them, the

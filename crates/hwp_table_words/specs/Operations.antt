@@ -1,6 +1,6 @@
 -- The atomic operations of the table.
 use Rattle.std.specs.Prelude.{ℕ, ◌+◌, ◌-◌, ◌%◌, ◌^◌, bit_and, bit_or, bit_xor}
-use Rattle.hwp_core_task.specs.hwp_core_rule.Steps.{exchanged}
+use Rattle.hwp_core_rule.specs.Steps.{exchanged}
 use Rattle.hwp_table_words.specs.declared.operation.Operation.{Operation}
 use Rattle.hwp_table_words.specs.declared.operation.Operation.TheVariants.{Load, Swap, Add, Subtract, And, Or, Xor, Exchange}
 

@@ -1,8 +1,8 @@
 -- The order of the words: the table has the stop word first, the rule has it last.
 use Rattle.std.specs.Prelude.{◌≡◌, ℕ, suc, ◌==◌, cond, List, [], ◌∷◌, ◌++◌, drop, replicate, take}
-use Rattle.hwp_core_task.specs.hwp_geom.declared.Layout.{Layout}
-use Rattle.hwp_core_task.specs.hwp_core_rule.Opening.{opening_words}
-use Rattle.hwp_core_task.specs.hwp_core_rule.Words.{size}
+use Rattle.hwp_core_rule.specs.hwp_geom.declared.Layout.{Layout}
+use Rattle.hwp_core_rule.specs.Opening.{opening_words}
+use Rattle.hwp_core_rule.specs.Words.{size}
 
 -- the table's words in the order of the rule
 abbrev pub in_rule : List ℕ → List ℕ

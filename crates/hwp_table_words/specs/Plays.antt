@@ -1,22 +1,22 @@
 -- What the steps of a seat tell.
 use Rattle.std.specs.Prelude.{◌≡◌, ℕ, false, List, [], ◌∷◌, Some, None, slice_index}
 use Rattle.atomic_table.specs.Table.{rest}
-use Rattle.hwp_core_task.specs.hwp_geom.declared.Layout.{Layout}
-use Rattle.hwp_core_task.specs.hwp_geom.declared.Version.TheVariants as versions
-use Rattle.hwp_core_task.specs.hwp_geom.declared.Who.{Who}
-use Rattle.hwp_core_task.specs.hwp_core_rule.declared.Rec.{Rec}
-use Rattle.hwp_core_task.specs.hwp_core_rule.declared.SlotMove.{SlotMove}
-use Rattle.hwp_core_task.specs.hwp_core_rule.declared.SlotMove.TheVariants as moves
-use Rattle.hwp_core_task.specs.hwp_core_rule.declared.Step.{Step}
-use Rattle.hwp_core_task.specs.hwp_core_rule.declared.Step.TheVariants as steps
-use Rattle.hwp_core_task.specs.hwp_core_rule.declared.View.{View}
-use Rattle.hwp_core_task.specs.hwp_core_rule.Moves.{Told}
-use Rattle.hwp_core_task.specs.hwp_core_rule.Opening.{opening_view}
-use Rattle.hwp_core_task.specs.hwp_core_rule.SlotMoves.{slot_move, takes, Meets}
-use Rattle.hwp_core_task.specs.hwp_core_rule.Steps.{place_of}
-use Rattle.hwp_core_task.specs.hwp_core_rule.Views.{view_after}
-use Rattle.hwp_core_task.specs.hwp_core_rule.Words.{index}
-use Rattle.hwp_core_task.specs.Calls.{FitsLayout, logs, rec_of}
+use Rattle.hwp_core_rule.specs.hwp_geom.declared.Layout.{Layout}
+use Rattle.hwp_core_rule.specs.hwp_geom.declared.Version.TheVariants as versions
+use Rattle.hwp_core_rule.specs.hwp_geom.declared.Who.{Who}
+use Rattle.hwp_core_rule.specs.declared.Rec.{Rec}
+use Rattle.hwp_core_rule.specs.declared.SlotMove.{SlotMove}
+use Rattle.hwp_core_rule.specs.declared.SlotMove.TheVariants as moves
+use Rattle.hwp_core_rule.specs.declared.Step.{Step}
+use Rattle.hwp_core_rule.specs.declared.Step.TheVariants as steps
+use Rattle.hwp_core_rule.specs.declared.View.{View}
+use Rattle.hwp_core_rule.specs.Moves.{Told}
+use Rattle.hwp_core_rule.specs.Opening.{opening_view}
+use Rattle.hwp_core_rule.specs.SlotMoves.{slot_move, takes, Meets}
+use Rattle.hwp_core_rule.specs.Steps.{place_of}
+use Rattle.hwp_core_rule.specs.Views.{view_after}
+use Rattle.hwp_core_rule.specs.Words.{index}
+use Rattle.hwp_core_rule.specs.Calls.{FitsLayout, logs, rec_of}
 use Rattle.hwp_table_words.specs.Known.{Whole, known_after}
 use Rattle.hwp_table_words.specs.Stands.{Content, FirstMe, Me, first_me}
 use Rattle.hwp_table_words.specs.tlb.Rule.{frames_of}

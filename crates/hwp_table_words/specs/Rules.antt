@@ -1,15 +1,15 @@
 -- The rule of the table: moves lead from the opening to the table as it is, and each seat knows its part of what they led to.
 use Rattle.std.specs.Prelude.{◌≡◌, ℕ, ◌<◌, ◌≤◌, List, [], Some, drop, map, slice_get}
 use Rattle.std.specs.List.{sum_by}
-use Rattle.hwp_core_task.specs.hwp_geom.declared.Layout.{Layout}
-use Rattle.hwp_core_task.specs.hwp_geom.Layout.{IsSound}
-use Rattle.hwp_core_task.specs.hwp_core_rule.declared.Rec.{Rec}
-use Rattle.hwp_core_task.specs.hwp_core_rule.declared.State.{State}
-use Rattle.hwp_core_task.specs.hwp_core_rule.declared.View.{View}
-use Rattle.hwp_core_task.specs.hwp_core_rule.Lists.{EachMember}
-use Rattle.hwp_core_task.specs.hwp_core_rule.Moves.{Run}
-use Rattle.hwp_core_task.specs.hwp_core_rule.Opening.{opening}
-use Rattle.hwp_core_task.specs.hwp_core_rule.Words.{size}
+use Rattle.hwp_core_rule.specs.hwp_geom.declared.Layout.{Layout}
+use Rattle.hwp_core_rule.specs.hwp_geom.Layout.{IsSound}
+use Rattle.hwp_core_rule.specs.declared.Rec.{Rec}
+use Rattle.hwp_core_rule.specs.declared.State.{State}
+use Rattle.hwp_core_rule.specs.declared.View.{View}
+use Rattle.hwp_core_rule.specs.Lists.{EachMember}
+use Rattle.hwp_core_rule.specs.Moves.{Run}
+use Rattle.hwp_core_rule.specs.Opening.{opening}
+use Rattle.hwp_core_rule.specs.Words.{size}
 use Rattle.hwp_table_words.specs.Known.{Known, Knowing, Whole, moves_by, times, views_for}
 use Rattle.hwp_table_words.specs.Stands.{CachedTable, Table, first_part, stand, AreOfLayout}
 use Rattle.hwp_table_words.specs.tlb.Rule.{CachesAgree, Seat}

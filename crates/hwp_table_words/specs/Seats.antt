@@ -1,18 +1,18 @@
 -- One seat with the slots that it carries.
 use Rattle.std.specs.Prelude.{◌≡◌, ℕ, ◌+◌, ◌*◌, ◌<◌, List, [], ◌∷◌, ◌++◌, Some, map, length}
 use Rattle.atomic_table.specs.Seated.{TableId}
-use Rattle.hwp_core_task.specs.hwp_geom.declared.Layout.{Layout}
-use Rattle.hwp_core_task.specs.hwp_geom.Layout.{IsSound}
-use Rattle.hwp_core_task.specs.hwp_core_rule.declared.FrameLock.{FrameLock}
-use Rattle.hwp_core_task.specs.hwp_core_rule.declared.PageLock.{PageLock}
-use Rattle.hwp_core_task.specs.hwp_core_rule.declared.Rec.{Rec}
-use Rattle.hwp_core_task.specs.hwp_core_rule.declared.View.{View}
-use Rattle.hwp_core_task.specs.hwp_core_rule.Lists.{SomeMember}
-use Rattle.hwp_core_task.specs.hwp_core_rule.Opening.{opening_view}
-use Rattle.hwp_core_task.specs.hwp_core_rule.SlotMoves.{slot_move}
-use Rattle.hwp_core_task.specs.hwp_core_rule.Steps.{place_of}
-use Rattle.hwp_core_task.specs.hwp_core_rule.Words.{index, size}
-use Rattle.hwp_core_task.specs.Calls.{CanMake}
+use Rattle.hwp_core_rule.specs.hwp_geom.declared.Layout.{Layout}
+use Rattle.hwp_core_rule.specs.hwp_geom.Layout.{IsSound}
+use Rattle.hwp_core_rule.specs.declared.FrameLock.{FrameLock}
+use Rattle.hwp_core_rule.specs.declared.PageLock.{PageLock}
+use Rattle.hwp_core_rule.specs.declared.Rec.{Rec}
+use Rattle.hwp_core_rule.specs.declared.View.{View}
+use Rattle.hwp_core_rule.specs.Lists.{SomeMember}
+use Rattle.hwp_core_rule.specs.Opening.{opening_view}
+use Rattle.hwp_core_rule.specs.SlotMoves.{slot_move}
+use Rattle.hwp_core_rule.specs.Steps.{place_of}
+use Rattle.hwp_core_rule.specs.Words.{index, size}
+use Rattle.hwp_core_rule.specs.Calls.{CanMake}
 use Rattle.hwp_table_words.specs.CacheCounts.{told_counts}
 use Rattle.hwp_table_words.specs.Carrying.{vacant}
 use Rattle.hwp_table_words.specs.Known.{Known, Knowing, Whole, known_after, times}

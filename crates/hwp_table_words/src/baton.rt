@@ -3,7 +3,7 @@ ghost use Rattle.hwp_table_words.specs.Known.{dealt, forgetting, idling, joining
 
 use crate::plays::{Deals, Given, Joins, Lets, Pass, Sheet};
 use crate::ways::Ways;
-use hwp_core_task::Cpu;
+use hwp_core_rule::Cpu;
 use std::marker::Brand;
 
 /// The seat's rights go off on a note, with what it knows of the whole.

@@ -1,7 +1,7 @@
 ghost use Rattle.std.specs.Prelude.{◌≡◌, ◌+◌, ◌*◌, ◌<◌, ◌≤◌, ◌↔◌, ℕ, Any, IfNone, IfSome, IsTrue, List, Option};
-ghost use Rattle.hwp_core_task.specs.hwp_page.History.{BodyValue};
-ghost use Rattle.hwp_core_task.specs.hwp_geom.declared.VSlot.{VSlot};
-ghost use Rattle.hwp_core_task.specs.Calls.{CanMake};
+ghost use Rattle.hwp_core_rule.specs.hwp_page.History.{BodyValue};
+ghost use Rattle.hwp_core_rule.specs.hwp_geom.declared.VSlot.{VSlot};
+ghost use Rattle.hwp_core_rule.specs.Calls.{CanMake};
 ghost use Rattle.hwp_table_words.specs.CacheCounts.{told_counts};
 ghost use Rattle.hwp_table_words.specs.CachePlays.{CanFill, CanFlush, CanSearch, with_caching};
 ghost use Rattle.hwp_table_words.specs.Caches.{AreLocked, AreSwept, HasLooked, IsAlmostGuarded, IsAtTable, IsListed, IsSweptOn, follow_of, load_of, sweep_of, word_to};
@@ -19,7 +19,7 @@ use crate::entry::EntryWord;
 use crate::follow::Follow;
 use crate::plays::{Pass, Sheet};
 use crate::ways::Ways;
-use hwp_core_task::{Frame, Layout, SharedWord, Step, VSlot, Who};
+use hwp_core_rule::{Frame, Layout, SharedWord, Step, VSlot, Who};
 use std::marker::Brand;
 
 /// What each place of a processor's cache was filled with last. It says where to look, and nothing rests on it.

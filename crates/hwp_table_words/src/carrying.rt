@@ -1,14 +1,14 @@
 ghost use Rattle.std.specs.Prelude.{◌≡◌, ℕ, ◌<◌, ◌∷◌, Option, Some, None, false, drop, length};
 ghost use Rattle.atomic_table.specs.Table.{rest};
-ghost use Rattle.hwp_core_task.specs.hwp_page.History.{BodyValue, IsReplay};
-ghost use Rattle.hwp_core_task.specs.hwp_core_rule.SlotMoves.{is_out};
+ghost use Rattle.hwp_core_rule.specs.hwp_page.History.{BodyValue, IsReplay};
+ghost use Rattle.hwp_core_rule.specs.SlotMoves.{is_out};
 ghost use Rattle.hwp_table_words.specs.Carrying.{vacant, IsCarried, IsFirst, HasRoom, laid, brought, order_after};
 ghost use Rattle.hwp_table_words.specs.Known.{times};
 
 use crate::plays::{Pass, Sheet, Slot};
 use crate::ways::Ways;
 use arrayvec::ArrayVec;
-use hwp_core_task::SlotMove;
+use hwp_core_rule::SlotMove;
 
 /// The slots that a seat carries, in the order in which it has them: those of two frames and of a page at most.
 pub type Order = ArrayVec<usize, 3>;

@@ -9,7 +9,7 @@ ghost use Rattle.hwp_table_words.specs.Seats.{IsTableOf};
 use crate::plays::{Pass, Slot, WordTable};
 use crate::ways::Ways;
 use atomic_table::Closed;
-use hwp_core_task::{Layout, OutOfMemory};
+use hwp_core_rule::{Layout, OutOfMemory};
 use hwp_plain_words::{Machine, machine_of};
 use std::alloc::Global;
 use std::marker::Model;
@@ -31,7 +31,7 @@ impl<W: Ways> Model for Ended<W> {
     ghost use Rattle.std.specs.Slots.{slots_items};
     ghost use Rattle.hwp_table_words.specs.Ends.{EndValue, IsEnd};
     ghost use Rattle.hwp_table_words.specs.Order.{entries_in};
-    ghost use Rattle.hwp_core_task.specs.hwp_kill.contracts.Slots as sets;
+    ghost use Rattle.hwp_core_rule.specs.hwp_kill.contracts.Slots as sets;
     ghost use Rattle.std.specs.Coded.{codes};
 
     ghost Value = { EndValue };

@@ -1,13 +1,13 @@
 ghost use Rattle.std.specs.Prelude.{◌≡◌, ◌+◌, ◌*◌, ◌<◌, ◌≤◌, IfSome};
-ghost use Rattle.hwp_core_task.specs.hwp_geom.Layout.{IsSound};
-ghost use Rattle.hwp_core_task.specs.hwp_core_rule.Words.{size};
+ghost use Rattle.hwp_core_rule.specs.hwp_geom.Layout.{IsSound};
+ghost use Rattle.hwp_core_rule.specs.Words.{size};
 ghost use Rattle.hwp_table_words.specs.CachePlays.{CanFill, CanFlush, CanLook, CanSearch, IsEntry, IsFilled, IsFlushed, IsLooked, IsSearched, own_place};
 ghost use Rattle.hwp_table_words.specs.tlb.Words.{entry_word};
 
 use crate::cache_plays::{Aimed, Fills, Flushes, Looking, Looks, Searches};
 use crate::plays::{Pass, Sheet};
 use crate::ways::Ways;
-use hwp_core_task::{Cpu, Frame, Layout, SharedWord, VSlot, Who, index};
+use hwp_core_rule::{Cpu, Frame, Layout, SharedWord, VSlot, Who, index};
 
 /// Where the table has an entry: behind the words of the frame rule.
 pub(crate) fn entry_at<W: Ways>(layout: &Layout, place: usize) -> usize

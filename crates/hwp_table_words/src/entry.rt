@@ -1,7 +1,7 @@
 ghost use Rattle.std.specs.Prelude.{◌≡◌};
 ghost use Rattle.hwp_table_words.specs.tlb.Words.{entry_reading, entry_word_of, is_of};
 
-use hwp_core_task::{Frame, VSlot};
+use hwp_core_rule::{Frame, VSlot};
 
 /// The word of an entry of a translation cache (this project's rule).
 #[derive(Clone, Copy)]

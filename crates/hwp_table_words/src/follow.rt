@@ -1,4 +1,4 @@
-use hwp_core_task::{Frame, VSlot};
+use hwp_core_rule::{Frame, VSlot};
 
 /// What follows a step of a seat in the translation caches.
 #[derive(Clone, Copy)]

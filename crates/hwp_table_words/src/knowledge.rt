@@ -5,7 +5,7 @@ pub struct Knowledge;
 
 impl Model for Knowledge {
     ghost use Rattle.hwp_table_words.specs.Known.{Knowing, idle, idling};
-    ghost use Rattle.hwp_core_task.specs.hwp_kill.contracts.Slots as sets;
+    ghost use Rattle.hwp_core_rule.specs.hwp_kill.contracts.Slots as sets;
     ghost use Rattle.std.specs.Coded.{codes};
 
     ghost Value = { Knowing };

@@ -1,5 +1,5 @@
 ghost use Rattle.std.specs.Prelude.{◌≡◌, ◌*◌};
-ghost use Rattle.hwp_core_task.specs.Calls.{CanMake, Steps, logs, rec_of};
+ghost use Rattle.hwp_core_rule.specs.Calls.{CanMake, Steps, logs, rec_of};
 ghost use Rattle.hwp_table_words.specs.Seats.{HasRight, IsSeat, Moves, mine_of, value_of};
 ghost use Rattle.hwp_table_words.specs.Stands.{first_me};
 ghost use Rattle.hwp_table_words.specs.tlb.Rule.{frames_of};
@@ -10,7 +10,7 @@ use crate::plays::{Pass, Sheet};
 use crate::steps::step_as;
 use crate::ways::Ways;
 use crate::words::word_of;
-use hwp_core_task::{Body, Layout, Met, Step, Who};
+use hwp_core_rule::{Body, Layout, Met, Step, Who};
 use std::marker::Brand;
 
 /// Makes one step of a seat as one move of the frame rule. It takes no memory.

@@ -1,7 +1,7 @@
 ghost use Rattle.std.specs.Prelude.{◌≡◌, ◌*◌, [], IfOk};
 ghost use Rattle.std.specs.Arc.{arc_value};
-ghost use Rattle.hwp_core_task.specs.hwp_geom.Layout.{IsSound};
-ghost use Rattle.hwp_core_task.specs.hwp_core_rule.Opening.{opening_words};
+ghost use Rattle.hwp_core_rule.specs.hwp_geom.Layout.{IsSound};
+ghost use Rattle.hwp_core_rule.specs.Opening.{opening_words};
 ghost use Rattle.hwp_table_words.specs.Known.{first_knowing};
 ghost use Rattle.hwp_table_words.specs.Order.{IsOpened, in_rule};
 ghost use Rattle.hwp_table_words.specs.Seats.{IsTableOf};
@@ -9,7 +9,7 @@ ghost use Rattle.hwp_table_words.specs.Seats.{IsTableOf};
 use crate::plays::{Pass, WordTable};
 use crate::ways::Ways;
 use atomic_table::Table;
-use hwp_core_task::{Layout, OutOfMemory};
+use hwp_core_rule::{Layout, OutOfMemory};
 use hwp_plain_words::{opening_bodies, opening_words};
 use std::alloc::{AllocError, Global};
 use std::sync::Arc;

@@ -1,8 +1,8 @@
 ghost use Rattle.std.specs.Prelude.{◌≡◌, ℕ, ◌^◌};
-ghost use Rattle.hwp_core_task.specs.hwp_core_rule.Steps as tables;
+ghost use Rattle.hwp_core_rule.specs.Steps as tables;
 ghost use Rattle.hwp_table_words.specs.Operations.{applied};
 
-use hwp_core_task::{
+use hwp_core_rule::{
     CacheWord, Frame, FrameWord, HANDLED, LOCK, POISON, PolicyWord, REFERENCE, Step, StopWord,
 };
 

@@ -1,6 +1,6 @@
 use crate::seat::SeatOps;
 use crate::ways::Ways;
-use hwp_core_task::{Body, Layout, Met, Ops, Step, Who};
+use hwp_core_rule::{Body, Layout, Met, Ops, Step, Who};
 
 impl<'a, W: Ways> Ops for SeatOps<'a, W> {
     ghost use Rattle.hwp_table_words.specs.Seats.{HasRight, Moves, mine};

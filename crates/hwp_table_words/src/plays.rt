@@ -6,7 +6,7 @@ ghost use Rattle.hwp_table_words.specs.Rules.{Kept};
 use crate::knowledge::Knowledge;
 use crate::ways::Ways;
 use atomic_table::{Join, Play, Seat, Shared, Split, Table, TableRule};
-use hwp_core_task::{Body, Layout};
+use hwp_core_rule::{Body, Layout};
 use std::alloc::Global;
 use std::marker::{Brand, PhantomData};
 

@@ -1,5 +1,5 @@
 ghost use Rattle.std.specs.Prelude.{◌≡◌, [], ◌∷◌};
-ghost use Rattle.hwp_core_task.specs.Calls.{CanMake, Steps, logs, rec_of};
+ghost use Rattle.hwp_core_rule.specs.Calls.{CanMake, Steps, logs, rec_of};
 ghost use Rattle.hwp_table_words.specs.CacheCounts.{told_counts};
 ghost use Rattle.hwp_table_words.specs.Known.{idling, let_go, note, with_note};
 ghost use Rattle.hwp_table_words.specs.Seats.{HasRight, IsTableOf, Moves, cpu_of, mine, mine_of, slots_of, value_of};
@@ -13,7 +13,7 @@ use crate::making::one;
 use crate::plays::{Pass, Sheet};
 use crate::ways::Ways;
 use arrayvec::ArrayVec;
-use hwp_core_task::{Body, Layout, Met, Step, Who};
+use hwp_core_rule::{Body, Layout, Met, Step, Who};
 use std::marker::Model;
 
 /// A seat at the table that has the view of one processor, with the slots of its locks, which are empty between its steps.
@@ -31,7 +31,7 @@ impl<'a, W: Ways> Model for SeatOps<'a, W> {
     ghost use Rattle.std.specs.Prelude.{◌*◌};
     ghost use Rattle.hwp_table_words.specs.Seats.{HasCache, IsSeat, SeatValue, mine_of, value_of};
     ghost use Rattle.hwp_table_words.specs.Stands.{first_me};
-    ghost use Rattle.hwp_core_task.specs.hwp_kill.contracts.Slots as sets;
+    ghost use Rattle.hwp_core_rule.specs.hwp_kill.contracts.Slots as sets;
     ghost use Rattle.std.specs.Coded.{codes};
 
     ghost Value = { SeatValue };

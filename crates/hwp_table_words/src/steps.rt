@@ -5,7 +5,7 @@ ghost use Rattle.hwp_table_words.specs.Seats.{CanPlay};
 use crate::operation::{Operation, operation_of};
 use crate::plays::{Makes, Named, Pass, Sheet};
 use crate::ways::Ways;
-use hwp_core_task::{Step, Who};
+use hwp_core_rule::{Step, Who};
 
 /// A step of any kind, as one atomic operation on the table: it answers the word that it met.
 #[inline(always)]

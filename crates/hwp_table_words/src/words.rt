@@ -1,9 +1,9 @@
 ghost use Rattle.std.specs.Prelude.{◌≡◌, ◌<◌};
-ghost use Rattle.hwp_core_task.specs.hwp_geom.Layout.{IsSound};
-ghost use Rattle.hwp_core_task.specs.hwp_core_rule.Words.{IsPlace, index, size};
+ghost use Rattle.hwp_core_rule.specs.hwp_geom.Layout.{IsSound};
+ghost use Rattle.hwp_core_rule.specs.Words.{IsPlace, index, size};
 ghost use Rattle.hwp_table_words.specs.Order.{in_table};
 
-use hwp_core_task::{Layout, SharedWord, index};
+use hwp_core_rule::{Layout, SharedWord, index};
 
 /// Where the table has the word of a place: the stop word first, and then the others in their order.
 #[tactic(auto, using(crate::proofs::WordOrder::before_stop))]

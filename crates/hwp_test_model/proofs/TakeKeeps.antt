@@ -13,10 +13,10 @@ use Rattle.hwp_core.specs.hwp_core_rule.Rule.{Holds}
 use Rattle.hwp_core.specs.hwp_core_rule.Views.{unpoisoned, view_after}
 use Rattle.hwp_core.specs.hwp_words.Frames.{is_poisoned}
 use Rattle.hwp_core.proofs.of_hwp_core_rule.Lists.{same-number, set_here}
-use Rattle.hwp_core.specs.hwp_core_task.declared.Turn.{Turn}
-use Rattle.hwp_core.specs.hwp_core_task.Boards.{Played, TakesTurn, TakesTurnBy, TurnMade, view_of}
-use Rattle.hwp_core.specs.hwp_core_task.Calls.{Steps, rec_of}
-use Rattle.hwp_core.specs.hwp_core_task.Hands.{empty, hand_of}
+use Rattle.hwp_core.specs.hwp_core_rule.declared.Turn.{Turn}
+use Rattle.hwp_core.specs.hwp_core_rule.Boards.{Played, TakesTurn, TakesTurnBy, TurnMade, view_of}
+use Rattle.hwp_core.specs.hwp_core_rule.Calls.{Steps, rec_of}
+use Rattle.hwp_core.specs.hwp_core_rule.Hands.{empty, hand_of}
 use Rattle.hwp_core.specs.Holds.{one_ref}
 use Rattle.hwp_core.specs.Releases.{adopted_lock}
 use Rattle.hwp_fault_fill.specs.declared.take.Take.{Take}

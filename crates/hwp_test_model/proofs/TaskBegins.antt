@@ -7,8 +7,8 @@ use Rattle.hwp_core.specs.hwp_core_rule.declared.Part.{Part}
 use Rattle.hwp_core.specs.hwp_core_rule.Opening.{below, opening, opening_view}
 use Rattle.hwp_core.proofs.of_hwp_core_rule.Lists.{at_map}
 use Rattle.hwp_core.proofs.of_hwp_core_rule.WordsOpen.{below-at}
-use Rattle.hwp_core.specs.hwp_core_task.Boards.{view_of}
-use Rattle.hwp_core.specs.hwp_core_task.Calls.{IsOnTurn}
+use Rattle.hwp_core.specs.hwp_core_rule.Boards.{view_of}
+use Rattle.hwp_core.specs.hwp_core_rule.Calls.{IsOnTurn}
 use Rattle.hwp_core.specs.Holds as holds
 use Rattle.hwp_fault_fill.specs.Takes as takes
 

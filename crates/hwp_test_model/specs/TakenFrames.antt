@@ -1,7 +1,7 @@
 -- What a processor that held nothing holds while it takes a frame.
 use Rattle.std.specs.Prelude.{true, false, [], ◌∷◌, Some}
 use Rattle.hwp_core.specs.hwp_core_rule.Views.{unpoisoned}
-use Rattle.hwp_core.specs.hwp_core_task.Hands.{Hand, empty}
+use Rattle.hwp_core.specs.hwp_core_rule.Hands.{Hand, empty}
 use Rattle.hwp_core.specs.Holds.{one_ref}
 use Rattle.hwp_core.specs.Releases.{adopted_lock}
 use Rattle.hwp_fault_fill.specs.declared.take.TakeAt.{TakeAt}

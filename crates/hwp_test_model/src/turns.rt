@@ -3,7 +3,7 @@
 ghost use Rattle.std.specs.Prelude.{◌≡◌, ℕ, ◌<◌, length};
 ghost use Rattle.hwp_page.specs.hwp_geom.Layout.{IsSound};
 ghost use Rattle.hwp_core.specs.hwp_core_rule.Opening.{opening_view};
-ghost use Rattle.hwp_core.specs.hwp_core_task.Boards.{view_of};
+ghost use Rattle.hwp_core.specs.hwp_core_rule.Boards.{view_of};
 ghost use Rattle.hwp_core.specs.Holds as holds;
 ghost use Rattle.hwp_core.specs.Unholds.{LetsGo};
 ghost use Rattle.hwp_fault_fill.specs.Takes.{Fits};

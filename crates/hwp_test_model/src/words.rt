@@ -2,8 +2,8 @@
 
 ghost use Rattle.std.specs.Prelude.{◌≡◌, ◌<◌};
 ghost use Rattle.hwp_core.specs.hwp_core_rule.Opening.{opening_view};
-ghost use Rattle.hwp_core.specs.hwp_core_task.Boards.{view_of};
-ghost use Rattle.hwp_core.specs.hwp_core_task.Hands.{hand_of};
+ghost use Rattle.hwp_core.specs.hwp_core_rule.Boards.{view_of};
+ghost use Rattle.hwp_core.specs.hwp_core_rule.Hands.{hand_of};
 ghost use Rattle.hwp_core.specs.Unlocks as unlocks;
 ghost use Rattle.hwp_fault_fill.specs.Takes as takes;
 ghost use Rattle.hwp_test_model.specs.TakenFrames.{taken};

@@ -2,22 +2,22 @@
 use Rattle.std.proofs.Common.{◌≡◌, ◌≢◌, ℕ, zero, suc, ◌<◌, ◌⊎◌, inl, inr, Bool, false, cond, List, [], ◌∷◌, None, Some, drop, length, map, set, slice_get, refl, sym, ap, ◌∙◌, subst, arith, ne_eqb}
 use Rattle.std.proofs.lemmas.List.{length-set, map-set}
 use Rattle.std.proofs.lemmas.Option.{get_or_from_slice_get, same_Some, slice_get_within}
-use Rattle.hwp_core_task.specs.hwp_geom.declared.Frame.{Frame}
-use Rattle.hwp_core_task.specs.hwp_geom.declared.Layout.{Layout}
-use Rattle.hwp_core_task.specs.hwp_core_rule.declared.Rec.{Rec}
-use Rattle.hwp_core_task.specs.hwp_core_rule.declared.State.{State}
-use Rattle.hwp_core_task.specs.hwp_core_rule.declared.View.{View}
-use Rattle.hwp_core_task.specs.hwp_core_rule.Lists.{EachMember}
-use Rattle.hwp_core_task.specs.hwp_core_rule.Moves.{Move, Run}
-use Rattle.hwp_core_task.specs.hwp_core_rule.Opening.{opening_view}
-use Rattle.hwp_core_task.specs.hwp_core_rule.Rule.{Holds}
-use Rattle.hwp_core_task.specs.hwp_core_rule.Views.{view_after}
-use Rattle.hwp_core_task.proofs.of_hwp_core_rule.Lists.{at_changed, at_map, at_set, same-number, same-or, set_again, set_else, set_here}
-use Rattle.hwp_core_task.proofs.of_hwp_core_rule.MoveKeeps.{holds-moved}
-use Rattle.hwp_core_task.proofs.of_hwp_core_rule.StepKeeps.{keeps}
-use Rattle.hwp_core_task.specs.Classes.{TellsClass}
-use Rattle.hwp_core_task.specs.Ranks.{IsRanked, Made, Pending, is_refused, words_at}
-use Rattle.hwp_core_task.specs.Turns.{Member}
+use Rattle.hwp_core_rule.specs.hwp_geom.declared.Frame.{Frame}
+use Rattle.hwp_core_rule.specs.hwp_geom.declared.Layout.{Layout}
+use Rattle.hwp_core_rule.specs.declared.Rec.{Rec}
+use Rattle.hwp_core_rule.specs.declared.State.{State}
+use Rattle.hwp_core_rule.specs.declared.View.{View}
+use Rattle.hwp_core_rule.specs.Lists.{EachMember}
+use Rattle.hwp_core_rule.specs.Moves.{Move, Run}
+use Rattle.hwp_core_rule.specs.Opening.{opening_view}
+use Rattle.hwp_core_rule.specs.Rule.{Holds}
+use Rattle.hwp_core_rule.specs.Views.{view_after}
+use Rattle.hwp_core_rule.proofs.Lists.{at_changed, at_map, at_set, same-number, same-or, set_again, set_else, set_here}
+use Rattle.hwp_core_rule.proofs.MoveKeeps.{holds-moved}
+use Rattle.hwp_core_rule.proofs.StepKeeps.{keeps}
+use Rattle.hwp_core_rule.specs.Classes.{TellsClass}
+use Rattle.hwp_core_rule.specs.Ranks.{IsRanked, Made, Pending, is_refused, words_at}
+use Rattle.hwp_core_rule.specs.Turns.{Member}
 use Rattle.hwp_threads.specs.Own.{IsOwnRun, IsTurn, Standing, Turned, after_of, made_of}
 use Rattle.hwp_threads.specs.Parts.{AreParts, IsClaim, IsPart, Own, Stands, froms, part, tos}
 

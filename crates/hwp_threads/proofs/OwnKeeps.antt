@@ -1,7 +1,7 @@
 -- What each turn of a processor keeps, its whole run keeps.
 use Rattle.std.proofs.Common.{List, [], ◌∷◌, ap, sym, subst}
-use Rattle.hwp_core_task.specs.hwp_geom.declared.Layout.{Layout}
-use Rattle.hwp_core_task.specs.Turns.{Member}
+use Rattle.hwp_core_rule.specs.hwp_geom.declared.Layout.{Layout}
+use Rattle.hwp_core_rule.specs.Turns.{Member}
 use Rattle.hwp_threads.specs.Own.{IsOwnRun, IsTurn, Standing, Turned}
 
 pub own-keeps : {S : Type 0} (m : Member S) (layout : Layout) (P : S → Type 0) → ((t : Turned S) → IsTurn m layout t → P t.before.task → P t.after)

@@ -1,12 +1,12 @@
 -- Turns one after another are a run of the worker.
 use Rattle.std.proofs.Common.{◌≡◌, false, List, [], ◌∷◌, zero, suc, sym, ◌∙◌, subst}
 use Rattle.std.proofs.lemmas.Option.{none-some, same_Some}
-use Rattle.hwp_core_task.specs.hwp_geom.declared.Layout.{Layout}
-use Rattle.hwp_core_task.specs.hwp_core_rule.declared.Rec.{Rec}
-use Rattle.hwp_core_task.specs.hwp_core_rule.declared.View.{View}
-use Rattle.hwp_core_task.specs.hwp_core_rule.Lists.{EachMember}
-use Rattle.hwp_core_task.specs.Ranks.{is_refused}
-use Rattle.hwp_core_task.specs.Turns.{Member}
+use Rattle.hwp_core_rule.specs.hwp_geom.declared.Layout.{Layout}
+use Rattle.hwp_core_rule.specs.declared.Rec.{Rec}
+use Rattle.hwp_core_rule.specs.declared.View.{View}
+use Rattle.hwp_core_rule.specs.Lists.{EachMember}
+use Rattle.hwp_core_rule.specs.Ranks.{is_refused}
+use Rattle.hwp_core_rule.specs.Turns.{Member}
 use Rattle.hwp_threads.specs.Own.{IsOwnRun, Turned, made_of}
 use Rattle.hwp_threads.specs.declared.worker.Worker.{Worker}
 use Rattle.hwp_threads.specs.Workers.{HasRun, TookTurn, standing}

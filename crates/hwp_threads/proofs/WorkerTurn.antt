@@ -1,13 +1,13 @@
 -- One turn of a worker, from what `advance` tells.
 use Rattle.std.proofs.Common.{◌≡◌, ◌≢◌, Bool, true, false, cond, Option, Some, None, refl, sym, ◌∙◌}
 use Rattle.std.proofs.lemmas.Bool.{both_ways}
-use Rattle.hwp_core_task.specs.hwp_geom.declared.Layout.{Layout}
-use Rattle.hwp_core_task.specs.hwp_core_rule.declared.Rec.{Rec}
-use Rattle.hwp_core_task.specs.hwp_core_rule.declared.Step.{Step}
-use Rattle.hwp_core_task.specs.hwp_core_rule.declared.View.{View}
-use Rattle.hwp_core_task.specs.declared.Turn.{Turn}
-use Rattle.hwp_core_task.specs.Ranks.{is_refused}
-use Rattle.hwp_core_task.specs.Turns.{Advances, AdvancesBy, Member}
+use Rattle.hwp_core_rule.specs.hwp_geom.declared.Layout.{Layout}
+use Rattle.hwp_core_rule.specs.declared.Rec.{Rec}
+use Rattle.hwp_core_rule.specs.declared.Step.{Step}
+use Rattle.hwp_core_rule.specs.declared.View.{View}
+use Rattle.hwp_core_rule.specs.declared.Turn.{Turn}
+use Rattle.hwp_core_rule.specs.Ranks.{is_refused}
+use Rattle.hwp_core_rule.specs.Turns.{Advances, AdvancesBy, Member}
 use Rattle.hwp_threads.specs.declared.worker.Worker.{Worker}
 use Rattle.hwp_threads.specs.Workers.{TookTurn, standing}
 use Rattle.hwp_threads.proofs.WorkerRuns.{each-one}

@@ -1,4 +1,4 @@
-use hwp_core_task::Cpu;
+use hwp_core_rule::Cpu;
 
 /// Where a worker stands in a command of its processor.
 #[derive(Clone, Copy)]

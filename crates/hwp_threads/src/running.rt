@@ -5,7 +5,7 @@ ghost use Rattle.hwp_threads.specs.Workers.{AllRan, CanRun, RanToEnd, StaysReady
 use crate::gate::{Gate, Point};
 use crate::worker::Worker;
 use crossbeam_utils::{Backoff, CachePadded};
-use hwp_core_task::{Ops, Scheduled, Turn, Who};
+use hwp_core_rule::{Ops, Scheduled, Turn, Who};
 use std::sync::Wait;
 use std::thread;
 use std::thread::Threads;

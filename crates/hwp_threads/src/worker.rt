@@ -1,8 +1,8 @@
 ghost use Rattle.std.specs.Prelude.{◌≡◌, ◌≢◌, None, cond, false, true};
-ghost use Rattle.hwp_core_task.specs.Ranks.{is_refused};
+ghost use Rattle.hwp_core_rule.specs.Ranks.{is_refused};
 ghost use Rattle.hwp_threads.specs.Workers.{CanRun, StaysReady, TookTurn};
 
-use hwp_core_task::{Ops, Scheduled, Turn, advance};
+use hwp_core_rule::{Ops, Scheduled, Turn, advance};
 
 /// A processor's seat with the task that makes its turns there, and whether a turn of it was refused memory.
 #[derive(Drop)]

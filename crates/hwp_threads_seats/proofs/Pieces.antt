@@ -5,7 +5,7 @@ use Rattle.std.proofs.lemmas.List.{map-append}
 use Rattle.atomic_table.specs.Seated.{TableId}
 use Rattle.crossbeam_utils.specs.declared.CachePadded.{CachePadded}
 use Rattle.crossbeam_utils.specs.Padded.{padded_value}
-use Rattle.hwp_core_task.specs.hwp_geom.declared.Layout.{Layout}
+use Rattle.hwp_core_rule.specs.hwp_geom.declared.Layout.{Layout}
 use Rattle.hwp_table_words.specs.Seats.{SeatValue}
 use Rattle.hwp_threads.specs.declared.Worker.{Worker}
 use Rattle.hwp_threads_seats.specs.Dealing.{seat_at, workers_at}

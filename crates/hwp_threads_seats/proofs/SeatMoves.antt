@@ -1,13 +1,13 @@
 -- What moves make of the seat of one processor.
 use Rattle.std.proofs.Common.{◌≡◌, ◌≢◌, ℕ, ◌<◌, ◌==◌, cond, List, [], ◌∷◌, None, inl, map, refl, sym, ap, ◌∙◌, subst, arith}
 use Rattle.atomic_table.specs.Seated.{TableId}
-use Rattle.hwp_core_task.specs.hwp_geom.declared.Layout.{Layout}
-use Rattle.hwp_core_task.proofs.of_hwp_geom.WordLaws.{not_nil}
-use Rattle.hwp_core_task.specs.hwp_core_rule.declared.Rec.{Rec}
-use Rattle.hwp_core_task.specs.hwp_core_rule.declared.View.{View}
-use Rattle.hwp_core_task.specs.hwp_core_rule.Views.{view_after}
-use Rattle.hwp_core_task.specs.Classes.{TellsClass}
-use Rattle.hwp_core_task.specs.Turns.{Member}
+use Rattle.hwp_core_rule.specs.hwp_geom.declared.Layout.{Layout}
+use Rattle.hwp_core_rule.proofs.of_hwp_geom.WordLaws.{not_nil}
+use Rattle.hwp_core_rule.specs.declared.Rec.{Rec}
+use Rattle.hwp_core_rule.specs.declared.View.{View}
+use Rattle.hwp_core_rule.specs.Views.{view_after}
+use Rattle.hwp_core_rule.specs.Classes.{TellsClass}
+use Rattle.hwp_core_rule.specs.Turns.{Member}
 use Rattle.hwp_table_words.specs.Known.{mine_after, times}
 use Rattle.hwp_table_words.specs.Seats.{HasRight, Moves, SeatValue, cpu, cpu_of, mine, mine_of, slots_of}
 use Rattle.hwp_threads.specs.Workers.{Moved, StaysReady}

@@ -4,9 +4,9 @@ use Rattle.std.specs.List.{flat_map}
 use Rattle.atomic_table.specs.Seated.{TableId}
 use Rattle.crossbeam_utils.specs.declared.CachePadded.{CachePadded}
 use Rattle.crossbeam_utils.specs.Padded.{padded_value}
-use Rattle.hwp_core_task.specs.hwp_core_rule.declared.Rec.{Rec}
-use Rattle.hwp_core_task.specs.hwp_core_rule.declared.View.{View}
-use Rattle.hwp_core_task.specs.hwp_core_rule.Lists.{EachMember}
+use Rattle.hwp_core_rule.specs.declared.Rec.{Rec}
+use Rattle.hwp_core_rule.specs.declared.View.{View}
+use Rattle.hwp_core_rule.specs.Lists.{EachMember}
 use Rattle.hwp_table_words.specs.Known.{Known}
 use Rattle.hwp_table_words.specs.Seats.{SeatValue, cpu, mine, slots_of}
 use Rattle.hwp_table_words.specs.Stands.{Me}

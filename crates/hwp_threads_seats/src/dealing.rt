@@ -4,7 +4,7 @@ ghost use Rattle.hwp_table_words.specs.Seats.{IsTableOf};
 ghost use Rattle.hwp_threads_seats.specs.Dealing.{CanDeal, IsLeft, workers_at};
 
 use crossbeam_utils::CachePadded;
-use hwp_core_task::{Cpu, Layout, OutOfMemory, Scheduled};
+use hwp_core_rule::{Cpu, Layout, OutOfMemory, Scheduled};
 use hwp_table_words::{Pass, SeatOps, Sheet, Ways, split};
 use hwp_threads::Worker;
 use std::alloc::Global;

@@ -3,7 +3,7 @@ ghost use Rattle.crossbeam_utils.specs.Padded.{padded_value};
 ghost use Rattle.hwp_threads_seats.specs.Gathering.{AreBare, AreGathered, IsBare, IsBrought};
 
 use crate::dealing::SeatWorker;
-use hwp_core_task::OutOfMemory;
+use hwp_core_rule::OutOfMemory;
 use hwp_table_words::{Pass, Sheet, Ways, join};
 use hwp_threads::Worker;
 use std::alloc::{AllocError, Global};

@@ -1,6 +1,6 @@
 -- The rule of the table has it that no entry names a handled frame.
 use Rattle.std.proofs.Common.{map, drop}
-use Rattle.hwp_core_task.specs.hwp_core_rule.Words.{size}
+use Rattle.hwp_core_rule.specs.Words.{size}
 use Rattle.hwp_table_words.proofs.TableKeeps.{reached-holds}
 use Rattle.hwp_table_words.proofs.tlb.Named.{none-handled}
 use Rattle.hwp_table_words.specs.Rules.{cache_seat}

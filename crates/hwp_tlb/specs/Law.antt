@@ -1,7 +1,7 @@
 -- The law of translation caches, of each table that keeps its rule.
 use Rattle.std.specs.Prelude.{◌≡◌, ℕ, true, List, [], Some, drop, slice_get}
-use Rattle.hwp_core_task.specs.hwp_geom.declared.Layout.{Layout}
-use Rattle.hwp_core_task.specs.hwp_core_rule.Words.{size, words_of}
+use Rattle.hwp_core_rule.specs.hwp_geom.declared.Layout.{Layout}
+use Rattle.hwp_core_rule.specs.Words.{size, words_of}
 use Rattle.hwp_table_words.specs.tlb.Rule.{IsInUse}
 use Rattle.hwp_table_words.specs.tlb.Words.{is_of}
 use Rattle.hwp_table_words.specs.Rules.{Kept}

@@ -5,7 +5,7 @@
 mod law;
 mod tables;
 
-pub use hwp_core_task::{Cpu, Layout, List, OutOfMemory};
+pub use hwp_core_rule::{Cpu, Layout, List, OutOfMemory};
 pub use hwp_table::{Machine, OfTable, TlbCounts};
 pub use hwp_table_words::Slot;
 pub use law::no_entry_names_a_handled_frame;

@@ -1,11 +1,11 @@
 ghost use Rattle.std.specs.Prelude.{◌≡◌, ◌<◌, [], IfErr, IfOk};
 ghost use Rattle.std.specs.Arc.{arc_value};
-ghost use Rattle.hwp_core_task.specs.hwp_geom.Layout.{IsSound};
+ghost use Rattle.hwp_core_rule.specs.hwp_geom.Layout.{IsSound};
 ghost use Rattle.hwp_table_words.specs.Ends.{HasAll};
 ghost use Rattle.hwp_table_words.specs.Known.{dealt, first_knowing, forgetting, idling, joining, kept};
 ghost use Rattle.hwp_table_words.specs.Seats.{IsTableOf};
 
-use hwp_core_task::{Cpu, Layout, OutOfMemory};
+use hwp_core_rule::{Cpu, Layout, OutOfMemory};
 use hwp_table::{Cached, Ended, Pass, SeatBoard, SeatOps, Sheet, WordTable};
 use hwp_table_words::Slot;
 use std::alloc::Global;

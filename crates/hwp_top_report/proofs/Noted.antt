@@ -15,7 +15,7 @@ use Rattle.hwp_plain_words.specs.hwp_core_rule.declared.View.{View}
 use Rattle.hwp_plain_words.specs.hwp_core_rule.Lists.{SomeMember}
 use Rattle.hwp_plain_words.specs.hwp_core_rule.Rule.{Holds}
 use Rattle.hwp_plain_words.proofs.of_hwp_core_rule.Lists.{at_longer, at_map, map-was}
-use Rattle.hwp_plain_words.specs.hwp_core_task.Boards.{AreSeated, view_of}
+use Rattle.hwp_plain_words.specs.hwp_core_rule.Boards.{AreSeated, view_of}
 use Rattle.hwp_cpu_row.specs.hwp_report_text.declared.How.{How}
 use Rattle.hwp_cpu_row.specs.hwp_report_text.declared.How.TheVariants as hows
 use Rattle.hwp_cpu_row.specs.hwp_report_text.declared.MarkLine.{MarkLine}

@@ -10,8 +10,8 @@ use Rattle.hwp_threads.specs.hwp_core_rule.Opening.{below, opening, opening_view
 use Rattle.hwp_threads.specs.hwp_core_rule.parts.Holdings.{HoldsNothing}
 use Rattle.hwp_threads.proofs.of_hwp_core_rule.Lists.{at_map, from_bool-same, term-le}
 use Rattle.hwp_threads.proofs.of_hwp_core_rule.WordsOpen.{length-below}
-use Rattle.hwp_threads.specs.hwp_core_task.Boards.{Played}
-use Rattle.hwp_threads.specs.hwp_core_task.Hands.{Hand}
+use Rattle.hwp_threads.specs.hwp_core_rule.Boards.{Played}
+use Rattle.hwp_threads.specs.hwp_core_rule.Hands.{Hand}
 use Rattle.hwp_threads.specs.Parts.{Own}
 use Rattle.hwp_top_turns.specs.hwp_script_read.declared.Script.{Script}
 use Rattle.hwp_top_turns.specs.hwp_script_read.Valid.{IsValid}

@@ -17,8 +17,8 @@ use Rattle.hwp_threads.proofs.of_hwp_core_rule.MoveKeeps.{holds-moved}
 use Rattle.hwp_threads.proofs.of_hwp_core_rule.BoardOpens.{opening-holds}
 use Rattle.hwp_threads.proofs.of_hwp_core_rule.WordsOpen.{below-at, length-below}
 use Rattle.hwp_threads.proofs.of_hwp_core_rule.StepKeeps.{keeps}
-use Rattle.hwp_threads.specs.hwp_core_task.Boards.{AreSeated, Played, view_of}
-use Rattle.hwp_threads.specs.hwp_core_task.Ranks.{Pending, words_at}
+use Rattle.hwp_threads.specs.hwp_core_rule.Boards.{AreSeated, Played, view_of}
+use Rattle.hwp_threads.specs.hwp_core_rule.Ranks.{Pending, words_at}
 use Rattle.hwp_threads.specs.Own.{IsTurn, Standing, Turned}
 use Rattle.hwp_threads.specs.Parts.{AreParts, IsClaim, Own, Stands, froms, tos}
 use Rattle.hwp_threads.proofs.FailureClaims.{back, stands-on, stands-settled}

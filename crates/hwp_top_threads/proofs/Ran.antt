@@ -14,7 +14,7 @@ use Rattle.hwp_threads.specs.hwp_core_rule.parts.Holdings.{HoldsNothing}
 use Rattle.hwp_threads.proofs.of_hwp_core_rule.Lists.{at_map, from_bool-same, map-was, term-le}
 use Rattle.hwp_threads.proofs.of_hwp_core_rule.WordsOpen.{below-at}
 use Rattle.std.specs.Int.{from_bool}
-use Rattle.hwp_threads.specs.hwp_core_task.Boards.{view_of}
+use Rattle.hwp_threads.specs.hwp_core_rule.Boards.{view_of}
 use Rattle.hwp_threads.specs.Own.{IsOwnRun, Standing, made_of}
 use Rattle.hwp_threads.specs.Parts.{Own}
 use Rattle.hwp_threads.specs.declared.Worker.{Worker}

@@ -9,8 +9,8 @@ use Rattle.hwp_threads.specs.hwp_core_rule.Moves.{Run}
 use Rattle.hwp_threads.specs.hwp_core_rule.Opening.{opening, opening_view}
 use Rattle.hwp_threads.specs.hwp_core_rule.Rule.{Holds}
 use Rattle.hwp_threads.specs.hwp_core_rule.parts.Holdings.{HoldsNothing}
-use Rattle.hwp_threads.specs.hwp_core_task.Boards.{Played}
-use Rattle.hwp_threads.specs.hwp_core_task.Ranks.{Pending, is_refused, words_at}
+use Rattle.hwp_threads.specs.hwp_core_rule.Boards.{Played}
+use Rattle.hwp_threads.specs.hwp_core_rule.Ranks.{Pending, is_refused, words_at}
 use Rattle.hwp_threads.specs.Own.{IsOwnRun, Turned, made_of}
 use Rattle.hwp_threads.specs.Parts.{AreParts, Own}
 use Rattle.hwp_top_turns.specs.hwp_script_read.declared.Script.{Script}

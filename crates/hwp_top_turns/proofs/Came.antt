@@ -5,7 +5,7 @@ use Rattle.hwp_table_words.specs.hwp_page.declared.Entry.{Entry}
 use Rattle.hwp_table_words.specs.hwp_core_rule.declared.State.{State}
 use Rattle.hwp_table_words.specs.hwp_core_rule.Lists.{EachMember, Homes}
 use Rattle.hwp_table_words.specs.hwp_core_rule.parts.Holdings.{HoldsNothing}
-use Rattle.hwp_table_words.specs.hwp_core_task.Boards.{Played}
+use Rattle.hwp_table_words.specs.hwp_core_rule.Boards.{Played}
 use Rattle.hwp_table_words.specs.hwp_plain_words.Openings.{home_with}
 use Rattle.hwp_table_words.specs.hwp_plain_words.Ends.{AreHistories}
 use Rattle.hwp_plain.specs.hwp_script_read.declared.Command.{Command}

@@ -17,7 +17,7 @@ use Rattle.hwp_top_report.specs.hwp_severity.declared.Severity.TheVariants as se
 use Rattle.hwp_table_words.specs.hwp_core_rule.declared.State.{State}
 use Rattle.hwp_table_words.specs.hwp_core_rule.declared.View.{View}
 use Rattle.hwp_table_words.specs.hwp_core_rule.Rule.{Holds}
-use Rattle.hwp_table_words.specs.hwp_core_task.Boards.{AreSeated, view_of}
+use Rattle.hwp_table_words.specs.hwp_core_rule.Boards.{AreSeated, view_of}
 use Rattle.hwp_plain.specs.hwp_script_read.declared.Command.{Command}
 use Rattle.hwp_plain.specs.hwp_script_read.declared.Script.{Script}
 use Rattle.hwp_plain.specs.hwp_script_read.Valid.{IsValid}

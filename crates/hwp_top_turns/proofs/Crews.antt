@@ -9,9 +9,9 @@ use Rattle.hwp_table_words.specs.hwp_geom.declared.Layout.{Layout}
 use Rattle.hwp_table_words.specs.hwp_core_rule.declared.State.{State}
 use Rattle.hwp_table_words.specs.hwp_core_rule.Opening.{opening}
 use Rattle.hwp_table_words.specs.hwp_core_rule.Rule.{Holds}
-use Rattle.hwp_table_words.specs.hwp_core_task.declared.Turn.{Turn}
-use Rattle.hwp_table_words.specs.hwp_core_task.Boards.{AreSeated, Played, view_of}
-use Rattle.hwp_table_words.specs.hwp_core_task.Ranks.{Made}
+use Rattle.hwp_table_words.specs.hwp_core_rule.declared.Turn.{Turn}
+use Rattle.hwp_table_words.specs.hwp_core_rule.Boards.{AreSeated, Played, view_of}
+use Rattle.hwp_table_words.specs.hwp_core_rule.Ranks.{Made}
 use Rattle.hwp_plain.specs.hwp_script_read.declared.Command.{Command}
 use Rattle.hwp_plain.specs.hwp_script_read.declared.Script.{Script}
 use Rattle.hwp_plain.specs.hwp_script_read.Forks.{is_fork_of}

@@ -3,7 +3,7 @@ use Rattle.std.proofs.Common.{◌≡◌, List, sym, subst}
 use Rattle.hwp_table_words.specs.hwp_core_rule.declared.State.{State}
 use Rattle.hwp_table_words.specs.hwp_core_rule.Opening.{opening}
 use Rattle.hwp_table_words.specs.hwp_core_rule.Rule.{Holds}
-use Rattle.hwp_table_words.specs.hwp_core_task.Boards.{Played}
+use Rattle.hwp_table_words.specs.hwp_core_rule.Boards.{Played}
 use Rattle.hwp_plain.specs.hwp_script_read.declared.Command.{Command}
 use Rattle.hwp_plain.specs.hwp_script_read.declared.Script.{Script}
 use Rattle.hwp_top_report.proofs.of_hwp_law_run.TurnLeads.{leads-hold}

@@ -6,7 +6,7 @@ use Rattle.hwp_table_words.specs.hwp_geom.declared.Layout.{Layout}
 use Rattle.hwp_table_words.specs.hwp_core_rule.declared.State.{State}
 use Rattle.hwp_table_words.specs.hwp_core_rule.Opening.{opening}
 use Rattle.hwp_table_words.specs.hwp_core_rule.Rule.{Holds}
-use Rattle.hwp_table_words.specs.hwp_core_task.Boards.{AreSeated, Played}
+use Rattle.hwp_table_words.specs.hwp_core_rule.Boards.{AreSeated, Played}
 use Rattle.hwp_plain.specs.hwp_script_read.declared.Go.{Go}
 use Rattle.hwp_plain.specs.hwp_script_read.declared.Script.{Script}
 use Rattle.hwp_plain.specs.hwp_script_read.Valid.{IsValid}

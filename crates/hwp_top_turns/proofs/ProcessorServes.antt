@@ -7,8 +7,8 @@ use Rattle.hwp_table_words.specs.hwp_page.History.{BodyValue}
 use Rattle.hwp_table_words.specs.hwp_core_rule.declared.State.{State}
 use Rattle.hwp_table_words.specs.hwp_core_rule.Rule.{Holds}
 use Rattle.hwp_table_words.proofs.of_hwp_core_rule.Lists.{at_map}
-use Rattle.hwp_table_words.specs.hwp_core_task.declared.Turn.{Turn}
-use Rattle.hwp_table_words.specs.hwp_core_task.Boards.{AreSeated, view_of}
+use Rattle.hwp_table_words.specs.hwp_core_rule.declared.Turn.{Turn}
+use Rattle.hwp_table_words.specs.hwp_core_rule.Boards.{AreSeated, view_of}
 use Rattle.hwp_plain.specs.hwp_script_read.declared.Command.{Command}
 use Rattle.hwp_plain.specs.hwp_script_read.declared.Script.{Script}
 use Rattle.hwp_plain.specs.hwp_script_read.Valid.{IsValid}

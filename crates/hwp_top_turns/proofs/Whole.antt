@@ -11,7 +11,7 @@ use Rattle.hwp_top_report.specs.hwp_law.Law.{IsLawful}
 use Rattle.hwp_top_report.specs.hwp_law.Runs.{IsOfRun}
 use Rattle.hwp_table_words.specs.hwp_core_rule.declared.State.{State}
 use Rattle.hwp_table_words.specs.hwp_core_rule.Opening.{opening}
-use Rattle.hwp_table_words.specs.hwp_core_task.Boards.{Played}
+use Rattle.hwp_table_words.specs.hwp_core_rule.Boards.{Played}
 use Rattle.hwp_plain.specs.hwp_plain_order.Order.{logged}
 use Rattle.hwp_top_report.specs.hwp_law_run.Ends.{EndsWith}
 use Rattle.hwp_top_report.specs.hwp_law_run.Turns.{Leads}

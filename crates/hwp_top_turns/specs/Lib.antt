@@ -5,7 +5,6 @@ pub use Rattle.hwp_top_report.specs.hwp_claim_act as hwp_claim_act
 pub use Rattle.hwp_top_report.specs.hwp_claim_frame as hwp_claim_frame
 pub use Rattle.hwp_top_report.specs.hwp_core as hwp_core
 pub use Rattle.hwp_table_words.specs.hwp_core_rule as hwp_core_rule
-pub use Rattle.hwp_table_words.specs.hwp_core_task as hwp_core_task
 pub use Rattle.hwp_top_report.specs.hwp_cpu as hwp_cpu
 pub use Rattle.hwp_top_report.specs.hwp_cpu_access as hwp_cpu_access
 pub use Rattle.hwp_top_report.specs.hwp_cpu_check as hwp_cpu_check

@@ -6,9 +6,9 @@ use Rattle.hwp_table_words.specs.hwp_geom.declared.Layout.{Layout}
 use Rattle.hwp_table_words.specs.hwp_core_rule.declared.State.{State}
 use Rattle.hwp_table_words.specs.hwp_core_rule.Opening.{opening}
 use Rattle.hwp_table_words.specs.hwp_core_rule.Rule.{Holds}
-use Rattle.hwp_table_words.specs.hwp_core_task.Boards.{AreSeated, Played}
-use Rattle.hwp_table_words.specs.hwp_core_task.Ranks.{Pending, words_at}
-use Rattle.hwp_table_words.specs.hwp_core_task.Turns.{Member}
+use Rattle.hwp_table_words.specs.hwp_core_rule.Boards.{AreSeated, Played}
+use Rattle.hwp_table_words.specs.hwp_core_rule.Ranks.{Pending, words_at}
+use Rattle.hwp_table_words.specs.hwp_core_rule.Turns.{Member}
 use Rattle.hwp_table_words.specs.hwp_plain_words.Openings.{home_with}
 use Rattle.hwp_table_words.specs.Ends.{EndValue, HasAll}
 use Rattle.hwp_table_words.specs.Known.{Known}

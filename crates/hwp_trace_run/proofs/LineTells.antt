@@ -14,10 +14,10 @@ use Rattle.hwp_top_turns.specs.hwp_core_rule.Moves.{Move}
 use Rattle.hwp_top_turns.specs.hwp_core_rule.Steps.{kind_of, place_of, word_after}
 use Rattle.hwp_top_turns.specs.hwp_core_rule.Words.{IsPlace, index, read, size, words_of}
 use Rattle.hwp_top_turns.proofs.of_hwp_core_rule.WordsByKind.{index-within, words-read}
-use Rattle.hwp_top_turns.specs.hwp_core_task.declared.Turn.{Turn}
-use Rattle.hwp_top_turns.specs.hwp_core_task.Boards.{Played, TakesTurn, TakesTurnBy}
-use Rattle.hwp_top_turns.specs.hwp_core_task.Calls.{logs, rec_of}
-use Rattle.hwp_top_turns.specs.hwp_core_task.Turns.{Member}
+use Rattle.hwp_top_turns.specs.hwp_core_rule.declared.Turn.{Turn}
+use Rattle.hwp_top_turns.specs.hwp_core_rule.Boards.{Played, TakesTurn, TakesTurnBy}
+use Rattle.hwp_top_turns.specs.hwp_core_rule.Calls.{logs, rec_of}
+use Rattle.hwp_top_turns.specs.hwp_core_rule.Turns.{Member}
 use Rattle.hwp_trace_run.specs.declared.line.TraceLine.{TraceLine}
 use Rattle.hwp_trace_run.specs.declared.notes.Sight.{Sight}
 use Rattle.hwp_trace_run.specs.Notes.{Notes, Sees, SeesStep, line_now, line_seen}

@@ -1,7 +1,7 @@
 -- The lines of a log that grew, turn by turn.
 use Rattle.std.proofs.Common.{◌≡◌, List, [], ◌∷◌, ◌++◌, sym, ap, ◌∙◌, subst, append_assoc, append-nil}
 use Rattle.hwp_top_turns.specs.hwp_geom.Pairs.{Pairs}
-use Rattle.hwp_top_turns.specs.hwp_core_task.Boards.{Played}
+use Rattle.hwp_top_turns.specs.hwp_core_rule.Boards.{Played}
 use Rattle.hwp_top_turns.specs.hwp_plain.Boards.{Board}
 use Rattle.hwp_top_turns.specs.hwp_script_read.declared.Script.{Script}
 use Rattle.hwp_top_turns.specs.hwp_plain_order.Order.{logged}

@@ -7,7 +7,7 @@ use Rattle.hwp_top_turns.specs.hwp_core_rule.declared.State.{State}
 use Rattle.hwp_top_turns.specs.hwp_core_rule.declared.Step.{Step}
 use Rattle.hwp_top_turns.specs.hwp_core_rule.Steps.{place_of}
 use Rattle.hwp_top_turns.specs.hwp_core_rule.Words.{IsPlace, read, words_of}
-use Rattle.hwp_top_turns.specs.hwp_core_task.declared.Turn.{Turn}
+use Rattle.hwp_top_turns.specs.hwp_core_rule.declared.Turn.{Turn}
 use Rattle.hwp_trace_run.specs.declared.line.TraceLine.{TraceLine}
 use Rattle.hwp_trace_run.specs.declared.notes.Sight.{Sight}
 

@@ -20,8 +20,8 @@ use Rattle.hwp_top_turns.specs.hwp_words.declared.Pte.TheVariants as ptes
 use Rattle.hwp_top_turns.specs.hwp_words.declared.StopWord.{StopWord}
 use Rattle.hwp_top_turns.specs.hwp_core_rule.declared.SharedWord.{SharedWord}
 use Rattle.hwp_top_turns.specs.hwp_core_rule.declared.SharedWord.TheVariants as places
-use Rattle.hwp_top_turns.specs.hwp_core_task.declared.Turn.{Turn}
-use Rattle.hwp_top_turns.specs.hwp_core_task.declared.Turn.TheVariants as turns
+use Rattle.hwp_top_turns.specs.hwp_core_rule.declared.Turn.{Turn}
+use Rattle.hwp_top_turns.specs.hwp_core_rule.declared.Turn.TheVariants as turns
 use Rattle.hwp_top_turns.specs.hwp_script_lines.Kinds.{kind_text}
 use Rattle.hwp_top_turns.specs.hwp_report_text.Terms.{policy_word}
 use Rattle.hwp_trace_run.specs.declared.line.TraceLine.{TraceLine}

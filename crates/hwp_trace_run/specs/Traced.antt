@@ -1,7 +1,7 @@
 -- What the lines of a board tell of its moves.
 use Rattle.std.specs.Prelude.{◌≡◌, List, [], ◌∷◌, ◌++◌, Option, Some}
 use Rattle.hwp_top_turns.specs.hwp_core_rule.Steps.{kind_of, place_of, word_after}
-use Rattle.hwp_top_turns.specs.hwp_core_task.Boards.{Played}
+use Rattle.hwp_top_turns.specs.hwp_core_rule.Boards.{Played}
 use Rattle.hwp_top_turns.specs.hwp_plain.Boards.{Board}
 use Rattle.hwp_trace_run.specs.declared.line.TraceLine.{TraceLine}
 

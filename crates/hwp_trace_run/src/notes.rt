@@ -1,6 +1,6 @@
 ghost use Rattle.std.specs.Prelude.{◌≡◌, IfSome, length};
 ghost use Rattle.hwp_top_turns.specs.hwp_geom.Layout.{IsSound};
-ghost use Rattle.hwp_top_turns.specs.hwp_core_task.Boards.{view_of};
+ghost use Rattle.hwp_top_turns.specs.hwp_core_rule.Boards.{view_of};
 ghost use Rattle.hwp_trace_run.specs.Notes.{Notes, Sees, line_seen};
 ghost use Rattle.hwp_top_turns.specs.hwp_core_rule.Words.{IsPlace, read, size, words_of};
 

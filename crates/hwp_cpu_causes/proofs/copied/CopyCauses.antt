@@ -20,8 +20,8 @@ use Rattle.hwp_law_served.specs.hwp_core_rule.declared.View.{View}
 use Rattle.hwp_law_served.specs.hwp_core_rule.Lists.{EachMember, SomeMember}
 use Rattle.hwp_law_served.proofs.of_hwp_core_rule.Lists.{each-weaken}
 use Rattle.hwp_law_served.proofs.of_hwp_core_rule.MoreEntries.{each-append}
-use Rattle.hwp_law_served.specs.hwp_core_task.Known.{HasOnlyBeside, IsAt, Precedes, Saw, SawStop, deeds}
-use Rattle.hwp_law_served.specs.hwp_core_task.Pages.{SawState}
+use Rattle.hwp_law_served.specs.hwp_core_rule.Known.{HasOnlyBeside, IsAt, Precedes, Saw, SawStop, deeds}
+use Rattle.hwp_law_served.specs.hwp_core_rule.Pages.{SawState}
 use Rattle.hwp_law_served.specs.hwp_script_lines.declared.Command.{Command}
 use Rattle.hwp_law_served.specs.hwp_script_lines.declared.Command.TheVariants as commands
 use Rattle.hwp_law_served.specs.hwp_report_text.declared.Answer.{Answer}

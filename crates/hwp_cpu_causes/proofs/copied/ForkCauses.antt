@@ -13,7 +13,7 @@ use Rattle.hwp_law_served.specs.hwp_kill.declared.Policy.TheVariants as policy_n
 use Rattle.hwp_law_served.specs.hwp_core_rule.declared.SharedWord.TheVariants as places
 use Rattle.hwp_law_served.specs.hwp_core_rule.declared.View.{View}
 use Rattle.hwp_law_served.specs.hwp_core_rule.parts.Policies.{settings_of}
-use Rattle.hwp_law_served.specs.hwp_core_task.Known.{Saw}
+use Rattle.hwp_law_served.specs.hwp_core_rule.Known.{Saw}
 use Rattle.hwp_law_served.specs.hwp_script_lines.declared.Command.{Command}
 use Rattle.hwp_law_served.specs.hwp_script_lines.declared.Command.TheVariants as commands
 use Rattle.hwp_law_served.specs.hwp_report_text.declared.Answer.{Answer}

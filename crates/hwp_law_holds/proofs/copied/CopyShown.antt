@@ -15,7 +15,7 @@ use Rattle.hwp_law_served.specs.hwp_core_rule.declared.Log.{Log}
 use Rattle.hwp_law_served.specs.hwp_core_rule.declared.SharedWord.TheVariants as places
 use Rattle.hwp_law_served.specs.hwp_core_rule.declared.State.{State}
 use Rattle.hwp_law_served.specs.hwp_core_rule.Logs.{state_of}
-use Rattle.hwp_law_served.specs.hwp_core_task.Boards.{Played, view_of}
+use Rattle.hwp_law_served.specs.hwp_core_rule.Boards.{Played, view_of}
 use Rattle.hwp_law_served.specs.hwp_script_read.declared.Command.{Command}
 use Rattle.hwp_law_served.specs.hwp_script_read.declared.Command.TheVariants as commands
 use Rattle.hwp_law_served.specs.hwp_script_read.declared.Script.{Script}

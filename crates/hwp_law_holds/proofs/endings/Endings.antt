@@ -17,8 +17,8 @@ use Rattle.hwp_law_served.specs.hwp_core_rule.declared.SharedWord.TheVariants as
 use Rattle.hwp_law_served.specs.hwp_core_rule.declared.State.{State}
 use Rattle.hwp_law_served.specs.hwp_core_rule.declared.View.{View}
 use Rattle.hwp_law_served.specs.hwp_core_rule.Lists.{EachMember}
-use Rattle.hwp_law_served.specs.hwp_core_task.Boards.{Played, view_of}
-use Rattle.hwp_law_served.specs.hwp_core_task.Known.{Saw}
+use Rattle.hwp_law_served.specs.hwp_core_rule.Boards.{Played, view_of}
+use Rattle.hwp_law_served.specs.hwp_core_rule.Known.{Saw}
 use Rattle.hwp_law_served.specs.hwp_script_read.declared.Command.{Command}
 use Rattle.hwp_law_served.specs.hwp_script_read.declared.Command.TheVariants as commands
 use Rattle.hwp_law_served.specs.hwp_script_read.declared.Script.{Script}

@@ -16,8 +16,8 @@ use Rattle.hwp_law_served.specs.hwp_core_rule.declared.State.{State}
 use Rattle.hwp_law_served.specs.hwp_core_rule.declared.View.{View}
 use Rattle.hwp_law_served.proofs.of_hwp_core_rule.Lists.{at_map, map-was, each-set}
 use Rattle.hwp_law_served.specs.hwp_core_rule.Steps.{damage_place}
-use Rattle.hwp_law_served.specs.hwp_core_task.Boards.{view_of}
-use Rattle.hwp_law_served.specs.hwp_core_task.Known.{Saw}
+use Rattle.hwp_law_served.specs.hwp_core_rule.Boards.{view_of}
+use Rattle.hwp_law_served.specs.hwp_core_rule.Known.{Saw}
 use Rattle.hwp_law_served.specs.hwp_script_read.declared.Command.{Command}
 use Rattle.hwp_law_served.specs.hwp_script_read.declared.Command.TheVariants as commands
 use Rattle.hwp_law_served.specs.hwp_script_read.declared.Script.{Script}

@@ -25,8 +25,8 @@ use Rattle.hwp_law_served.specs.hwp_core_rule.declared.View.{View}
 use Rattle.hwp_law_served.specs.hwp_core_rule.Lists.{EachMember}
 use Rattle.hwp_law_served.specs.hwp_core_rule.Words.{sum_below}
 use Rattle.hwp_law_served.proofs.of_hwp_core_rule.Lists.{sum-zero}
-use Rattle.hwp_law_served.specs.hwp_core_task.Boards.{view_of}
-use Rattle.hwp_law_served.specs.hwp_core_task.Known.{deeds, is_by}
+use Rattle.hwp_law_served.specs.hwp_core_rule.Boards.{view_of}
+use Rattle.hwp_law_served.specs.hwp_core_rule.Known.{deeds, is_by}
 use Rattle.hwp_law_served.specs.hwp_claim_act.declared.Failed.{Failed}
 use Rattle.hwp_law_served.specs.hwp_claim_act.Abandoned as abandoned
 use Rattle.hwp_law_served.specs.hwp_claim.Fails.{IsPageless}

@@ -15,7 +15,7 @@ use Rattle.hwp_law_served.specs.hwp_core_rule.declared.State.{State}
 use Rattle.hwp_law_served.specs.hwp_core_rule.declared.View.{View}
 use Rattle.hwp_law_served.specs.hwp_core_rule.Lists.{EachMember}
 use Rattle.hwp_law_served.proofs.of_hwp_core_rule.Lists.{at_last, at_longer, at_map}
-use Rattle.hwp_law_served.specs.hwp_core_task.Boards.{view_of}
+use Rattle.hwp_law_served.specs.hwp_core_rule.Boards.{view_of}
 use Rattle.hwp_law_served.specs.hwp_claim_frame.Claims.{is_own}
 use Rattle.hwp_law_served.specs.hwp_claim_frame.Done.{Marking}
 use Rattle.hwp_law_served.specs.hwp_script_read.declared.Command.{Command}

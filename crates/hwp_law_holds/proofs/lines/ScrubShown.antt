@@ -14,8 +14,8 @@ use Rattle.hwp_law_served.specs.hwp_core_rule.Lists.{EachMember, SomeMember}
 use Rattle.hwp_law_served.specs.hwp_core_rule.Steps.{damage_place}
 use Rattle.hwp_law_served.proofs.of_hwp_core_rule.Lists.{at_map, each-weaken, map-was}
 use Rattle.hwp_law_served.proofs.of_hwp_core_rule.MoreEntries.{each-append}
-use Rattle.hwp_law_served.specs.hwp_core_task.Boards.{Played}
-use Rattle.hwp_law_served.specs.hwp_core_task.Known.{Saw}
+use Rattle.hwp_law_served.specs.hwp_core_rule.Boards.{Played}
+use Rattle.hwp_law_served.specs.hwp_core_rule.Known.{Saw}
 use Rattle.hwp_law_served.specs.hwp_script_read.declared.Script.{Script}
 use Rattle.hwp_law_served.specs.hwp_report_text.declared.Answer.{Answer}
 use Rattle.hwp_law_served.specs.hwp_report_text.declared.Answer.TheVariants as answers

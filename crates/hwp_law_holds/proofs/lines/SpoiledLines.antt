@@ -23,8 +23,8 @@ use Rattle.hwp_law_served.specs.hwp_core_rule.Words.{IsPlace, Words, words_of}
 use Rattle.hwp_law_served.specs.hwp_core_rule.parts.Damage.{is_bad, is_spoil}
 use Rattle.hwp_law_served.proofs.of_hwp_core_rule.CountsBelow.{some-term}
 use Rattle.hwp_law_served.proofs.of_hwp_core_rule.Lists.{at_map, map-was}
-use Rattle.hwp_law_served.specs.hwp_core_task.Boards.{view_of}
-use Rattle.hwp_law_served.specs.hwp_core_task.Known.{Saw}
+use Rattle.hwp_law_served.specs.hwp_core_rule.Boards.{view_of}
+use Rattle.hwp_law_served.specs.hwp_core_rule.Known.{Saw}
 use Rattle.hwp_law_served.specs.hwp_script_read.declared.Command.{Command}
 use Rattle.hwp_law_served.specs.hwp_script_read.declared.Script.{Script}
 use Rattle.hwp_law_served.specs.hwp_report_text.declared.Answer.TheVariants as answers

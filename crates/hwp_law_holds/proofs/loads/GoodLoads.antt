@@ -20,8 +20,8 @@ use Rattle.hwp_law_served.specs.hwp_core_rule.Opening.{opening}
 use Rattle.hwp_law_served.specs.hwp_core_rule.Rule.{Holds}
 use Rattle.hwp_law_served.specs.hwp_core_rule.parts.Holdings.{HoldsNothing}
 use Rattle.hwp_law_served.proofs.of_hwp_core_rule.Lists.{each-weaken}
-use Rattle.hwp_law_served.specs.hwp_core_task.Boards.{Played}
-use Rattle.hwp_law_served.specs.hwp_core_task.Turns.{Member}
+use Rattle.hwp_law_served.specs.hwp_core_rule.Boards.{Played}
+use Rattle.hwp_law_served.specs.hwp_core_rule.Turns.{Member}
 use Rattle.hwp_law_served.specs.hwp_script_read.declared.Script.{Script}
 use Rattle.hwp_law_served.specs.hwp_report_text.declared.Report.{Report}
 use Rattle.hwp_law_served.specs.hwp_law.PageHistory.{IsHistory}

@@ -34,7 +34,7 @@ use Rattle.hwp_law_served.proofs.of_hwp_core_rule.AsksNoted.{asks-noted}
 use Rattle.hwp_law_served.proofs.of_hwp_core_rule.Lists.{at_last, at_push, each-map, each-set, each-weaken}
 use Rattle.hwp_law_served.proofs.of_hwp_core_rule.MoreEntries.{each-append}
 use Rattle.hwp_law_served.proofs.of_hwp_core_rule.ListDrops.{find-is}
-use Rattle.hwp_law_served.specs.hwp_core_task.Boards.{Played}
+use Rattle.hwp_law_served.specs.hwp_core_rule.Boards.{Played}
 use Rattle.hwp_law_served.specs.hwp_law_run.Turns.{Leads}
 use Rattle.hwp_law_served.proofs.of_hwp_law_run.StepAdds.{Adds, AddsMade, adds}
 use Rattle.hwp_law_served.proofs.of_hwp_law_run.TurnLeads.{leads-on}

@@ -23,8 +23,8 @@ use Rattle.hwp_law_served.specs.hwp_core_rule.Rule.{count_debts_of}
 use Rattle.hwp_law_served.specs.hwp_core_rule.Words.{words_of}
 use Rattle.hwp_law_served.specs.hwp_core_rule.parts.Counter.{CountDebts, is_by_hardware as is_by_bank, is_revival}
 use Rattle.hwp_law_served.proofs.of_hwp_core_rule.Lists.{at_map, map-was, same-or}
-use Rattle.hwp_law_served.specs.hwp_core_task.Boards.{view_of}
-use Rattle.hwp_law_served.specs.hwp_core_task.Known.{Saw}
+use Rattle.hwp_law_served.specs.hwp_core_rule.Boards.{view_of}
+use Rattle.hwp_law_served.specs.hwp_core_rule.Known.{Saw}
 use Rattle.hwp_law_served.specs.hwp_script_read.declared.Script.{Script}
 use Rattle.hwp_law_served.specs.hwp_report_text.declared.FrameLine.{FrameLine}
 use Rattle.hwp_law_served.specs.hwp_report_text.declared.How.TheVariants as hows

@@ -16,7 +16,7 @@ use Rattle.hwp_law_run.specs.hwp_core_rule.declared.Made.{Made}
 use Rattle.hwp_law_run.specs.hwp_core_rule.declared.View.{View}
 use Rattle.hwp_law_run.specs.hwp_core_rule.Lists.{EachMember}
 use Rattle.hwp_law_run.proofs.of_hwp_core_rule.MoreEntries.{each-append}
-use Rattle.hwp_law_run.specs.hwp_core_task.Known.{IsOnTheWay, deeds, is_failure}
+use Rattle.hwp_law_run.specs.hwp_core_rule.Known.{IsOnTheWay, deeds, is_failure}
 use Rattle.hwp_law_run.specs.hwp_law.Copies.{is_load, is_store}
 use Rattle.hwp_cpu_row.specs.hwp_cpu_check.Checks.{left_by}
 use Rattle.hwp_cpu_copy.specs.hwp_fault.declared.Request.{Request}

@@ -19,7 +19,7 @@ use Rattle.hwp_law_run.specs.hwp_core_rule.declared.View.{View}
 use Rattle.hwp_law_run.specs.hwp_core_rule.Lists.{EachMember}
 use Rattle.hwp_law_run.proofs.of_hwp_core_rule.Lists.{each-push}
 use Rattle.hwp_law_run.proofs.of_hwp_core_rule.MoreEntries.{each-append}
-use Rattle.hwp_law_run.specs.hwp_core_task.Known.{IsAt, IsOnTheWay, deeds, is_failure}
+use Rattle.hwp_law_run.specs.hwp_core_rule.Known.{IsAt, IsOnTheWay, deeds, is_failure}
 use Rattle.hwp_law_run.specs.hwp_script_read.declared.Command.{Command}
 use Rattle.hwp_law_run.specs.hwp_script_read.declared.Command.TheVariants as commands
 use Rattle.hwp_law_run.specs.hwp_report_text.declared.Answer.{Answer}

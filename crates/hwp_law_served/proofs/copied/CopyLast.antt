@@ -12,8 +12,8 @@ use Rattle.hwp_law_run.specs.hwp_page.declared.What.TheVariants as entries
 use Rattle.hwp_law_run.specs.hwp_core_rule.declared.Made.{Made}
 use Rattle.hwp_law_run.specs.hwp_core_rule.declared.State.{State}
 use Rattle.hwp_law_run.specs.hwp_core_rule.declared.View.{View}
-use Rattle.hwp_law_run.specs.hwp_core_task.Boards.{view_of}
-use Rattle.hwp_law_run.specs.hwp_core_task.Known.{deeds, is_by}
+use Rattle.hwp_law_run.specs.hwp_core_rule.Boards.{view_of}
+use Rattle.hwp_law_run.specs.hwp_core_rule.Known.{deeds, is_by}
 use Rattle.hwp_law_run.specs.hwp_script_read.declared.Command.{Command}
 use Rattle.hwp_law_run.specs.hwp_script_read.declared.Command.TheVariants as commands
 use Rattle.hwp_law_run.specs.hwp_script_read.declared.Script.{Script}

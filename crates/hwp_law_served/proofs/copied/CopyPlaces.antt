@@ -12,7 +12,7 @@ use Rattle.hwp_law_run.specs.hwp_page.declared.At.{At}
 use Rattle.hwp_law_run.specs.hwp_core_rule.declared.Made.{Made}
 use Rattle.hwp_law_run.specs.hwp_core_rule.declared.View.{View}
 use Rattle.hwp_law_run.proofs.of_hwp_core_rule.Lists.{at_last, at_longer}
-use Rattle.hwp_law_run.specs.hwp_core_task.Known.{deeds}
+use Rattle.hwp_law_run.specs.hwp_core_rule.Known.{deeds}
 use Rattle.hwp_law_run.specs.hwp_script_read.declared.Command.{Command}
 use Rattle.hwp_law_run.specs.hwp_script_read.declared.Command.TheVariants as commands
 use Rattle.hwp_law_run.specs.hwp_report_text.declared.Answer.{Answer}

@@ -17,8 +17,8 @@ use Rattle.hwp_law_run.specs.hwp_page.Step.{IsOf}
 use Rattle.hwp_law_run.specs.hwp_core_rule.declared.Made.{Made}
 use Rattle.hwp_law_run.specs.hwp_core_rule.declared.State.{State}
 use Rattle.hwp_law_run.specs.hwp_core_rule.declared.View.{View}
-use Rattle.hwp_law_run.specs.hwp_core_task.Boards.{view_of}
-use Rattle.hwp_law_run.specs.hwp_core_task.Known.{deeds, is_by}
+use Rattle.hwp_law_run.specs.hwp_core_rule.Boards.{view_of}
+use Rattle.hwp_law_run.specs.hwp_core_rule.Known.{deeds, is_by}
 use Rattle.hwp_law_run.specs.hwp_script_read.declared.Script.{Script}
 use Rattle.hwp_law_run.specs.hwp_report_text.declared.Report.{Report}
 use Rattle.hwp_law_run.specs.hwp_law.Copies.{own_in}

@@ -8,7 +8,7 @@ use Rattle.hwp_law_run.specs.hwp_geom.declared.VSlot.{VSlot}
 use Rattle.hwp_law_run.specs.hwp_geom.declared.Who.{Who}
 use Rattle.hwp_law_run.specs.hwp_core_rule.declared.State.{State}
 use Rattle.hwp_law_run.specs.hwp_core_rule.declared.View.{View}
-use Rattle.hwp_law_run.specs.hwp_core_task.Boards.{view_of}
+use Rattle.hwp_law_run.specs.hwp_core_rule.Boards.{view_of}
 use Rattle.hwp_law_run.specs.hwp_script_read.declared.Command.{Command}
 use Rattle.hwp_law_run.specs.hwp_script_read.declared.Command.TheVariants as commands
 use Rattle.hwp_law_run.specs.hwp_script_read.declared.Script.{Script}

@@ -12,7 +12,7 @@ use Rattle.hwp_law_run.specs.hwp_core_rule.declared.View.{View}
 use Rattle.hwp_law_run.specs.hwp_core_rule.Lists.{EachMember}
 use Rattle.hwp_law_run.proofs.of_hwp_core_rule.Lists.{each-push}
 use Rattle.hwp_law_run.proofs.of_hwp_core_rule.MoreEntries.{each-append}
-use Rattle.hwp_law_run.specs.hwp_core_task.Known.{IsAt}
+use Rattle.hwp_law_run.specs.hwp_core_rule.Known.{IsAt}
 use Rattle.hwp_cpu_row.specs.hwp_cpu_check.Checks.{left_by}
 use Rattle.hwp_cpu_copy.specs.hwp_fault.declared.Request.{Request}
 use Rattle.hwp_cpu_copy.specs.hwp_fault.Accesses.{what_of}

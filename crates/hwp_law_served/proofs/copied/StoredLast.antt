@@ -13,7 +13,7 @@ use Rattle.hwp_law_run.specs.hwp_page.declared.What.TheVariants as entries
 use Rattle.hwp_law_run.specs.hwp_core_rule.declared.Made.{Made}
 use Rattle.hwp_law_run.specs.hwp_core_rule.declared.View.{View}
 use Rattle.hwp_law_run.specs.hwp_core_rule.Lists.{EachMember}
-use Rattle.hwp_law_run.specs.hwp_core_task.Known.{IsAt, deeds}
+use Rattle.hwp_law_run.specs.hwp_core_rule.Known.{IsAt, deeds}
 use Rattle.hwp_cpu_row.specs.hwp_cpu_check.declared.EventOutcome.{EventOutcome}
 use Rattle.hwp_cpu_row.specs.hwp_cpu_check.Checks.{left_by}
 use Rattle.hwp_cpu_copy.specs.hwp_fault.declared.Request.{Request}

@@ -10,7 +10,7 @@ use Rattle.hwp_law_run.specs.hwp_core_rule.declared.Made.{Made}
 use Rattle.hwp_law_run.specs.hwp_core_rule.declared.View.{View}
 use Rattle.hwp_law_run.specs.hwp_core_rule.Lists.{EachMember}
 use Rattle.hwp_law_run.proofs.of_hwp_core_rule.Lists.{at_map}
-use Rattle.hwp_law_run.specs.hwp_core_task.Known.{deeds}
+use Rattle.hwp_law_run.specs.hwp_core_rule.Known.{deeds}
 use Rattle.hwp_law_run.specs.hwp_script_read.declared.Command.{Command}
 use Rattle.hwp_law_run.specs.hwp_law.Pairings.{is_soft}
 use Rattle.hwp_cpu_row.specs.declared.Offlining.{Offlining}

@@ -16,7 +16,7 @@ use Rattle.hwp_law_run.specs.hwp_core_rule.declared.Made.{Made}
 use Rattle.hwp_law_run.specs.hwp_core_rule.declared.View.{View}
 use Rattle.hwp_law_run.specs.hwp_core_rule.Lists.{EachMember}
 use Rattle.hwp_law_run.proofs.of_hwp_core_rule.Lists.{at_longer, each-push}
-use Rattle.hwp_law_run.specs.hwp_core_task.Known.{HasMade, HasMadeNone, HasOnly, IsAt, IsOnTheWay, deeds, is_failure}
+use Rattle.hwp_law_run.specs.hwp_core_rule.Known.{HasMade, HasMadeNone, HasOnly, IsAt, IsOnTheWay, deeds, is_failure}
 use Rattle.hwp_law_run.specs.hwp_script_read.declared.Command.{Command}
 use Rattle.hwp_law_run.specs.hwp_script_read.declared.Command.TheVariants as commands
 use Rattle.hwp_law_run.specs.hwp_report_text.declared.Answer.{Answer}

@@ -12,7 +12,7 @@ use Rattle.hwp_law_run.specs.hwp_core_rule.declared.Made.{Made}
 use Rattle.hwp_law_run.specs.hwp_core_rule.declared.View.{View}
 use Rattle.hwp_law_run.specs.hwp_core_rule.Lists.{EachMember}
 use Rattle.hwp_law_run.proofs.of_hwp_core_rule.MoreEntries.{each-append}
-use Rattle.hwp_law_run.specs.hwp_core_task.Known.{deeds}
+use Rattle.hwp_law_run.specs.hwp_core_rule.Known.{deeds}
 use Rattle.hwp_soft.specs.hwp_claim_act.declared.Failed.{Failed}
 use Rattle.hwp_soft.specs.hwp_claim_act.Abandoned.{failed_of}
 use Rattle.hwp_soft.specs.hwp_claim_act.Abandoned as abandoned

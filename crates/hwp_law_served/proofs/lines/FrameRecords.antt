@@ -23,7 +23,7 @@ use Rattle.hwp_law_run.specs.hwp_core_rule.Words.{sum_below, words_of}
 use Rattle.hwp_law_run.specs.hwp_core_rule.parts.Counter.{is_revival}
 use Rattle.hwp_law_run.proofs.of_hwp_core_rule.CountsBelow.{below-swap}
 use Rattle.hwp_law_run.proofs.of_hwp_core_rule.Lists.{same-or, sum-map, sum-zero, terms-le}
-use Rattle.hwp_law_run.specs.hwp_core_task.Boards.{AreSeated, view_of}
+use Rattle.hwp_law_run.specs.hwp_core_rule.Boards.{AreSeated, view_of}
 use Rattle.hwp_law_run.specs.hwp_report_text.declared.MarkLine.{MarkLine}
 use Rattle.hwp_law_served.specs.Accounts.{IsLineOf, IsNote}
 use Rattle.hwp_law_served.specs.Rows.{Note, lines_of, record_of}

@@ -18,7 +18,7 @@ use Rattle.hwp_law_run.specs.hwp_core_rule.Words.{Words, put, words_of}
 use Rattle.hwp_law_run.proofs.of_hwp_core_rule.Lists.{each-set}
 use Rattle.hwp_law_run.proofs.of_hwp_core_rule.WordsOpen.{opening-bads, opening-weaks}
 use Rattle.hwp_law_run.proofs.of_hwp_core_rule.WordsByKind.{words-put}
-use Rattle.hwp_law_run.specs.hwp_core_task.Boards.{Played}
+use Rattle.hwp_law_run.specs.hwp_core_rule.Boards.{Played}
 use Rattle.hwp_law_run.specs.Turns.{Leads}
 
 -- the words of bad and of weak lines have no bit but those of lines

@@ -17,7 +17,7 @@ use Rattle.hwp_law_run.specs.hwp_page.Situations.{outcome_of}
 use Rattle.hwp_law_run.specs.hwp_core_rule.declared.State.{State}
 use Rattle.hwp_law_run.specs.hwp_core_rule.declared.View.{View}
 use Rattle.hwp_law_run.specs.hwp_core_rule.Lists.{EachMember}
-use Rattle.hwp_law_run.specs.hwp_core_task.Boards.{view_of}
+use Rattle.hwp_law_run.specs.hwp_core_rule.Boards.{view_of}
 use Rattle.hwp_soft.specs.hwp_claim_act.Abandoned.{IsOfPage}
 use Rattle.hwp_soft.specs.hwp_claim.Fails.{IsPageless}
 use Rattle.hwp_law_run.specs.hwp_script_read.declared.Command.{Command}

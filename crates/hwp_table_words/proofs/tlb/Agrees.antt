@@ -2,12 +2,12 @@
 use Rattle.std.proofs.Common.{◌≡◌, ℕ, ◌+◌, ◌*◌, ◌<◌, List, [], ◌∷◌, ◌++◌, inl, Some, None, set, length, slice_get, refl, sym, ap, ◌∙◌, arith}
 use Rattle.std.proofs.lemmas.List.{append_assoc}
 use Rattle.std.proofs.lemmas.Option.{none-some}
-use Rattle.hwp_core_task.specs.hwp_geom.declared.Layout.{Layout}
-use Rattle.hwp_core_task.specs.hwp_core_rule.declared.State.{State}
-use Rattle.hwp_core_task.specs.hwp_core_rule.declared.View.{View}
-use Rattle.hwp_core_task.specs.hwp_core_rule.Lists.{EachMember}
-use Rattle.hwp_core_task.specs.hwp_core_rule.Words.{words_of}
-use Rattle.hwp_core_task.proofs.of_hwp_core_rule.Lists.{each-set, each-push}
+use Rattle.hwp_core_rule.specs.hwp_geom.declared.Layout.{Layout}
+use Rattle.hwp_core_rule.specs.declared.State.{State}
+use Rattle.hwp_core_rule.specs.declared.View.{View}
+use Rattle.hwp_core_rule.specs.Lists.{EachMember}
+use Rattle.hwp_core_rule.specs.Words.{words_of}
+use Rattle.hwp_core_rule.proofs.Lists.{each-set, each-push}
 use Rattle.hwp_table_words.specs.tlb.Caching.{Caching, Counts, forgotten, idle_caching, joined_caching}
 use Rattle.hwp_table_words.specs.tlb.Rule.{CachesAgree, IsCleared, IsGlimpsed, IsShown, Knows, Seat, frames_of, locks_in, times}
 use Rattle.hwp_table_words.specs.tlb.Steps.{hit}

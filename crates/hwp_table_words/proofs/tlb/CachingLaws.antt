@@ -2,8 +2,8 @@
 use Rattle.std.proofs.Common.{◌≡◌, ◌≢◌, ℕ, zero, suc, ◌+◌, ◌≤◌, ◌==◌, Bool, true, false, not, cond, max, List, [], ◌∷◌, refl, sym, ap, ◌∙◌, subst, arith, ne_eqb}
 use Rattle.std.proofs.lemmas.Bool.{eqb-true}
 use Rattle.std.proofs.lemmas.Option.{none-some, same_Some}
-use Rattle.hwp_core_task.specs.hwp_core_rule.Lists.{EachMember}
-use Rattle.hwp_core_task.proofs.of_hwp_core_rule.Lists.{not-both, same-number}
+use Rattle.hwp_core_rule.specs.Lists.{EachMember}
+use Rattle.hwp_core_rule.proofs.Lists.{not-both, same-number}
 use Rattle.hwp_table_words.specs.tlb.Caching.{Caching, Cleared, idle_caching, joined_caching, upto_of, with_upto, without_frame}
 
 -- raised for its frame

@@ -6,26 +6,26 @@ use Rattle.std.proofs.lemmas.Bool.{lt-ltb}
 use Rattle.std.proofs.lemmas.List.{length-map}
 use Rattle.std.proofs.lemmas.Nat.{mod_below}
 use Rattle.std.proofs.lemmas.Option.{slice_get_within}
-use Rattle.hwp_core_task.specs.hwp_geom.declared.Frame.{Frame}
-use Rattle.hwp_core_task.specs.hwp_geom.declared.Layout.{Layout}
-use Rattle.hwp_core_task.specs.hwp_geom.declared.Page.{Page}
-use Rattle.hwp_core_task.specs.hwp_geom.declared.VSlot.{VSlot}
-use Rattle.hwp_core_task.specs.hwp_words.Frames.{lock_of}
-use Rattle.hwp_core_task.specs.hwp_core_rule.declared.FrameLock.{FrameLock}
-use Rattle.hwp_core_task.specs.hwp_core_rule.declared.PageLock.{PageLock}
-use Rattle.hwp_core_task.specs.hwp_core_rule.declared.Rec.{Rec}
-use Rattle.hwp_core_task.specs.hwp_core_rule.declared.Ref.{Ref}
-use Rattle.hwp_core_task.specs.hwp_core_rule.declared.SharedWord.TheVariants as places
-use Rattle.hwp_core_task.specs.hwp_core_rule.declared.State.{State}
-use Rattle.hwp_core_task.specs.hwp_core_rule.declared.Step.{Step}
-use Rattle.hwp_core_task.specs.hwp_core_rule.declared.Step.TheVariants as steps
-use Rattle.hwp_core_task.specs.hwp_core_rule.declared.View.{View}
-use Rattle.hwp_core_task.specs.hwp_core_rule.Rule.{Holds}
-use Rattle.hwp_core_task.specs.hwp_core_rule.Steps.{goes}
-use Rattle.hwp_core_task.specs.hwp_core_rule.Views.{locks_on, noted, view_after}
-use Rattle.hwp_core_task.specs.hwp_core_rule.Words.{words_of}
-use Rattle.hwp_core_task.proofs.of_hwp_core_rule.Lists.{at_map, same-or, term-le, from_bool-other}
-use Rattle.hwp_core_task.proofs.of_hwp_core_rule.MoveKeeps.{shaped}
+use Rattle.hwp_core_rule.specs.hwp_geom.declared.Frame.{Frame}
+use Rattle.hwp_core_rule.specs.hwp_geom.declared.Layout.{Layout}
+use Rattle.hwp_core_rule.specs.hwp_geom.declared.Page.{Page}
+use Rattle.hwp_core_rule.specs.hwp_geom.declared.VSlot.{VSlot}
+use Rattle.hwp_core_rule.specs.hwp_words.Frames.{lock_of}
+use Rattle.hwp_core_rule.specs.declared.FrameLock.{FrameLock}
+use Rattle.hwp_core_rule.specs.declared.PageLock.{PageLock}
+use Rattle.hwp_core_rule.specs.declared.Rec.{Rec}
+use Rattle.hwp_core_rule.specs.declared.Ref.{Ref}
+use Rattle.hwp_core_rule.specs.declared.SharedWord.TheVariants as places
+use Rattle.hwp_core_rule.specs.declared.State.{State}
+use Rattle.hwp_core_rule.specs.declared.Step.{Step}
+use Rattle.hwp_core_rule.specs.declared.Step.TheVariants as steps
+use Rattle.hwp_core_rule.specs.declared.View.{View}
+use Rattle.hwp_core_rule.specs.Rule.{Holds}
+use Rattle.hwp_core_rule.specs.Steps.{goes}
+use Rattle.hwp_core_rule.specs.Views.{locks_on, noted, view_after}
+use Rattle.hwp_core_rule.specs.Words.{words_of}
+use Rattle.hwp_core_rule.proofs.Lists.{at_map, same-or, term-le, from_bool-other}
+use Rattle.hwp_core_rule.proofs.MoveKeeps.{shaped}
 use Rattle.hwp_table_words.specs.tlb.Caching.{Caching, Cleared, upto_of, with_upto, without_frame}
 use Rattle.hwp_table_words.specs.tlb.Rule.{frames_of, times}
 use Rattle.hwp_table_words.specs.tlb.Steps.{IsGuarded, caching_after, cleared_after, shown_after}

@@ -2,22 +2,22 @@
 use Rattle.std.proofs.Common.{◌≡◌, ℕ, ◌==◌, Bool, true, false, cond, List, [], ◌∷◌, ◌++◌, map, refl, ap, ◌∙◌}
 use Rattle.std.specs.Prelude.{Option, Some, None}
 use Rattle.std.proofs.lemmas.List.{map-append}
-use Rattle.hwp_core_task.specs.hwp_geom.declared.Frame.{Frame}
-use Rattle.hwp_core_task.specs.hwp_geom.declared.Layout.{Layout}
-use Rattle.hwp_core_task.specs.hwp_geom.declared.Page.{Page}
-use Rattle.hwp_core_task.specs.hwp_geom.declared.Who.{Who}
-use Rattle.hwp_core_task.specs.hwp_core_rule.declared.FrameLock.{FrameLock}
-use Rattle.hwp_core_task.specs.hwp_core_rule.declared.InHand.{InHand}
-use Rattle.hwp_core_task.specs.hwp_core_rule.declared.Log.{Log}
-use Rattle.hwp_core_task.specs.hwp_core_rule.declared.PageLock.{PageLock}
-use Rattle.hwp_core_task.specs.hwp_core_rule.declared.SharedWord.{SharedWord}
-use Rattle.hwp_core_task.specs.hwp_core_rule.declared.SharedWord.TheVariants as places
-use Rattle.hwp_core_task.specs.hwp_core_rule.declared.Step.{Step}
-use Rattle.hwp_core_task.specs.hwp_core_rule.declared.Step.TheVariants as steps
-use Rattle.hwp_core_task.specs.hwp_core_rule.declared.View.{View}
-use Rattle.hwp_core_task.specs.hwp_core_rule.Steps.{goes}
-use Rattle.hwp_core_task.specs.hwp_core_rule.Views.{without, changed, is_lock_of, is_page_lock_of, loaded, taken, listed_of, put_home, body_of, view_by, lock_found, lock_of_page, poisoned}
-use Rattle.hwp_core_task.specs.hwp_core_rule.Logs.{log_of}
+use Rattle.hwp_core_rule.specs.hwp_geom.declared.Frame.{Frame}
+use Rattle.hwp_core_rule.specs.hwp_geom.declared.Layout.{Layout}
+use Rattle.hwp_core_rule.specs.hwp_geom.declared.Page.{Page}
+use Rattle.hwp_core_rule.specs.hwp_geom.declared.Who.{Who}
+use Rattle.hwp_core_rule.specs.declared.FrameLock.{FrameLock}
+use Rattle.hwp_core_rule.specs.declared.InHand.{InHand}
+use Rattle.hwp_core_rule.specs.declared.Log.{Log}
+use Rattle.hwp_core_rule.specs.declared.PageLock.{PageLock}
+use Rattle.hwp_core_rule.specs.declared.SharedWord.{SharedWord}
+use Rattle.hwp_core_rule.specs.declared.SharedWord.TheVariants as places
+use Rattle.hwp_core_rule.specs.declared.Step.{Step}
+use Rattle.hwp_core_rule.specs.declared.Step.TheVariants as steps
+use Rattle.hwp_core_rule.specs.declared.View.{View}
+use Rattle.hwp_core_rule.specs.Steps.{goes}
+use Rattle.hwp_core_rule.specs.Views.{without, changed, is_lock_of, is_page_lock_of, loaded, taken, listed_of, put_home, body_of, view_by, lock_found, lock_of_page, poisoned}
+use Rattle.hwp_core_rule.specs.Logs.{log_of}
 use Rattle.hwp_table_words.specs.tlb.Rule.{frames_of}
 
 -- the list without the number, where it stands first

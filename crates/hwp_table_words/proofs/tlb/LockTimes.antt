@@ -3,11 +3,11 @@ use Rattle.std.proofs.Common.{◌≡◌, ℕ, zero, suc, ◌+◌, ◌<◌, ◌�
 use Rattle.std.proofs.lemmas.List.Sums.{sum_by-cons, sum_by-append}
 use Rattle.std.proofs.lemmas.Option.{none-some, same_Some}
 use Rattle.std.specs.Int.{from_bool}
-use Rattle.hwp_core_task.specs.hwp_core_rule.declared.FrameLock.{FrameLock}
-use Rattle.hwp_core_task.specs.hwp_core_rule.declared.View.{View}
-use Rattle.hwp_core_task.specs.hwp_core_rule.Lists.{SomeMember}
-use Rattle.hwp_core_task.specs.hwp_core_rule.Views.{locks_on}
-use Rattle.hwp_core_task.proofs.of_hwp_core_rule.Lists.{sum-map}
+use Rattle.hwp_core_rule.specs.declared.FrameLock.{FrameLock}
+use Rattle.hwp_core_rule.specs.declared.View.{View}
+use Rattle.hwp_core_rule.specs.Lists.{SomeMember}
+use Rattle.hwp_core_rule.specs.Views.{locks_on}
+use Rattle.hwp_core_rule.proofs.Lists.{sum-map}
 use Rattle.hwp_table_words.specs.tlb.Rule.{frames_of, locks_in, times}
 
 pub times-append : (n : ℕ) (xs ys : List ℕ) → times n (xs ++ ys) ≡ times n xs + times n ys

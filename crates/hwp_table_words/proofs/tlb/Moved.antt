@@ -3,30 +3,30 @@ use Rattle.std.proofs.Common.{◌≡◌, ◌≢◌, ◌⊎◌, ℕ, ◌+◌, ◌
 use Rattle.std.specs.Int.{from_bool}
 use Rattle.std.proofs.lemmas.Bool.{true≢false}
 use Rattle.std.proofs.lemmas.Option.{none-some, same_Some, slice_get_within}
-use Rattle.hwp_core_task.specs.hwp_geom.declared.Frame.{Frame}
-use Rattle.hwp_core_task.specs.hwp_geom.declared.Layout.{Layout}
-use Rattle.hwp_core_task.specs.hwp_geom.declared.VSlot.{VSlot}
-use Rattle.hwp_core_task.specs.hwp_words.declared.Pte.{Pte}
-use Rattle.hwp_core_task.specs.hwp_words.Translations.{pte_word}
-use Rattle.hwp_core_task.specs.hwp_core_rule.declared.Rec.{Rec}
-use Rattle.hwp_core_task.specs.hwp_core_rule.declared.SharedWord.TheVariants as places
-use Rattle.hwp_core_task.specs.hwp_core_rule.declared.State.{State}
-use Rattle.hwp_core_task.specs.hwp_core_rule.declared.Step.{Step}
-use Rattle.hwp_core_task.specs.hwp_core_rule.declared.Step.TheVariants as steps
-use Rattle.hwp_core_task.specs.hwp_core_rule.declared.View.{View}
-use Rattle.hwp_core_task.specs.hwp_core_rule.Asks.{AsksOf, CanSetPte, HasInHand}
-use Rattle.hwp_core_task.specs.hwp_core_rule.Lists.{EachMember, SomeMember}
-use Rattle.hwp_core_task.specs.hwp_core_rule.Moves.{Move}
-use Rattle.hwp_core_task.specs.hwp_core_rule.parts.Fits.{KnowsWords}
-use Rattle.hwp_core_task.specs.hwp_core_rule.Rule.{Holds}
-use Rattle.hwp_core_task.specs.hwp_core_rule.Steps.{place_of, word_after}
-use Rattle.hwp_core_task.specs.hwp_core_rule.Views.{frame_in, locks_on, noted, view_after}
-use Rattle.hwp_core_task.specs.hwp_core_rule.Words.{IsPlace, Words, index, put, words_of}
-use Rattle.hwp_core_task.proofs.of_hwp_core_rule.KnownByLocks.{lock-listed}
-use Rattle.hwp_core_task.proofs.of_hwp_core_rule.Lists.{at_map, at_set, each-weaken, same-or, same-number, set_else, from_bool-same}
-use Rattle.hwp_core_task.proofs.of_hwp_core_rule.MoveKeeps.{shaped}
-use Rattle.hwp_core_task.proofs.of_hwp_core_rule.steps.NameSteps.{frame_in-name}
-use Rattle.hwp_core_task.proofs.of_hwp_core_rule.WordsByKind.{word-there, words-put, words-read}
+use Rattle.hwp_core_rule.specs.hwp_geom.declared.Frame.{Frame}
+use Rattle.hwp_core_rule.specs.hwp_geom.declared.Layout.{Layout}
+use Rattle.hwp_core_rule.specs.hwp_geom.declared.VSlot.{VSlot}
+use Rattle.hwp_core_rule.specs.hwp_words.declared.Pte.{Pte}
+use Rattle.hwp_core_rule.specs.hwp_words.Translations.{pte_word}
+use Rattle.hwp_core_rule.specs.declared.Rec.{Rec}
+use Rattle.hwp_core_rule.specs.declared.SharedWord.TheVariants as places
+use Rattle.hwp_core_rule.specs.declared.State.{State}
+use Rattle.hwp_core_rule.specs.declared.Step.{Step}
+use Rattle.hwp_core_rule.specs.declared.Step.TheVariants as steps
+use Rattle.hwp_core_rule.specs.declared.View.{View}
+use Rattle.hwp_core_rule.specs.Asks.{AsksOf, CanSetPte, HasInHand}
+use Rattle.hwp_core_rule.specs.Lists.{EachMember, SomeMember}
+use Rattle.hwp_core_rule.specs.Moves.{Move}
+use Rattle.hwp_core_rule.specs.parts.Fits.{KnowsWords}
+use Rattle.hwp_core_rule.specs.Rule.{Holds}
+use Rattle.hwp_core_rule.specs.Steps.{place_of, word_after}
+use Rattle.hwp_core_rule.specs.Views.{frame_in, locks_on, noted, view_after}
+use Rattle.hwp_core_rule.specs.Words.{IsPlace, Words, index, put, words_of}
+use Rattle.hwp_core_rule.proofs.KnownByLocks.{lock-listed}
+use Rattle.hwp_core_rule.proofs.Lists.{at_map, at_set, each-weaken, same-or, same-number, set_else, from_bool-same}
+use Rattle.hwp_core_rule.proofs.MoveKeeps.{shaped}
+use Rattle.hwp_core_rule.proofs.steps.NameSteps.{frame_in-name}
+use Rattle.hwp_core_rule.proofs.WordsByKind.{word-there, words-put, words-read}
 use Rattle.hwp_table_words.specs.tlb.Caching.{Caching, Cleared, Shown, upto_of, with_upto}
 use Rattle.hwp_table_words.specs.tlb.Rule.{CachesAgree, HaveViews, IsCleared, IsShown, Knows, Leads, Seat, frames_of, locks_in, times}
 use Rattle.hwp_table_words.specs.tlb.Steps.{IsGuarded, caching_after, mine_after}

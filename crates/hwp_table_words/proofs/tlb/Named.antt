@@ -4,24 +4,24 @@ use Rattle.std.specs.Int.{from_bool}
 use Rattle.std.proofs.lemmas.Bool.{eqb-true}
 use Rattle.std.proofs.lemmas.Nat.{mod_below}
 use Rattle.std.proofs.lemmas.Option.{none-some, same_Some, slice_get_within}
-use Rattle.hwp_core_task.specs.hwp_geom.declared.Frame.{Frame}
-use Rattle.hwp_core_task.specs.hwp_geom.declared.Layout.{Layout}
-use Rattle.hwp_core_task.specs.hwp_geom.declared.VSlot.{VSlot}
-use Rattle.hwp_core_task.specs.hwp_geom.Limits.{translation_limit}
-use Rattle.hwp_core_task.specs.hwp_words.Fields.{field}
-use Rattle.hwp_core_task.specs.hwp_words.Frames.{count_of, handled_of, is_kernel, owner_of}
-use Rattle.hwp_core_task.specs.hwp_core_rule.declared.FrameInHand.{FrameInHand}
-use Rattle.hwp_core_task.specs.hwp_core_rule.declared.State.{State}
-use Rattle.hwp_core_task.specs.hwp_core_rule.declared.View.{View}
-use Rattle.hwp_core_task.specs.hwp_core_rule.Asks.{HasInHand}
-use Rattle.hwp_core_task.specs.hwp_core_rule.parts.Counts.{named}
-use Rattle.hwp_core_task.specs.hwp_core_rule.parts.Owners.{NamesOwn}
-use Rattle.hwp_core_task.specs.hwp_core_rule.parts.Places.{in_hand}
-use Rattle.hwp_core_task.specs.hwp_core_rule.Rule.{Holds}
-use Rattle.hwp_core_task.specs.hwp_core_rule.Words.{words_of, free_bit}
-use Rattle.hwp_core_task.proofs.of_hwp_core_rule.FramesInHand.{in_hand-mine}
-use Rattle.hwp_core_task.proofs.of_hwp_core_rule.Lists.{at_map, term-le, from_bool-same}
-use Rattle.hwp_core_task.proofs.of_hwp_core_rule.MoveKeeps.{shaped}
+use Rattle.hwp_core_rule.specs.hwp_geom.declared.Frame.{Frame}
+use Rattle.hwp_core_rule.specs.hwp_geom.declared.Layout.{Layout}
+use Rattle.hwp_core_rule.specs.hwp_geom.declared.VSlot.{VSlot}
+use Rattle.hwp_core_rule.specs.hwp_geom.Limits.{translation_limit}
+use Rattle.hwp_core_rule.specs.hwp_words.Fields.{field}
+use Rattle.hwp_core_rule.specs.hwp_words.Frames.{count_of, handled_of, is_kernel, owner_of}
+use Rattle.hwp_core_rule.specs.declared.FrameInHand.{FrameInHand}
+use Rattle.hwp_core_rule.specs.declared.State.{State}
+use Rattle.hwp_core_rule.specs.declared.View.{View}
+use Rattle.hwp_core_rule.specs.Asks.{HasInHand}
+use Rattle.hwp_core_rule.specs.parts.Counts.{named}
+use Rattle.hwp_core_rule.specs.parts.Owners.{NamesOwn}
+use Rattle.hwp_core_rule.specs.parts.Places.{in_hand}
+use Rattle.hwp_core_rule.specs.Rule.{Holds}
+use Rattle.hwp_core_rule.specs.Words.{words_of, free_bit}
+use Rattle.hwp_core_rule.proofs.FramesInHand.{in_hand-mine}
+use Rattle.hwp_core_rule.proofs.Lists.{at_map, term-le, from_bool-same}
+use Rattle.hwp_core_rule.proofs.MoveKeeps.{shaped}
 use Rattle.hwp_table_words.specs.tlb.Rule.{CachesAgree, NamesInUse, Seat}
 use Rattle.hwp_table_words.specs.tlb.Words.{entry_frame_field, entry_named, entry_reading, entry_slot_field, entry_word, hit_of, hit_to, is_of}
 

@@ -5,20 +5,20 @@ use Rattle.std.proofs.lemmas.Nat.{mod_below}
 use Rattle.std.proofs.lemmas.Option.{slice_get_within}
 use Rattle.std.specs.List.{sum_by}
 use Rattle.std.specs.Int.{from_bool}
-use Rattle.hwp_core_task.specs.hwp_geom.declared.Layout.{Layout}
-use Rattle.hwp_core_task.specs.hwp_geom.Limits.{frame_limit}
-use Rattle.hwp_core_task.specs.hwp_words.Frames.{lock_of}
-use Rattle.hwp_core_task.specs.hwp_core_rule.declared.FrameLock.{FrameLock}
-use Rattle.hwp_core_task.specs.hwp_core_rule.declared.Ref.{Ref}
-use Rattle.hwp_core_task.specs.hwp_core_rule.declared.State.{State}
-use Rattle.hwp_core_task.specs.hwp_core_rule.declared.View.{View}
-use Rattle.hwp_core_task.specs.hwp_core_rule.Lists.{EachMember}
-use Rattle.hwp_core_task.specs.hwp_core_rule.parts.Locks.{IsLocked}
-use Rattle.hwp_core_task.specs.hwp_core_rule.Rule.{Holds}
-use Rattle.hwp_core_task.specs.hwp_core_rule.Views.{locks_on}
-use Rattle.hwp_core_task.specs.hwp_core_rule.Words.{words_of}
-use Rattle.hwp_core_task.proofs.of_hwp_core_rule.Lists.{same-or, at_map, each-map, sum-map, term-le, terms-le, from_bool-same, from_bool-other}
-use Rattle.hwp_core_task.proofs.of_hwp_core_rule.MoveKeeps.{shaped}
+use Rattle.hwp_core_rule.specs.hwp_geom.declared.Layout.{Layout}
+use Rattle.hwp_core_rule.specs.hwp_geom.Limits.{frame_limit}
+use Rattle.hwp_core_rule.specs.hwp_words.Frames.{lock_of}
+use Rattle.hwp_core_rule.specs.declared.FrameLock.{FrameLock}
+use Rattle.hwp_core_rule.specs.declared.Ref.{Ref}
+use Rattle.hwp_core_rule.specs.declared.State.{State}
+use Rattle.hwp_core_rule.specs.declared.View.{View}
+use Rattle.hwp_core_rule.specs.Lists.{EachMember}
+use Rattle.hwp_core_rule.specs.parts.Locks.{IsLocked}
+use Rattle.hwp_core_rule.specs.Rule.{Holds}
+use Rattle.hwp_core_rule.specs.Views.{locks_on}
+use Rattle.hwp_core_rule.specs.Words.{words_of}
+use Rattle.hwp_core_rule.proofs.Lists.{same-or, at_map, each-map, sum-map, term-le, terms-le, from_bool-same, from_bool-other}
+use Rattle.hwp_core_rule.proofs.MoveKeeps.{shaped}
 use Rattle.hwp_table_words.specs.tlb.Caching.{Caching}
 use Rattle.hwp_table_words.specs.tlb.Rule.{HaveViews, Seat, locks_in, times, views_for}
 use Rattle.hwp_table_words.proofs.tlb.LockTimes.{some-listed}

@@ -4,21 +4,21 @@ use Rattle.std.specs.Int.{from_bool}
 use Rattle.std.proofs.lemmas.Bool.{eqb-true, ltb-true, true≢false}
 use Rattle.std.proofs.lemmas.List.Sums.{sum_by-cons}
 use Rattle.std.proofs.lemmas.Option.{none-some, same_Some}
-use Rattle.hwp_core_task.specs.hwp_geom.declared.Damage.TheVariants as damages
-use Rattle.hwp_core_task.specs.hwp_geom.declared.Frame.{Frame}
-use Rattle.hwp_core_task.specs.hwp_geom.declared.Layout.{Layout}
-use Rattle.hwp_core_task.specs.hwp_geom.declared.VSlot.{VSlot}
-use Rattle.hwp_core_task.specs.hwp_words.declared.Pte.{Pte}
-use Rattle.hwp_core_task.specs.hwp_core_rule.declared.Rec.{Rec}
-use Rattle.hwp_core_task.specs.hwp_core_rule.declared.SharedWord.TheVariants as places
-use Rattle.hwp_core_task.specs.hwp_core_rule.declared.Step.{Step}
-use Rattle.hwp_core_task.specs.hwp_core_rule.declared.Step.TheVariants as steps
-use Rattle.hwp_core_task.specs.hwp_core_rule.declared.View.{View}
-use Rattle.hwp_core_task.specs.hwp_core_rule.Lists.{EachMember}
-use Rattle.hwp_core_task.specs.hwp_core_rule.Steps.{goes, place_of, word_after}
-use Rattle.hwp_core_task.specs.hwp_core_rule.Views.{noted, view_after}
-use Rattle.hwp_core_task.specs.hwp_core_rule.Words.{Words, put, read}
-use Rattle.hwp_core_task.proofs.of_hwp_core_rule.WordsByKind.{same-put}
+use Rattle.hwp_core_rule.specs.hwp_geom.declared.Damage.TheVariants as damages
+use Rattle.hwp_core_rule.specs.hwp_geom.declared.Frame.{Frame}
+use Rattle.hwp_core_rule.specs.hwp_geom.declared.Layout.{Layout}
+use Rattle.hwp_core_rule.specs.hwp_geom.declared.VSlot.{VSlot}
+use Rattle.hwp_core_rule.specs.hwp_words.declared.Pte.{Pte}
+use Rattle.hwp_core_rule.specs.declared.Rec.{Rec}
+use Rattle.hwp_core_rule.specs.declared.SharedWord.TheVariants as places
+use Rattle.hwp_core_rule.specs.declared.Step.{Step}
+use Rattle.hwp_core_rule.specs.declared.Step.TheVariants as steps
+use Rattle.hwp_core_rule.specs.declared.View.{View}
+use Rattle.hwp_core_rule.specs.Lists.{EachMember}
+use Rattle.hwp_core_rule.specs.Steps.{goes, place_of, word_after}
+use Rattle.hwp_core_rule.specs.Views.{noted, view_after}
+use Rattle.hwp_core_rule.specs.Words.{Words, put, read}
+use Rattle.hwp_core_rule.proofs.WordsByKind.{same-put}
 use Rattle.hwp_table_words.specs.tlb.Caching.{Cleared, Shown, with_upto, without_frame}
 use Rattle.hwp_table_words.specs.tlb.Rule.{frames_of, locks_in, times}
 use Rattle.hwp_table_words.specs.tlb.Steps.{cleared_after, mine_after, shown_after, shown_by}

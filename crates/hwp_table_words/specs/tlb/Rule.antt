@@ -2,13 +2,13 @@
 use Rattle.std.specs.Prelude.{◌≡◌, ◌⊎◌, ℕ, ◌+◌, ◌*◌, ◌%◌, ◌^◌, ◌<◌, ◌≤◌, ◌==◌, true, false, List, [], ◌∷◌, ◌++◌, Some, length, map, slice_get}
 use Rattle.std.specs.List.{sum_by}
 use Rattle.std.specs.Int.{from_bool}
-use Rattle.hwp_core_task.specs.hwp_geom.declared.Layout.{Layout}
-use Rattle.hwp_core_task.specs.hwp_words.Frames.{count_of, handled_of}
-use Rattle.hwp_core_task.specs.hwp_core_rule.declared.FrameLock.{FrameLock}
-use Rattle.hwp_core_task.specs.hwp_core_rule.declared.State.{State}
-use Rattle.hwp_core_task.specs.hwp_core_rule.declared.View.{View}
-use Rattle.hwp_core_task.specs.hwp_core_rule.Lists.{EachMember}
-use Rattle.hwp_core_task.specs.hwp_core_rule.Words.{words_of}
+use Rattle.hwp_core_rule.specs.hwp_geom.declared.Layout.{Layout}
+use Rattle.hwp_core_rule.specs.hwp_words.Frames.{count_of, handled_of}
+use Rattle.hwp_core_rule.specs.declared.FrameLock.{FrameLock}
+use Rattle.hwp_core_rule.specs.declared.State.{State}
+use Rattle.hwp_core_rule.specs.declared.View.{View}
+use Rattle.hwp_core_rule.specs.Lists.{EachMember}
+use Rattle.hwp_core_rule.specs.Words.{words_of}
 use Rattle.hwp_table_words.specs.tlb.Caching.{Caching, Cleared, Glimpse, Shown}
 use Rattle.hwp_table_words.specs.tlb.Words.{entry_word, is_of}
 

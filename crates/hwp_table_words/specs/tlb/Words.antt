@@ -1,8 +1,8 @@
 -- The word of an entry of a translation cache: a translation and the frame that it leads to.
 use Rattle.std.specs.Prelude.{ℕ, ◌+◌, ◌-◌, ◌*◌, ◌/◌, ◌%◌, ◌^◌, ◌==◌, ◌||◌, Bool, cond, Option, Some, None, if◌then◌else◌}
-use Rattle.hwp_core_task.specs.hwp_geom.declared.Frame.{Frame}
-use Rattle.hwp_core_task.specs.hwp_geom.declared.VSlot.{VSlot}
-use Rattle.hwp_core_task.specs.hwp_words.Fields.{Field, field}
+use Rattle.hwp_core_rule.specs.hwp_geom.declared.Frame.{Frame}
+use Rattle.hwp_core_rule.specs.hwp_geom.declared.VSlot.{VSlot}
+use Rattle.hwp_core_rule.specs.hwp_words.Fields.{Field, field}
 use Rattle.hwp_table_words.specs.declared.entry.EntryWord.{EntryWord}
 
 -- the entry of a translation that leads to a frame

@@ -1,7 +1,7 @@
 use Rattle.std.proofs.Common.{◌<◌, length, sym, ◌∙◌, subst}
 use Rattle.std.proofs.lemmas.Option.{none-some}
-use Rattle.hwp_core_task.specs.hwp_core_rule.declared.SlotMove.{SlotMove}
-use Rattle.hwp_core_task.specs.hwp_core_rule.SlotMoves.{IsWithin}
+use Rattle.hwp_core_rule.specs.declared.SlotMove.{SlotMove}
+use Rattle.hwp_core_rule.specs.SlotMoves.{IsWithin}
 use Rattle.hwp_plain.proofs.Carried.{out-home, out-met, home-met, out-layouts, home-layouts}
 use Rattle.hwp_plain.proofs.slot.carry.Goals as goal
 

@@ -1,7 +1,7 @@
 use Rattle.std.proofs.Common.{◌≡◌, Some, None, map, replicate}
 use Rattle.std.specs.Arc.{arc_value}
-use Rattle.hwp_core_task.specs.hwp_core_rule.Lists.{EachMember}
-use Rattle.hwp_core_task.specs.Calls.{FitsLayout}
+use Rattle.hwp_core_rule.specs.Lists.{EachMember}
+use Rattle.hwp_core_rule.specs.Calls.{FitsLayout}
 use Rattle.hwp_plain_words.specs.Openings.{home_with}
 use Rattle.hwp_plain_words.proofs.SlotLists.{slots_open}
 use Rattle.hwp_plain_words.proofs.bodies.opening_bodies.Given as goal

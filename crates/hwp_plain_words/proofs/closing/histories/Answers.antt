@@ -1,6 +1,6 @@
 use Rattle.std.proofs.Common.{◌+◌, List, map, sym, subst}
 use Rattle.std.proofs.lemmas.Result.{IfOk-from_err}
-use Rattle.hwp_core_task.specs.hwp_page.declared.Entry.{Entry}
+use Rattle.hwp_core_rule.specs.hwp_page.declared.Entry.{Entry}
 use Rattle.hwp_plain_words.specs.Openings.{home_with}
 use Rattle.hwp_plain_words.proofs.TakenHistories.{Taken, next-body, next-taken}
 use Rattle.hwp_plain_words.proofs.closing.histories.Goals as goal

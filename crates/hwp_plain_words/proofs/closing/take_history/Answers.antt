@@ -1,6 +1,6 @@
 use Rattle.std.proofs.Common.{Option, map, slice_set, ap, ◌∙◌}
 use Rattle.std.proofs.lemmas.List.{map-set}
-use Rattle.hwp_core_task.specs.hwp_page.History.{BodyValue}
+use Rattle.hwp_core_rule.specs.hwp_page.History.{BodyValue}
 use Rattle.hwp_plain_words.specs.Openings.{home_with}
 use Rattle.hwp_plain_words.proofs.closing.take_history.Goals as goal
 

@@ -1,5 +1,5 @@
 use Rattle.std.proofs.Common.{◌≡◌, ◌++◌, map, take}
-use Rattle.hwp_core_task.specs.hwp_core_rule.Opening.{opening_frame}
+use Rattle.hwp_core_rule.specs.Opening.{opening_frame}
 use Rattle.hwp_plain_words.proofs.words.add_frames.Given as goal
 
 abbrev pub invariant-loop-is_kernel : goal.invariant-loop-is_kernel

@@ -1,5 +1,5 @@
 use Rattle.std.proofs.Common.{◌≡◌, ◌++◌, map}
-use Rattle.hwp_core_task.specs.hwp_core_rule.Opening.{below, opening_free}
+use Rattle.hwp_core_rule.specs.Opening.{below, opening_free}
 use Rattle.hwp_plain_words.proofs.words.add_frees.Given as goal
 
 abbrev pub invariant-loop-number : goal.invariant-loop-number

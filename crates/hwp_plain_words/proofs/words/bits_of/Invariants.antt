@@ -1,5 +1,5 @@
 use Rattle.std.proofs.Common.{◌≡◌, ◌-◌, ◌^◌, ◌<◌, length, drop}
-use Rattle.hwp_core_task.specs.hwp_core_rule.Opening.{free_bits}
+use Rattle.hwp_core_rule.specs.Opening.{free_bits}
 use Rattle.hwp_plain_words.proofs.words.bits_of.Given as goal
 
 abbrev pub invariant-loop-turn : goal.invariant-loop-turn

@@ -1,6 +1,6 @@
 use Rattle.std.proofs.Common.{◌≡◌, ◌-◌, ◌*◌, length, drop, sym, ap, ◌∙◌, arith}
 use Rattle.std.proofs.lemmas.List.{take_all, take_rest, length-drop}
-use Rattle.hwp_core_task.specs.hwp_core_rule.Opening.{free_bits}
+use Rattle.hwp_core_rule.specs.Opening.{free_bits}
 use Rattle.hwp_plain_words.proofs.words.free_word.Goals as goal
 
 pub returns-then-rest-lt64 : goal.returns-then-rest-lt64

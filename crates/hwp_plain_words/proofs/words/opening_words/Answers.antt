@@ -1,8 +1,8 @@
 use Rattle.std.proofs.Common.{◌≡◌, ℕ, Bool, List, [], ◌∷◌, ◌++◌, map, length, replicate, ap, sym, ◌∙◌}
 use Rattle.std.proofs.lemmas.List.{append-nil}
-use Rattle.hwp_core_task.specs.hwp_geom.declared.Layout.{Layout}
-use Rattle.hwp_core_task.specs.hwp_core_rule.Opening.{below, opening_frame, opening_free, opening_available, opening_words}
-use Rattle.hwp_core_task.specs.hwp_core_rule.Words.{free_words}
+use Rattle.hwp_core_rule.specs.hwp_geom.declared.Layout.{Layout}
+use Rattle.hwp_core_rule.specs.Opening.{below, opening_frame, opening_free, opening_available, opening_words}
+use Rattle.hwp_core_rule.specs.Words.{free_words}
 use Rattle.hwp_plain_words.specs.Openings.{usable_in}
 use Rattle.hwp_plain_words.proofs.SlotLists.{added, filled}
 use Rattle.hwp_plain_words.proofs.words.opening_words.Goals as goal

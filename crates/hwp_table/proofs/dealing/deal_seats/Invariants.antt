@@ -1,5 +1,5 @@
 use Rattle.std.proofs.Common.{◌≡◌, [], map}
-use Rattle.hwp_core_task.specs.hwp_core_rule.Opening.{below}
+use Rattle.hwp_core_rule.specs.Opening.{below}
 use Rattle.hwp_table_words.specs.Known.{idling}
 use Rattle.hwp_table.specs.Seats.{seat_open}
 use Rattle.hwp_table.proofs.Dealt.{left_from}

@@ -1,5 +1,5 @@
 use Rattle.std.proofs.Common.{◌≡◌, ℕ, ◌+◌, ◌-◌, ◌*◌, ◌^◌, ◌<◌, min, refl, sym, ap, ◌∙◌, subst}
-use Rattle.hwp_core_task.specs.hwp_core_rule.Words.{size}
+use Rattle.hwp_core_rule.specs.Words.{size}
 use Rattle.hwp_table_words.specs.CacheCounts.{capped, told_counts}
 use Rattle.hwp_table_words.specs.CachePlays.{with_caching}
 use Rattle.hwp_table_words.specs.Stands.{Me}

@@ -1,5 +1,5 @@
 use Rattle.std.proofs.Common.{ℕ, ◌*◌, ◌<◌, ◌≤◌, sym, ap, ◌∙◌, subst}
-use Rattle.hwp_core_task.specs.hwp_core_rule.declared.Step.{Step}
+use Rattle.hwp_core_rule.specs.declared.Step.{Step}
 use Rattle.hwp_table_words.specs.tlb.Rule.{frames_of}
 use Rattle.hwp_table_words.specs.tlb.Steps.{shown_after}
 use Rattle.hwp_table_words.specs.declared.follow.Follow.{Follow}

@@ -1,5 +1,5 @@
 use Rattle.std.proofs.Common.{ℕ, ◌*◌, ◌<◌, ◌≤◌, List, refl, sym, ap, ◌∙◌, subst, arith}
-use Rattle.hwp_core_task.specs.hwp_core_rule.declared.View.{View}
+use Rattle.hwp_core_rule.specs.declared.View.{View}
 use Rattle.hwp_table_words.specs.tlb.Caching.{upto_of}
 use Rattle.hwp_table_words.specs.tlb.Rule.{locks_in, times}
 use Rattle.hwp_table_words.specs.Stands.{Me}

@@ -1,6 +1,6 @@
 use Rattle.std.proofs.Common.{ℕ, ◌*◌, ◌<◌, ◌≤◌, List, length, get_or, refl, sym, ◌∙◌, subst, arith}
 use Rattle.std.proofs.lemmas.Option.{slice_get_within}
-use Rattle.hwp_core_task.specs.hwp_core_rule.declared.View.{View}
+use Rattle.hwp_core_rule.specs.declared.View.{View}
 use Rattle.hwp_table_words.specs.tlb.Rule.{locks_in, times}
 use Rattle.hwp_table_words.proofs.EntryAsks.{read-in}
 use Rattle.hwp_table_words.proofs.Follows.{mines-same, swept-next}

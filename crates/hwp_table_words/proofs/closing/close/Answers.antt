@@ -1,7 +1,7 @@
 use Rattle.std.proofs.Common.{◌≡◌, ℕ, ◌+◌, ◌-◌, ◌*◌, List, ap, ◌∙◌, sym, subst, take, arith}
 use Rattle.std.specs.Slots.{slots_items}
-use Rattle.hwp_core_task.specs.hwp_geom.declared.Layout.{Layout}
-use Rattle.hwp_core_task.specs.hwp_core_rule.Words.{size}
+use Rattle.hwp_core_rule.specs.hwp_geom.declared.Layout.{Layout}
+use Rattle.hwp_core_rule.specs.Words.{size}
 use Rattle.hwp_table_words.specs.Ends.{HasAll, IsEnd}
 use Rattle.hwp_table_words.specs.Known.{Known}
 use Rattle.hwp_table_words.specs.Order.{entries_in, in_rule}

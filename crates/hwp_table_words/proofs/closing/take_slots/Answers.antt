@@ -1,6 +1,6 @@
 use Rattle.std.proofs.Common.{ℕ, ◌+◌, ◌<◌, Bool, false, List, [], ◌∷◌, ◌++◌, inl, inr, get_or, take, ap, ◌∙◌, sym, arith, get_or-set_same, get_or-set_other}
 use Rattle.std.specs.Slots.{slots_counts, slots_filled, slots_items, slots_len}
-use Rattle.hwp_core_task.proofs.of_hwp_core_rule.Lists.{same-or}
+use Rattle.hwp_core_rule.proofs.Lists.{same-or}
 use Rattle.hwp_table_words.specs.Stands.{Content}
 use Rattle.hwp_table_words.proofs.Taken.{take-one}
 use Rattle.hwp_table_words.proofs.closing.take_slots.Goals as goal

@@ -1,5 +1,5 @@
 use Rattle.std.proofs.Common.{◌^◌, ◌<◌, arith}
-use Rattle.hwp_core_task.specs.hwp_core_rule.Words.{size}
+use Rattle.hwp_core_rule.specs.Words.{size}
 use Rattle.hwp_table_words.proofs.EntryAsks.{few-places, few-words}
 use Rattle.hwp_table_words.proofs.entries.entry_at.Goals as goal
 

@@ -1,6 +1,6 @@
 use Rattle.std.proofs.Common.{ℕ, subst}
 use Rattle.atomic_table.specs.Table.{Allows}
-use Rattle.hwp_core_task.specs.hwp_core_rule.Steps.{exchanged}
+use Rattle.hwp_core_rule.specs.Steps.{exchanged}
 use Rattle.hwp_table_words.specs.CachePlays.{IsFlushed}
 use Rattle.hwp_table_words.specs.Rules.{Kept}
 use Rattle.hwp_table_words.proofs.EntryAsks.{entry-in, flush-allowed}

@@ -1,6 +1,6 @@
 use Rattle.std.proofs.Common.{◌∙◌, ap, refl}
-use Rattle.hwp_core_task.specs.hwp_core_rule.declared.SharedWord.{SharedWord}
-use Rattle.hwp_core_task.specs.hwp_core_rule.Words.{index, size}
+use Rattle.hwp_core_rule.specs.declared.SharedWord.{SharedWord}
+use Rattle.hwp_core_rule.specs.Words.{index, size}
 use Rattle.hwp_table_words.specs.Order.{in_table}
 use Rattle.hwp_table_words.proofs.Made as made
 use Rattle.hwp_table_words.proofs.making.one.Goals as goal

@@ -1,12 +1,12 @@
 use Rattle.std.proofs.Common.{◌≡◌, ℕ, List, ◌*◌, ap, ◌∙◌, sym, subst, take}
 use Rattle.std.specs.Arc.{arc_value}
 use Rattle.std.proofs.lemmas.Result.{IfOk-from_err}
-use Rattle.hwp_core_task.specs.hwp_geom.declared.Layout.{Layout}
-use Rattle.hwp_core_task.specs.hwp_geom.Layout.{IsSound}
-use Rattle.hwp_core_task.specs.hwp_core_rule.Lists.{EachMember}
-use Rattle.hwp_core_task.specs.hwp_core_rule.Opening.{opening_homes}
-use Rattle.hwp_core_task.specs.hwp_core_rule.Words.{size}
-use Rattle.hwp_core_task.specs.Calls.{FitsLayout}
+use Rattle.hwp_core_rule.specs.hwp_geom.declared.Layout.{Layout}
+use Rattle.hwp_core_rule.specs.hwp_geom.Layout.{IsSound}
+use Rattle.hwp_core_rule.specs.Lists.{EachMember}
+use Rattle.hwp_core_rule.specs.Opening.{opening_homes}
+use Rattle.hwp_core_rule.specs.Words.{size}
+use Rattle.hwp_core_rule.specs.Calls.{FitsLayout}
 use Rattle.hwp_table_words.specs.Order.{IsOpened}
 use Rattle.hwp_table_words.proofs.Opened.{opens, counted-words, counted-slots}
 use Rattle.hwp_table_words.proofs.opening.begin.Goals as goal

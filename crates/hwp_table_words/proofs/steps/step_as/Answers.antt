@@ -1,7 +1,7 @@
 use Rattle.std.proofs.Common.{◌+◌, ◌-◌, ◌%◌, ◌^◌, ap, ◌∙◌}
 use Rattle.std.specs.Prelude.{bit_and, bit_or, bit_xor}
-use Rattle.hwp_core_task.specs.hwp_core_rule.declared.Step.{Step}
-use Rattle.hwp_core_task.specs.hwp_core_rule.Steps.{word_after, exchanged}
+use Rattle.hwp_core_rule.specs.declared.Step.{Step}
+use Rattle.hwp_core_rule.specs.Steps.{word_after, exchanged}
 use Rattle.hwp_table_words.specs.Operations.{applied}
 use Rattle.hwp_table_words.specs.declared.operation.Operation.{Operation}
 use Rattle.hwp_table_words.proofs.OperationAsks.{allowed-as, in-table}

@@ -3,7 +3,7 @@ use Rattle.hwp_page.specs.hwp_geom.declared.Who.{Who}
 use Rattle.hwp_core.specs.hwp_core_rule.declared.View.{View}
 use Rattle.hwp_core.specs.declared.hold.Hold.{Hold}
 use Rattle.hwp_core.specs.Holds.{Fits, begin}
-use Rattle.hwp_core.specs.hwp_core_task.Boards.{view_of}
+use Rattle.hwp_core.specs.hwp_core_rule.Boards.{view_of}
 use Rattle.hwp_test_model.proofs.TaskBegins.{hold-open}
 use Rattle.hwp_test_model.proofs.turns.holding.Goals as goal
 

@@ -1,4 +1,4 @@
-use Rattle.hwp_core.specs.hwp_core_task.Boards.{view_of}
+use Rattle.hwp_core.specs.hwp_core_rule.Boards.{view_of}
 use Rattle.hwp_test_model.proofs.turns.of_two_processors_one_waits_for_the_page.Goals as goal
 
 pub play-requires-2-clause-first : goal.play-requires-2-clause-first

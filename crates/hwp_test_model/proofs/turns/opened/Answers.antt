@@ -1,6 +1,6 @@
 use Rattle.std.proofs.Common.{ℕ, ◌<◌, sym, ap, ◌∙◌, subst}
 use Rattle.hwp_core.specs.hwp_core_rule.declared.State.{State}
-use Rattle.hwp_core.specs.hwp_core_task.Boards.{view_of}
+use Rattle.hwp_core.specs.hwp_core_rule.Boards.{view_of}
 use Rattle.hwp_test_model.proofs.TaskBegins.{view-open}
 use Rattle.hwp_test_model.proofs.turns.opened.Goals as goal
 

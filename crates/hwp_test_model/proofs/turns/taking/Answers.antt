@@ -3,7 +3,7 @@ use Rattle.hwp_page.specs.hwp_geom.declared.Who.{Who}
 use Rattle.hwp_core.specs.hwp_core_rule.declared.View.{View}
 use Rattle.hwp_fault_fill.specs.declared.Take.{Take}
 use Rattle.hwp_fault_fill.specs.Takes.{Fits, begin}
-use Rattle.hwp_core.specs.hwp_core_task.Boards.{view_of}
+use Rattle.hwp_core.specs.hwp_core_rule.Boards.{view_of}
 use Rattle.hwp_test_model.proofs.TaskBegins.{take-open}
 use Rattle.hwp_test_model.proofs.turns.taking.Goals as goal
 

@@ -1,6 +1,6 @@
 use Rattle.std.proofs.Common.{◌≡◌}
-use Rattle.hwp_core.specs.hwp_core_task.Boards.{view_of}
-use Rattle.hwp_core.specs.hwp_core_task.Hands.{hand_of}
+use Rattle.hwp_core.specs.hwp_core_rule.Boards.{view_of}
+use Rattle.hwp_core.specs.hwp_core_rule.Hands.{hand_of}
 use Rattle.hwp_fault_fill.specs.Takes.{Fits}
 use Rattle.hwp_test_model.specs.TakenFrames.{taken}
 use Rattle.hwp_test_model.proofs.words.takes.Given as goal

@@ -1,5 +1,5 @@
 use Rattle.std.proofs.Common.{◌≡◌, ◌≤◌, length, take}
-use Rattle.hwp_core_task.specs.hwp_geom.Limits.{thread_limit}
+use Rattle.hwp_core_rule.specs.hwp_geom.Limits.{thread_limit}
 use Rattle.hwp_cpu_control.specs.Forks.{threads_of}
 use Rattle.hwp_cpu_control.proofs.fork.Targets.of.Given as goal
 

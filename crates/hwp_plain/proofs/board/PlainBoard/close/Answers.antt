@@ -1,9 +1,9 @@
 use Rattle.std.proofs.Common.{◌+◌, length, map, sym, ap, ◌∙◌, refl, subst}
 use Rattle.std.specs.Prelude.{IfOk}
 use Rattle.std.specs.Arc.{arc_value}
-use Rattle.hwp_core_task.specs.hwp_geom.declared.Layout.{Layout}
-use Rattle.hwp_core_task.specs.hwp_core_rule.Lists.{EachMember, Homes}
-use Rattle.hwp_core_task.specs.hwp_core_rule.parts.Holdings.{HoldsNothing}
+use Rattle.hwp_core_rule.specs.hwp_geom.declared.Layout.{Layout}
+use Rattle.hwp_core_rule.specs.Lists.{EachMember, Homes}
+use Rattle.hwp_core_rule.specs.parts.Holdings.{HoldsNothing}
 use Rattle.hwp_plain_words.specs.Ends.{IsMachineOf}
 use Rattle.hwp_plain_words.specs.Openings.{home_with}
 use Rattle.hwp_plain.specs.Boards.{Board, state_of}

@@ -1,6 +1,6 @@
 use Rattle.std.proofs.Common.{◌<◌, ◌^◌, arith}
 use Rattle.std.specs.Arc.{arc_value}
-use Rattle.hwp_core_task.specs.Calls.{logs}
+use Rattle.hwp_core_rule.specs.Calls.{logs}
 use Rattle.hwp_plain.proofs.Stepped.{begun, can-on, told-on, moved-on, home-now, kept-now, told-now, moved-now}
 use Rattle.hwp_plain.proofs.board.PlainBoard.make.Goals as goal
 

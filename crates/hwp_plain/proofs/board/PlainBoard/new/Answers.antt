@@ -1,7 +1,7 @@
 use Rattle.std.proofs.Common.{◌≡◌, ap, ◌∙◌, sym, subst, rules}
 use Rattle.std.specs.Arc.{arc_value}
-use Rattle.hwp_core_task.specs.hwp_geom.declared.Layout.{Layout}
-use Rattle.hwp_core_task.specs.hwp_core_rule.Opening.{opening_homes}
+use Rattle.hwp_core_rule.specs.hwp_geom.declared.Layout.{Layout}
+use Rattle.hwp_core_rule.specs.Opening.{opening_homes}
 use Rattle.hwp_plain.specs.declared.trail.Trail.TheVariants.{Opening}
 use Rattle.hwp_plain.specs.Boards.{IsBoard, state_of}
 use Rattle.hwp_plain.specs.Slots.{AreOfLayout}

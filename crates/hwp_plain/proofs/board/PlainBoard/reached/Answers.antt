@@ -1,7 +1,7 @@
 use Rattle.std.proofs.Common.{subst}
 use Rattle.std.specs.Arc.{arc_value}
-use Rattle.hwp_core_task.specs.hwp_geom.declared.Cpu.{Cpu}
-use Rattle.hwp_core_task.specs.Boards.{AreSeated}
+use Rattle.hwp_core_rule.specs.hwp_geom.declared.Cpu.{Cpu}
+use Rattle.hwp_core_rule.specs.Boards.{AreSeated}
 use Rattle.hwp_plain.specs.Boards.{Board}
 use Rattle.hwp_plain.proofs.BoardTurns.{seated}
 use Rattle.hwp_plain.proofs.board.PlainBoard.reached.Goals as goal

@@ -1,6 +1,6 @@
 use Rattle.std.proofs.Common.{◌∷◌, set, sym, ap, subst}
-use Rattle.hwp_core_task.specs.declared.Turn.TheVariants.{Moved}
-use Rattle.hwp_core_task.specs.Calls.{CanMake, Steps, logs}
+use Rattle.hwp_core_rule.specs.declared.Turn.TheVariants.{Moved}
+use Rattle.hwp_core_rule.specs.Calls.{CanMake, Steps, logs}
 use Rattle.hwp_plain.specs.Boards.{Board, own_view}
 use Rattle.hwp_table.specs.declared.turns.Turns.{Turns}
 use Rattle.hwp_table.specs.Boards.{IsSeatBoard, state_of}

@@ -4,8 +4,8 @@ use Rattle.atomic_table.specs.Seated.{TableId}
 use Rattle.hwp_table_words.specs.Known.{idling, note}
 use Rattle.hwp_table_words.specs.Seats.{IsTableOf, SeatValue}
 use Rattle.hwp_table_words.specs.Stands.{Me}
-use Rattle.hwp_core_task.specs.hwp_core_rule.Opening.{below}
-use Rattle.hwp_core_task.proofs.of_hwp_core_rule.WordsOpen.{length-below}
+use Rattle.hwp_core_rule.specs.Opening.{below}
+use Rattle.hwp_core_rule.proofs.WordsOpen.{length-below}
 use Rattle.hwp_table.specs.Boards.{IsSeatBoard}
 use Rattle.hwp_table.specs.Seats.{seat_open}
 use Rattle.hwp_table.proofs.Opened.{s-is, board-now, state-now, log-now}

@@ -1,6 +1,6 @@
 use Rattle.std.proofs.Common.{subst}
-use Rattle.hwp_core_task.specs.hwp_geom.declared.Cpu.{Cpu}
-use Rattle.hwp_core_task.specs.Boards.{AreSeated}
+use Rattle.hwp_core_rule.specs.hwp_geom.declared.Cpu.{Cpu}
+use Rattle.hwp_core_rule.specs.Boards.{AreSeated}
 use Rattle.hwp_plain.specs.Boards.{Board}
 use Rattle.hwp_table.specs.Turns.{turns_of}
 use Rattle.hwp_table.proofs.Seated.{seated}

@@ -1,6 +1,6 @@
 use Rattle.std.proofs.Common.{ap, ◌∙◌}
 use Rattle.std.specs.Prelude.{None}
-use Rattle.hwp_core_task.specs.Calls.{logs}
+use Rattle.hwp_core_rule.specs.Calls.{logs}
 use Rattle.hwp_table_words.specs.Seats.{value_of}
 use Rattle.hwp_table_words.specs.Stands.{Me}
 use Rattle.hwp_table_words.proofs.Made.{can-on, moved-on, told-on}

@@ -1,5 +1,5 @@
 ghost use Rattle.std.specs.Prelude.{◌≡◌};
-ghost use Rattle.hwp_core_task.specs.Turns.{Advances};
+ghost use Rattle.hwp_core_rule.specs.Turns.{Advances};
 
 use crate::ops::Ops;
 use crate::task::Task;

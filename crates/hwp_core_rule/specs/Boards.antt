@@ -1,22 +1,22 @@
 -- What a board keeps, and what a turn of a task on it comes to.
 use Rattle.std.specs.Prelude.{◌≡◌, ℕ, ◌<◌, List, ◌∷◌, Option, Some, None, slice_get, slice_index_or}
-use Rattle.hwp_core_rule.specs.hwp_geom.declared.Cpu.{Cpu}
-use Rattle.hwp_core_rule.specs.hwp_geom.declared.Kind.{Kind}
-use Rattle.hwp_core_rule.specs.hwp_geom.declared.Layout.{Layout}
-use Rattle.hwp_core_rule.specs.hwp_page.History.{BodyValue}
-use Rattle.hwp_core_rule.specs.declared.Part.{Part}
-use Rattle.hwp_core_rule.specs.declared.Rec.{Rec}
-use Rattle.hwp_core_rule.specs.declared.State.{State}
-use Rattle.hwp_core_rule.specs.declared.Step.{Step}
-use Rattle.hwp_core_rule.specs.declared.View.{View}
+use Rattle.hwp_page.specs.hwp_geom.declared.Cpu.{Cpu}
+use Rattle.hwp_page.specs.hwp_geom.declared.Kind.{Kind}
+use Rattle.hwp_page.specs.hwp_geom.declared.Layout.{Layout}
+use Rattle.hwp_page.specs.History.{BodyValue}
+use Rattle.hwp_core_rule.specs.declared.view.Part.{Part}
+use Rattle.hwp_core_rule.specs.declared.record.Rec.{Rec}
+use Rattle.hwp_core_rule.specs.declared.record.State.{State}
+use Rattle.hwp_core_rule.specs.declared.step.Step.{Step}
+use Rattle.hwp_core_rule.specs.declared.view.View.{View}
 use Rattle.hwp_core_rule.specs.Lists.{SomeMember}
 use Rattle.hwp_core_rule.specs.Moves.{Move}
 use Rattle.hwp_core_rule.specs.Opening.{opening_view}
 use Rattle.hwp_core_rule.specs.Steps.{kind_of}
-use Rattle.hwp_core_task.specs.declared.turn.Turn.{Turn}
-use Rattle.hwp_core_task.specs.declared.turn.Turn.TheVariants as turns
-use Rattle.hwp_core_task.specs.Calls.{Brings, logs, rec_of}
-use Rattle.hwp_core_task.specs.Turns.{Member}
+use Rattle.hwp_core_rule.specs.declared.turn.Turn.{Turn}
+use Rattle.hwp_core_rule.specs.declared.turn.Turn.TheVariants as turns
+use Rattle.hwp_core_rule.specs.Calls.{Brings, logs, rec_of}
+use Rattle.hwp_core_rule.specs.Turns.{Member}
 
 -- a move that was made, and the turn that it was
 pub record Played : Type 0 where

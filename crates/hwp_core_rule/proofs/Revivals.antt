@@ -5,26 +5,26 @@ use prog.Atomic.{either}
 use Rattle.std.proofs.lemmas.Bool.{both_ways, eqb-true}
 use Rattle.std.proofs.lemmas.List.{get_or-set_same, get_or-set_other}
 use Rattle.std.proofs.lemmas.Option.{same_Some, slice_get-get_or}
-use Rattle.hwp_core_rule.specs.hwp_geom.declared.Frame.{Frame}
-use Rattle.hwp_core_rule.specs.hwp_geom.declared.Layout.{Layout}
-use Rattle.hwp_core_rule.specs.hwp_geom.Limits.{command_limit, cpu_limit}
-use Rattle.hwp_core_rule.specs.hwp_words.Frames.{poison_of, cycle_of, is_poisoned, is_handled, is_kernel}
-use Rattle.hwp_core_rule.proofs.of_hwp_words.FrameSteps.{fields-revived}
-use Rattle.hwp_core_rule.specs.declared.State.{State}
-use Rattle.hwp_core_rule.specs.declared.Step.{Step}
-use Rattle.hwp_core_rule.specs.declared.Step.TheVariants as steps
+use Rattle.hwp_page.specs.hwp_geom.declared.Frame.{Frame}
+use Rattle.hwp_page.specs.hwp_geom.declared.Layout.{Layout}
+use Rattle.hwp_page.specs.hwp_geom.Limits.{command_limit, cpu_limit}
+use Rattle.hwp_words.specs.Frames.{poison_of, cycle_of, is_poisoned, is_handled, is_kernel}
+use Rattle.hwp_words.proofs.FrameSteps.{fields-revived}
+use Rattle.hwp_core_rule.specs.declared.record.State.{State}
+use Rattle.hwp_core_rule.specs.declared.step.Step.{Step}
+use Rattle.hwp_core_rule.specs.declared.step.Step.TheVariants as steps
 use Rattle.hwp_core_rule.specs.Asks.{AsksOf, CanRevive}
 use Rattle.hwp_core_rule.specs.Steps.{place_of, word_after, exchanged, revived}
 use Rattle.hwp_core_rule.specs.Words.{Words, read, put, IsPlace}
 use Rattle.hwp_core_rule.proofs.bounds.CycleBounds.{cycles-few}
 use Rattle.hwp_core_rule.proofs.Lists.{same-or, sum-set}
 use Rattle.hwp_core_rule.proofs.MoveKeeps.{shaped}
-use Rattle.hwp_core_task.specs.declared.turn.Turn.{Turn}
-use Rattle.hwp_core_task.specs.Calls.{logs, rec_of}
-use Rattle.hwp_core_task.specs.Turns.{Member}
-use Rattle.hwp_core_task.specs.Ranks.{Made, PaysRevival, Pending, PlansLasting, PlansMild, failures_left, words_at}
-use Rattle.hwp_core_task.proofs.Failures.{left_of, mild-leaves}
-use Rattle.hwp_core_task.proofs.StepRanks.{failures-kept, met, words-after, words-kept}
+use Rattle.hwp_core_rule.specs.declared.turn.Turn.{Turn}
+use Rattle.hwp_core_rule.specs.Calls.{logs, rec_of}
+use Rattle.hwp_core_rule.specs.Turns.{Member}
+use Rattle.hwp_core_rule.specs.Ranks.{Made, PaysRevival, Pending, PlansLasting, PlansMild, failures_left, words_at}
+use Rattle.hwp_core_rule.proofs.Failures.{left_of, mild-leaves}
+use Rattle.hwp_core_rule.proofs.StepRanks.{failures-kept, met, words-after, words-kept}
 
 -- a task that plans no revival pays for all that it makes
 pub lasting-pays : {S : Type 0} (m : Member S) → PlansLasting m → PaysRevival m

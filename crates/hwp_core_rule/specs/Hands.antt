@@ -1,23 +1,23 @@
 -- What a processor holds, as one value, and what each step makes of it.
 use Rattle.std.specs.Prelude.{ℕ, ◌+◌, ◌-◌, ◌==◌, true, cond, List, [], ◌∷◌, ◌++◌, Option, Some, None, is_some, map, length, option_map, slice_set}
 use Rattle.std.specs.List.{find}
-use Rattle.hwp_core_rule.specs.hwp_geom.declared.Frame.{Frame}
-use Rattle.hwp_core_rule.specs.hwp_geom.declared.Layout.{Layout}
-use Rattle.hwp_core_rule.specs.hwp_geom.declared.Page.{Page}
-use Rattle.hwp_core_rule.specs.hwp_geom.declared.Proc.{Proc}
-use Rattle.hwp_core_rule.specs.hwp_words.Names.{frame_name}
-use Rattle.hwp_core_rule.specs.hwp_words.Translations.{pte_word}
-use Rattle.hwp_core_rule.specs.declared.FrameInHand.{FrameInHand}
-use Rattle.hwp_core_rule.specs.declared.FrameLock.{FrameLock}
-use Rattle.hwp_core_rule.specs.declared.InHand.{InHand}
-use Rattle.hwp_core_rule.specs.declared.Log.{Log}
-use Rattle.hwp_core_rule.specs.declared.PageLock.{PageLock}
-use Rattle.hwp_core_rule.specs.declared.SharedWord.{SharedWord}
-use Rattle.hwp_core_rule.specs.declared.SharedWord.TheVariants as places
-use Rattle.hwp_core_rule.specs.declared.Ref.{Ref}
-use Rattle.hwp_core_rule.specs.declared.Step.{Step}
-use Rattle.hwp_core_rule.specs.declared.Step.TheVariants as steps
-use Rattle.hwp_core_rule.specs.declared.View.{View}
+use Rattle.hwp_page.specs.hwp_geom.declared.Frame.{Frame}
+use Rattle.hwp_page.specs.hwp_geom.declared.Layout.{Layout}
+use Rattle.hwp_page.specs.hwp_geom.declared.Page.{Page}
+use Rattle.hwp_page.specs.hwp_geom.declared.Proc.{Proc}
+use Rattle.hwp_words.specs.Names.{frame_name}
+use Rattle.hwp_words.specs.Translations.{pte_word}
+use Rattle.hwp_core_rule.specs.declared.view.FrameInHand.{FrameInHand}
+use Rattle.hwp_core_rule.specs.declared.view.FrameLock.{FrameLock}
+use Rattle.hwp_core_rule.specs.declared.view.InHand.{InHand}
+use Rattle.hwp_core_rule.specs.declared.log.Log.{Log}
+use Rattle.hwp_core_rule.specs.declared.view.PageLock.{PageLock}
+use Rattle.hwp_core_rule.specs.declared.shared_word.SharedWord.{SharedWord}
+use Rattle.hwp_core_rule.specs.declared.shared_word.SharedWord.TheVariants as places
+use Rattle.hwp_core_rule.specs.declared.view.Ref.{Ref}
+use Rattle.hwp_core_rule.specs.declared.step.Step.{Step}
+use Rattle.hwp_core_rule.specs.declared.step.Step.TheVariants as steps
+use Rattle.hwp_core_rule.specs.declared.view.View.{View}
 use Rattle.hwp_core_rule.specs.Logs.{log_of}
 use Rattle.hwp_core_rule.specs.Steps.{goes, is_last}
 use Rattle.hwp_core_rule.specs.Views.{without, changed, with_refs, less_refs, with_named, less_named, frame_in, is_hand_of, hand_found, unpoisoned, is_lock_of, is_page_lock_of, is_body_of, lock_found, knowing, lock_of_page}

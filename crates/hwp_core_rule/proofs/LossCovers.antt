@@ -5,23 +5,23 @@ use Rattle.std.specs.Int.{from_bool}
 use Rattle.std.specs.List.{sum_by}
 use Rattle.std.proofs.lemmas.Bool.{le-ltb}
 use Rattle.std.proofs.lemmas.List.Sums.{sum_by-append}
-use Rattle.hwp_core_rule.specs.hwp_geom.declared.FileNo.{FileNo}
-use Rattle.hwp_core_rule.specs.hwp_geom.declared.Frame.{Frame}
-use Rattle.hwp_core_rule.specs.hwp_geom.declared.Layout.{Layout}
-use Rattle.hwp_core_rule.specs.hwp_geom.declared.Page.{Page}
-use Rattle.hwp_core_rule.specs.hwp_geom.declared.Who.{Who}
-use Rattle.hwp_core_rule.specs.hwp_page.declared.Entry.{Entry}
-use Rattle.hwp_core_rule.specs.hwp_page.History.{BodyValue}
-use Rattle.hwp_core_rule.specs.hwp_page.Losses.{is_loss, is_same_file}
-use Rattle.hwp_core_rule.specs.declared.InHand.{InHand}
-use Rattle.hwp_core_rule.specs.declared.Log.{Log}
-use Rattle.hwp_core_rule.specs.declared.Made.{Made}
-use Rattle.hwp_core_rule.specs.declared.SharedWord.TheVariants as places
-use Rattle.hwp_core_rule.specs.declared.Stamp.{Stamp}
-use Rattle.hwp_core_rule.specs.declared.State.{State}
-use Rattle.hwp_core_rule.specs.declared.Step.{Step}
-use Rattle.hwp_core_rule.specs.declared.Step.TheVariants as steps
-use Rattle.hwp_core_rule.specs.declared.View.{View}
+use Rattle.hwp_page.specs.hwp_geom.declared.FileNo.{FileNo}
+use Rattle.hwp_page.specs.hwp_geom.declared.Frame.{Frame}
+use Rattle.hwp_page.specs.hwp_geom.declared.Layout.{Layout}
+use Rattle.hwp_page.specs.hwp_geom.declared.Page.{Page}
+use Rattle.hwp_page.specs.hwp_geom.declared.Who.{Who}
+use Rattle.hwp_page.specs.declared.Entry.{Entry}
+use Rattle.hwp_page.specs.History.{BodyValue}
+use Rattle.hwp_page.specs.Losses.{is_loss, is_same_file}
+use Rattle.hwp_core_rule.specs.declared.view.InHand.{InHand}
+use Rattle.hwp_core_rule.specs.declared.log.Log.{Log}
+use Rattle.hwp_core_rule.specs.declared.view.Made.{Made}
+use Rattle.hwp_core_rule.specs.declared.shared_word.SharedWord.TheVariants as places
+use Rattle.hwp_core_rule.specs.declared.view.Stamp.{Stamp}
+use Rattle.hwp_core_rule.specs.declared.record.State.{State}
+use Rattle.hwp_core_rule.specs.declared.step.Step.{Step}
+use Rattle.hwp_core_rule.specs.declared.step.Step.TheVariants as steps
+use Rattle.hwp_core_rule.specs.declared.view.View.{View}
 use Rattle.hwp_core_rule.specs.Lists.{EachMember}
 use Rattle.hwp_core_rule.specs.Logs.{file_of}
 use Rattle.hwp_core_rule.specs.Rule.{Holds, losing_of}
@@ -34,9 +34,9 @@ use Rattle.hwp_core_rule.proofs.MoreEntries.{made-each}
 use Rattle.hwp_core_rule.proofs.MoveKeeps.{shaped}
 use Rattle.hwp_core_rule.proofs.WordsByKind.{word-there, words-read}
 use Rattle.hwp_core_rule.proofs.bounds.LossBounds.{own-losses}
-use Rattle.hwp_core_task.specs.Calls.{CanMake, Steps, logs}
-use Rattle.hwp_core_task.specs.Known.{Covers, HasSeenLoss, earlier_losses}
-use Rattle.hwp_core_task.proofs.MadeEntries.{Lists, frame-lists, kill-lists, loss-lists, made-kept, made-same, page-lists}
+use Rattle.hwp_core_rule.specs.Calls.{CanMake, Steps, logs}
+use Rattle.hwp_core_rule.specs.Known.{Covers, HasSeenLoss, earlier_losses}
+use Rattle.hwp_core_rule.proofs.MadeEntries.{Lists, frame-lists, kill-lists, loss-lists, made-kept, made-same, page-lists}
 
 -- what an entry counts for
 abbrev loss_before : Layout → FileNo → Who → Made → ℕ

@@ -1,30 +1,30 @@
 -- Which losses are owed after a step: those that were, where it lists no entry that is a loss.
 use Rattle.std.proofs.Common.{◌≡◌, ℕ, suc, ◌==◌, Bool, true, false, cond, List, [], ◌∷◌, ◌++◌, Option, Some, None, append-nil, refl, ap, ◌∙◌}
 use Rattle.std.specs.declared.snapshot.Snapshot.{Snapshot}
-use Rattle.hwp_core_rule.specs.hwp_geom.declared.FileNo.{FileNo}
-use Rattle.hwp_core_rule.specs.hwp_geom.declared.Frame.{Frame}
-use Rattle.hwp_core_rule.specs.hwp_geom.declared.Layout.{Layout}
-use Rattle.hwp_core_rule.specs.hwp_geom.declared.Page.{Page}
-use Rattle.hwp_core_rule.specs.hwp_geom.declared.Proc.{Proc}
-use Rattle.hwp_core_rule.specs.hwp_geom.declared.Who.{Who}
-use Rattle.hwp_core_rule.specs.hwp_page.declared.Entry.{Entry}
-use Rattle.hwp_core_rule.specs.hwp_page.History.{BodyValue}
-use Rattle.hwp_core_rule.specs.hwp_page.Losses.{is_loss}
-use Rattle.hwp_core_rule.specs.declared.Debts.{Debts}
-use Rattle.hwp_core_rule.specs.declared.InHand.{InHand}
-use Rattle.hwp_core_rule.specs.declared.Log.{Log}
-use Rattle.hwp_core_rule.specs.declared.SharedWord.{SharedWord}
-use Rattle.hwp_core_rule.specs.declared.SharedWord.TheVariants as places
-use Rattle.hwp_core_rule.specs.declared.Step.{Step}
-use Rattle.hwp_core_rule.specs.declared.Step.TheVariants as steps
-use Rattle.hwp_core_rule.specs.declared.View.{View}
+use Rattle.hwp_page.specs.hwp_geom.declared.FileNo.{FileNo}
+use Rattle.hwp_page.specs.hwp_geom.declared.Frame.{Frame}
+use Rattle.hwp_page.specs.hwp_geom.declared.Layout.{Layout}
+use Rattle.hwp_page.specs.hwp_geom.declared.Page.{Page}
+use Rattle.hwp_page.specs.hwp_geom.declared.Proc.{Proc}
+use Rattle.hwp_page.specs.hwp_geom.declared.Who.{Who}
+use Rattle.hwp_page.specs.declared.Entry.{Entry}
+use Rattle.hwp_page.specs.History.{BodyValue}
+use Rattle.hwp_page.specs.Losses.{is_loss}
+use Rattle.hwp_core_rule.specs.declared.view.Debts.{Debts}
+use Rattle.hwp_core_rule.specs.declared.view.InHand.{InHand}
+use Rattle.hwp_core_rule.specs.declared.log.Log.{Log}
+use Rattle.hwp_core_rule.specs.declared.shared_word.SharedWord.{SharedWord}
+use Rattle.hwp_core_rule.specs.declared.shared_word.SharedWord.TheVariants as places
+use Rattle.hwp_core_rule.specs.declared.step.Step.{Step}
+use Rattle.hwp_core_rule.specs.declared.step.Step.TheVariants as steps
+use Rattle.hwp_core_rule.specs.declared.view.View.{View}
 use Rattle.hwp_core_rule.specs.Lists.{EachMember}
 use Rattle.hwp_core_rule.specs.Logs.{file_of, log_of}
 use Rattle.hwp_core_rule.specs.Steps.{goes}
 use Rattle.hwp_core_rule.specs.Views.{body_of, killed_by, listed, listed_of, loaded, loss_made, losses_made, more_of, noted, owing_count, paying_count, sighted, taken, view_by}
-use Rattle.hwp_core_task.specs.Calls.{Steps}
-use Rattle.hwp_core_task.proofs.StepLeaves.{content_of}
-use Rattle.hwp_core_task.proofs.MadeEntries.{ListsNone, PutsNone}
+use Rattle.hwp_core_rule.specs.Calls.{Steps}
+use Rattle.hwp_core_rule.proofs.StepLeaves.{content_of}
+use Rattle.hwp_core_rule.proofs.MadeEntries.{ListsNone, PutsNone}
 
 -- ---- a step that lists no entry
 

@@ -1,10 +1,10 @@
 -- What a task tells by its class.
 use Rattle.std.specs.Prelude.{◌≡◌, ◌≢◌, ℕ, ◌≤◌, Some, None}
-use Rattle.hwp_core_rule.specs.hwp_geom.declared.Frame.{Frame}
-use Rattle.hwp_core_rule.specs.hwp_geom.declared.Layout.{Layout}
-use Rattle.hwp_core_rule.specs.declared.View.{View}
-use Rattle.hwp_core_task.specs.Turns.{Member}
-use Rattle.hwp_core_task.specs.Ranks.{HasFrame, HasPage, IsRanked, PaysRevival}
+use Rattle.hwp_page.specs.hwp_geom.declared.Frame.{Frame}
+use Rattle.hwp_page.specs.hwp_geom.declared.Layout.{Layout}
+use Rattle.hwp_core_rule.specs.declared.view.View.{View}
+use Rattle.hwp_core_rule.specs.Turns.{Member}
+use Rattle.hwp_core_rule.specs.Ranks.{HasFrame, HasPage, IsRanked, PaysRevival}
 
 -- A task whose processor has a frame's lock, a frame in hand or a reservation is of class 1; where it has a page's lock, of
 -- class 1 or 2; and a task that claims a failure is of class 1 to 3. None of these is over.

@@ -6,26 +6,26 @@ use Rattle.std.proofs.lemmas.Bool.{both_ways, cases_lt, lt-ltb, le-ltb, eqb-true
 use Rattle.std.proofs.lemmas.List.{get_or-set_same, get_or-set_other, get_or_past, length-set}
 use Rattle.std.proofs.lemmas.List.Sums.{sum_by-cons}
 use Rattle.std.proofs.lemmas.Option.{same_Some, slice_get-get_or}
-use Rattle.hwp_core_rule.specs.hwp_geom.declared.Damage.TheVariants as damages
-use Rattle.hwp_core_rule.specs.hwp_geom.declared.Frame.{Frame}
-use Rattle.hwp_core_rule.specs.hwp_geom.declared.Layout.{Layout}
-use Rattle.hwp_core_rule.specs.hwp_geom.declared.Who.{Who}
-use Rattle.hwp_core_rule.specs.hwp_geom.Limits.{frame_limit}
-use Rattle.hwp_core_rule.specs.hwp_words.Frames.{lock_of, poison_of, handled_of, cycle_of, is_poisoned, is_kernel, handled_bit}
-use Rattle.hwp_core_rule.proofs.of_hwp_words.FieldLaws.{field-xor, field-xor_other}
-use Rattle.hwp_core_rule.proofs.of_hwp_words.FrameSteps.{fields-lock, fields-unlock, fields-poison}
-use Rattle.hwp_core_rule.specs.declared.FrameLock.{FrameLock}
-use Rattle.hwp_core_rule.specs.declared.InHand.{InHand}
-use Rattle.hwp_core_rule.specs.declared.Log.{Log}
-use Rattle.hwp_core_rule.specs.declared.Mark.{Mark}
-use Rattle.hwp_core_rule.specs.declared.SharedWord.{SharedWord}
-use Rattle.hwp_core_rule.specs.declared.SharedWord.TheVariants as places
-use Rattle.hwp_core_rule.specs.declared.Rec.{Rec}
-use Rattle.hwp_core_rule.specs.declared.Sight.{Sight}
-use Rattle.hwp_core_rule.specs.declared.State.{State}
-use Rattle.hwp_core_rule.specs.declared.Step.{Step}
-use Rattle.hwp_core_rule.specs.declared.Step.TheVariants as steps
-use Rattle.hwp_core_rule.specs.declared.View.{View}
+use Rattle.hwp_page.specs.hwp_geom.declared.Damage.TheVariants as damages
+use Rattle.hwp_page.specs.hwp_geom.declared.Frame.{Frame}
+use Rattle.hwp_page.specs.hwp_geom.declared.Layout.{Layout}
+use Rattle.hwp_page.specs.hwp_geom.declared.Who.{Who}
+use Rattle.hwp_page.specs.hwp_geom.Limits.{frame_limit}
+use Rattle.hwp_words.specs.Frames.{lock_of, poison_of, handled_of, cycle_of, is_poisoned, is_kernel, handled_bit}
+use Rattle.hwp_words.proofs.FieldLaws.{field-xor, field-xor_other}
+use Rattle.hwp_words.proofs.FrameSteps.{fields-lock, fields-unlock, fields-poison}
+use Rattle.hwp_core_rule.specs.declared.view.FrameLock.{FrameLock}
+use Rattle.hwp_core_rule.specs.declared.view.InHand.{InHand}
+use Rattle.hwp_core_rule.specs.declared.log.Log.{Log}
+use Rattle.hwp_core_rule.specs.declared.view.Mark.{Mark}
+use Rattle.hwp_core_rule.specs.declared.shared_word.SharedWord.{SharedWord}
+use Rattle.hwp_core_rule.specs.declared.shared_word.SharedWord.TheVariants as places
+use Rattle.hwp_core_rule.specs.declared.record.Rec.{Rec}
+use Rattle.hwp_core_rule.specs.declared.view.Sight.{Sight}
+use Rattle.hwp_core_rule.specs.declared.record.State.{State}
+use Rattle.hwp_core_rule.specs.declared.step.Step.{Step}
+use Rattle.hwp_core_rule.specs.declared.step.Step.TheVariants as steps
+use Rattle.hwp_core_rule.specs.declared.view.View.{View}
 use Rattle.hwp_core_rule.specs.Asks.{AsksOf, CanRetire, HasInHand}
 use Rattle.hwp_core_rule.specs.Moves.{Move}
 use Rattle.hwp_core_rule.specs.Rule.{Holds}
@@ -40,7 +40,7 @@ use Rattle.hwp_core_rule.proofs.Lists.{same-or, keep, at_map}
 use Rattle.hwp_core_rule.proofs.MetWords.{hand-bare}
 use Rattle.hwp_core_rule.proofs.MoveKeeps.{shaped}
 use Rattle.hwp_core_rule.proofs.WordsByKind.{same-put, words-read, words-put}
-use Rattle.hwp_core_task.specs.Ranks.{Pending, failure_room, failures_left, words_at}
+use Rattle.hwp_core_rule.specs.Ranks.{Pending, failure_room, failures_left, words_at}
 
 -- ---- the marks
 

@@ -1,6 +1,6 @@
 ghost use Rattle.std.specs.Prelude.{◌≡◌, ◌↔◌, IsTrue, Option, Some, None};
-ghost use Rattle.hwp_core_task.specs.Ranks.{PaysRevival};
-ghost use Rattle.hwp_core_task.specs.Classes.{TellsClass};
+ghost use Rattle.hwp_core_rule.specs.Ranks.{PaysRevival};
+ghost use Rattle.hwp_core_rule.specs.Classes.{TellsClass};
 
 use crate::ranked::Ranked;
 

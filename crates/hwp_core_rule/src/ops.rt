@@ -1,10 +1,11 @@
 ghost use Rattle.std.specs.Prelude.{◌≡◌};
-ghost use Rattle.hwp_core_rule.specs.hwp_geom.declared.Layout.{Layout as LayoutOf};
-ghost use Rattle.hwp_core_rule.specs.declared.Rec.{Rec};
-ghost use Rattle.hwp_core_rule.specs.declared.View.{View};
-ghost use Rattle.hwp_core_task.specs.Calls.{CanMake, Steps, logs, rec_of};
+ghost use Rattle.hwp_page.specs.hwp_geom.declared.Layout.{Layout as LayoutOf};
+ghost use Rattle.hwp_core_rule.specs.declared.record.Rec.{Rec};
+ghost use Rattle.hwp_core_rule.specs.declared.view.View.{View};
+ghost use Rattle.hwp_core_rule.specs.Calls.{CanMake, Steps, logs, rec_of};
 
-use hwp_core_rule::{Body, Layout, Step, Who};
+use crate::step::Step;
+use hwp_page::{Body, Layout, Who};
 
 /// What a step met: the word that it found, and the body of the slot whose lock it took.
 #[derive(Drop)]

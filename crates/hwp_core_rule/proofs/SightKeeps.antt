@@ -2,27 +2,27 @@
 use Rattle.std.proofs.Common.{◌≡◌, ◌⊎◌, ℕ, ◌+◌, ◌<◌, ◌≤◌, ◌==◌, min, not, Bool, true, false, cond, List, [], ◌∷◌, ◌++◌, Option, Some, None, bit_and, length, option_map, slice_get, inl, inr, refl, sym, ap, ◌∙◌, subst, arith}
 use Rattle.std.specs.Int.{bit_at}
 use Rattle.std.proofs.lemmas.Nat.Bits.{bit_at_and, same_from_bits}
-use Rattle.hwp_core_rule.specs.hwp_geom.declared.FileNo.{FileNo}
-use Rattle.hwp_core_rule.specs.hwp_geom.declared.Frame.{Frame}
-use Rattle.hwp_core_rule.specs.hwp_geom.declared.Layout.{Layout}
-use Rattle.hwp_core_rule.specs.hwp_geom.declared.Page.{Page}
-use Rattle.hwp_core_rule.specs.hwp_geom.declared.Who.{Who}
-use Rattle.hwp_core_rule.specs.hwp_page.declared.PageState.{PageState}
-use Rattle.hwp_core_rule.specs.hwp_page.History.{BodyValue}
-use Rattle.hwp_core_rule.specs.hwp_words.Frames.{is_locked}
-use Rattle.hwp_core_rule.specs.hwp_words.Stops.{is_stopped}
-use Rattle.hwp_core_rule.specs.declared.FrameLock.{FrameLock}
-use Rattle.hwp_core_rule.specs.declared.InHand.{InHand}
-use Rattle.hwp_core_rule.specs.declared.Length.{Length}
-use Rattle.hwp_core_rule.specs.declared.Log.{Log}
-use Rattle.hwp_core_rule.specs.declared.PageLock.{PageLock}
-use Rattle.hwp_core_rule.specs.declared.SharedWord.{SharedWord}
-use Rattle.hwp_core_rule.specs.declared.SharedWord.TheVariants as places
-use Rattle.hwp_core_rule.specs.declared.Sight.{Sight}
-use Rattle.hwp_core_rule.specs.declared.State.{State}
-use Rattle.hwp_core_rule.specs.declared.Step.{Step}
-use Rattle.hwp_core_rule.specs.declared.Step.TheVariants as steps
-use Rattle.hwp_core_rule.specs.declared.View.{View}
+use Rattle.hwp_page.specs.hwp_geom.declared.FileNo.{FileNo}
+use Rattle.hwp_page.specs.hwp_geom.declared.Frame.{Frame}
+use Rattle.hwp_page.specs.hwp_geom.declared.Layout.{Layout}
+use Rattle.hwp_page.specs.hwp_geom.declared.Page.{Page}
+use Rattle.hwp_page.specs.hwp_geom.declared.Who.{Who}
+use Rattle.hwp_page.specs.declared.PageState.{PageState}
+use Rattle.hwp_page.specs.History.{BodyValue}
+use Rattle.hwp_words.specs.Frames.{is_locked}
+use Rattle.hwp_words.specs.Stops.{is_stopped}
+use Rattle.hwp_core_rule.specs.declared.view.FrameLock.{FrameLock}
+use Rattle.hwp_core_rule.specs.declared.view.InHand.{InHand}
+use Rattle.hwp_core_rule.specs.declared.view.Length.{Length}
+use Rattle.hwp_core_rule.specs.declared.log.Log.{Log}
+use Rattle.hwp_core_rule.specs.declared.view.PageLock.{PageLock}
+use Rattle.hwp_core_rule.specs.declared.shared_word.SharedWord.{SharedWord}
+use Rattle.hwp_core_rule.specs.declared.shared_word.SharedWord.TheVariants as places
+use Rattle.hwp_core_rule.specs.declared.view.Sight.{Sight}
+use Rattle.hwp_core_rule.specs.declared.record.State.{State}
+use Rattle.hwp_core_rule.specs.declared.step.Step.{Step}
+use Rattle.hwp_core_rule.specs.declared.step.Step.TheVariants as steps
+use Rattle.hwp_core_rule.specs.declared.view.View.{View}
 use Rattle.hwp_core_rule.specs.Lists.{SomeMember}
 use Rattle.hwp_core_rule.specs.Logs.{log_of}
 use Rattle.hwp_core_rule.specs.Rule.{Holds}
@@ -32,10 +32,10 @@ use Rattle.hwp_core_rule.specs.Views.{adopting, body_of, listed_of, lock_found, 
 use Rattle.hwp_core_rule.specs.Words.{words_of}
 use Rattle.hwp_core_rule.proofs.Lists.{at_map, some-push, some-last}
 use Rattle.hwp_core_rule.proofs.MetWords.{free-word, on-shelf}
-use Rattle.hwp_core_task.specs.Calls.{Steps}
-use Rattle.hwp_core_task.proofs.StepLeaves.{brought, content_of, was-home}
-use Rattle.hwp_core_task.specs.Known.{HasSeenLoss, IsAdoption, IsLook, IsMet, IsShown, Saw, SawAdopted, SawBadOf, SawLog, SawStop}
-use Rattle.hwp_core_task.specs.Pages.{SawState}
+use Rattle.hwp_core_rule.specs.Calls.{Steps}
+use Rattle.hwp_core_rule.proofs.StepLeaves.{brought, content_of, was-home}
+use Rattle.hwp_core_rule.specs.Known.{HasSeenLoss, IsAdoption, IsLook, IsMet, IsShown, Saw, SawAdopted, SawBadOf, SawLog, SawStop}
+use Rattle.hwp_core_rule.specs.Pages.{SawState}
 
 -- every sight and every history that was seen stays
 pub record Grows (v x : View) : Type 1 where

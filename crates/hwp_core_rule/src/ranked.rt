@@ -1,5 +1,5 @@
 ghost use Rattle.std.specs.Prelude.{◌≡◌};
-ghost use Rattle.hwp_core_task.specs.Ranks.{IsRanked};
+ghost use Rattle.hwp_core_rule.specs.Ranks.{IsRanked};
 
 use crate::task::Task;
 

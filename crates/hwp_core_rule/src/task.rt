@@ -1,8 +1,9 @@
 ghost use Rattle.std.specs.Prelude.{◌≡◌};
-ghost use Rattle.hwp_core_task.specs.Turns.{IsTask, Member};
+ghost use Rattle.hwp_core_rule.specs.Turns.{IsTask, Member};
 
+use crate::step::Step;
 use crate::turn::Turn;
-use hwp_core_rule::{Body, Layout, Step, Who};
+use hwp_page::{Body, Layout, Who};
 
 /// A task: which step comes, and what follows from the word and the body that it met. It is data; `advance` makes its steps.
 pub trait Task {

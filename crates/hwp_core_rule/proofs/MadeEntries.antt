@@ -6,25 +6,25 @@ use Rattle.std.proofs.lemmas.List.{append_assoc}
 use Rattle.std.proofs.lemmas.List.Elements.{filter-append}
 use Rattle.std.proofs.lemmas.Option.{none-some, same_Some}
 use Rattle.std.specs.declared.snapshot.Snapshot.{Snapshot}
-use Rattle.hwp_core_rule.specs.hwp_geom.declared.FileNo.{FileNo}
-use Rattle.hwp_core_rule.specs.hwp_geom.declared.Frame.{Frame}
-use Rattle.hwp_core_rule.specs.hwp_geom.declared.Layout.{Layout}
-use Rattle.hwp_core_rule.specs.hwp_geom.declared.Page.{Page}
-use Rattle.hwp_core_rule.specs.hwp_geom.declared.Proc.{Proc}
-use Rattle.hwp_core_rule.specs.hwp_geom.declared.Who.{Who}
-use Rattle.hwp_core_rule.specs.hwp_page.declared.Entry.{Entry}
-use Rattle.hwp_core_rule.specs.hwp_page.declared.What.{What}
-use Rattle.hwp_core_rule.specs.hwp_page.History.{BodyValue}
-use Rattle.hwp_core_rule.specs.declared.InHand.{InHand}
-use Rattle.hwp_core_rule.specs.declared.Log.{Log}
-use Rattle.hwp_core_rule.specs.declared.Made.{Made}
-use Rattle.hwp_core_rule.specs.declared.SharedWord.{SharedWord}
-use Rattle.hwp_core_rule.specs.declared.SharedWord.TheVariants as places
-use Rattle.hwp_core_rule.specs.declared.Stamp.{Stamp}
-use Rattle.hwp_core_rule.specs.declared.State.{State}
-use Rattle.hwp_core_rule.specs.declared.Step.{Step}
-use Rattle.hwp_core_rule.specs.declared.Step.TheVariants as steps
-use Rattle.hwp_core_rule.specs.declared.View.{View}
+use Rattle.hwp_page.specs.hwp_geom.declared.FileNo.{FileNo}
+use Rattle.hwp_page.specs.hwp_geom.declared.Frame.{Frame}
+use Rattle.hwp_page.specs.hwp_geom.declared.Layout.{Layout}
+use Rattle.hwp_page.specs.hwp_geom.declared.Page.{Page}
+use Rattle.hwp_page.specs.hwp_geom.declared.Proc.{Proc}
+use Rattle.hwp_page.specs.hwp_geom.declared.Who.{Who}
+use Rattle.hwp_page.specs.declared.Entry.{Entry}
+use Rattle.hwp_page.specs.declared.What.{What}
+use Rattle.hwp_page.specs.History.{BodyValue}
+use Rattle.hwp_core_rule.specs.declared.view.InHand.{InHand}
+use Rattle.hwp_core_rule.specs.declared.log.Log.{Log}
+use Rattle.hwp_core_rule.specs.declared.view.Made.{Made}
+use Rattle.hwp_core_rule.specs.declared.shared_word.SharedWord.{SharedWord}
+use Rattle.hwp_core_rule.specs.declared.shared_word.SharedWord.TheVariants as places
+use Rattle.hwp_core_rule.specs.declared.view.Stamp.{Stamp}
+use Rattle.hwp_core_rule.specs.declared.record.State.{State}
+use Rattle.hwp_core_rule.specs.declared.step.Step.{Step}
+use Rattle.hwp_core_rule.specs.declared.step.Step.TheVariants as steps
+use Rattle.hwp_core_rule.specs.declared.view.View.{View}
 use Rattle.hwp_core_rule.specs.Lists.{EachMember}
 use Rattle.hwp_core_rule.specs.Logs.{log_of}
 use Rattle.hwp_core_rule.specs.Rule.{Holds}
@@ -33,9 +33,9 @@ use Rattle.hwp_core_rule.specs.Views.{body_of, killed_by, listed, listed_of, loa
 use Rattle.hwp_core_rule.specs.parts.Holdings.{IsPast}
 use Rattle.hwp_core_rule.proofs.Lists.{each-push, same-number}
 use Rattle.hwp_core_rule.proofs.MoreEntries.{each-append, made-each}
-use Rattle.hwp_core_task.specs.Calls.{CanMake, IsLater, Steps, logs}
-use Rattle.hwp_core_task.proofs.StepLeaves.{content_of}
-use Rattle.hwp_core_task.specs.Known.{IsAt, HasMade, HasMadeBeside, HasMadeNone, HasMadeNoneBeside, HasOnly, HasOnlyBeside, deeds, is_by, such_deeds}
+use Rattle.hwp_core_rule.specs.Calls.{CanMake, IsLater, Steps, logs}
+use Rattle.hwp_core_rule.proofs.StepLeaves.{content_of}
+use Rattle.hwp_core_rule.specs.Known.{IsAt, HasMade, HasMadeBeside, HasMadeNone, HasMadeNoneBeside, HasOnly, HasOnlyBeside, deeds, is_by, such_deeds}
 
 -- ---- a step that puts no body
 

@@ -1,22 +1,22 @@
 -- The law by which tasks come to an end: each turn lowers a task's cost, or waits for what another processor holds.
 use Rattle.std.specs.Prelude.{◌≡◌, ◌≢◌, ℕ, ◌+◌, ◌-◌, ◌*◌, ◌^◌, ◌<◌, ◌≤◌, ◌⊎◌, Bool, true, false, cond, [], Option, Some, None, slice_index}
 use Rattle.std.specs.List.{sum_by}
-use Rattle.hwp_core_rule.specs.hwp_geom.declared.Frame.{Frame}
-use Rattle.hwp_core_rule.specs.hwp_geom.declared.Layout.{Layout}
-use Rattle.hwp_core_rule.specs.hwp_page.History.{BodyValue}
-use Rattle.hwp_core_rule.specs.hwp_words.Frames.{is_poisoned, is_handled, is_kernel, poison_of, handled_of, cycle_of}
-use Rattle.hwp_core_rule.specs.declared.State.{State}
-use Rattle.hwp_core_rule.specs.declared.Step.{Step}
-use Rattle.hwp_core_rule.specs.declared.View.{View}
+use Rattle.hwp_page.specs.hwp_geom.declared.Frame.{Frame}
+use Rattle.hwp_page.specs.hwp_geom.declared.Layout.{Layout}
+use Rattle.hwp_page.specs.History.{BodyValue}
+use Rattle.hwp_words.specs.Frames.{is_poisoned, is_handled, is_kernel, poison_of, handled_of, cycle_of}
+use Rattle.hwp_core_rule.specs.declared.record.State.{State}
+use Rattle.hwp_core_rule.specs.declared.step.Step.{Step}
+use Rattle.hwp_core_rule.specs.declared.view.View.{View}
 use Rattle.hwp_core_rule.specs.Moves.{Move}
 use Rattle.hwp_core_rule.specs.Rule.{Holds}
 use Rattle.hwp_core_rule.specs.Lasting.{LeavesPoison, IsMild}
 use Rattle.hwp_core_rule.specs.Words.{Words, words_of}
-use Rattle.hwp_core_task.specs.declared.turn.Turn.{Turn}
-use Rattle.hwp_core_task.specs.declared.turn.Turn.TheVariants as turns
-use Rattle.hwp_core_task.specs.Boards.{view_of}
-use Rattle.hwp_core_task.specs.Calls.{Brings, logs, rec_of}
-use Rattle.hwp_core_task.specs.Turns.{Member}
+use Rattle.hwp_core_rule.specs.declared.turn.Turn.{Turn}
+use Rattle.hwp_core_rule.specs.declared.turn.Turn.TheVariants as turns
+use Rattle.hwp_core_rule.specs.Boards.{view_of}
+use Rattle.hwp_core_rule.specs.Calls.{Brings, logs, rec_of}
+use Rattle.hwp_core_rule.specs.Turns.{Member}
 
 -- the turn waits for what another processor holds
 abbrev pub is_waits : Turn → Bool

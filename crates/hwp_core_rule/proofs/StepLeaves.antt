@@ -3,19 +3,19 @@ use Rattle.std.proofs.Common.{◌≡◌, ℕ, ◌==◌, Bool, true, false, cond,
 use Rattle.std.proofs.lemmas.Bool.{both_ways}
 use Rattle.std.proofs.lemmas.Option.{none-some, same_Some}
 use Rattle.std.specs.List.{find}
-use Rattle.hwp_core_rule.specs.hwp_geom.declared.Layout.{Layout}
-use Rattle.hwp_core_rule.specs.hwp_geom.declared.Who.{Who}
-use Rattle.hwp_core_rule.specs.hwp_page.History.{BodyValue}
-use Rattle.hwp_core_rule.specs.declared.FrameLock.{FrameLock}
-use Rattle.hwp_core_rule.specs.declared.InHand.{InHand}
-use Rattle.hwp_core_rule.specs.declared.Log.{Log}
-use Rattle.hwp_core_rule.specs.declared.PageLock.{PageLock}
-use Rattle.hwp_core_rule.specs.declared.SharedWord.{SharedWord}
-use Rattle.hwp_core_rule.specs.declared.SharedWord.TheVariants as places
-use Rattle.hwp_core_rule.specs.declared.Rec.{Rec}
-use Rattle.hwp_core_rule.specs.declared.Step.{Step}
-use Rattle.hwp_core_rule.specs.declared.Step.TheVariants as steps
-use Rattle.hwp_core_rule.specs.declared.View.{View}
+use Rattle.hwp_page.specs.hwp_geom.declared.Layout.{Layout}
+use Rattle.hwp_page.specs.hwp_geom.declared.Who.{Who}
+use Rattle.hwp_page.specs.History.{BodyValue}
+use Rattle.hwp_core_rule.specs.declared.view.FrameLock.{FrameLock}
+use Rattle.hwp_core_rule.specs.declared.view.InHand.{InHand}
+use Rattle.hwp_core_rule.specs.declared.log.Log.{Log}
+use Rattle.hwp_core_rule.specs.declared.view.PageLock.{PageLock}
+use Rattle.hwp_core_rule.specs.declared.shared_word.SharedWord.{SharedWord}
+use Rattle.hwp_core_rule.specs.declared.shared_word.SharedWord.TheVariants as places
+use Rattle.hwp_core_rule.specs.declared.record.Rec.{Rec}
+use Rattle.hwp_core_rule.specs.declared.step.Step.{Step}
+use Rattle.hwp_core_rule.specs.declared.step.Step.TheVariants as steps
+use Rattle.hwp_core_rule.specs.declared.view.View.{View}
 use Rattle.hwp_core_rule.specs.Asks.{AsksOf, BeginsBare, IsTurnOf}
 use Rattle.hwp_core_rule.specs.Logs.{log_of}
 use Rattle.hwp_core_rule.specs.Lists.{Homes}
@@ -24,8 +24,8 @@ use Rattle.hwp_core_rule.specs.Steps.{goes, place_of}
 use Rattle.hwp_core_rule.specs.Views.{without, changed, is_lock_of, is_page_lock_of, lock_found, lock_of_page, noted, view_by, is_body_of, loaded, taken, listed_of, listed, put_home}
 use Rattle.hwp_core_rule.specs.Words.{IsPlace}
 use Rattle.hwp_core_rule.proofs.KeptTurns.{begun-after, none-later-after, turn-after}
-use Rattle.hwp_core_task.specs.Calls.{CanMake, FitsLayout, GoesHome, Steps, IsOnTurn, IsLater, logs, rec_of}
-use Rattle.hwp_core_task.specs.Hands.{Hand, hand_of, hand_after, taking, listing_of, listing, putting, loading, killing}
+use Rattle.hwp_core_rule.specs.Calls.{CanMake, FitsLayout, GoesHome, Steps, IsOnTurn, IsLater, logs, rec_of}
+use Rattle.hwp_core_rule.specs.Hands.{Hand, hand_of, hand_after, taking, listing_of, listing, putting, loading, killing}
 
 -- a step of the processor leaves it its turn
 pub on-turn-after : {layout : Layout} {who : Who} {step : Step} {put : Option Log} {old new : View} {found : ℕ} {got : Option BodyValue} → IsOnTurn old who → Steps layout who step put old new found got → IsOnTurn new who

@@ -3,23 +3,23 @@
 use Rattle.std.specs.Prelude.{◌≡◌, ◌⊎◌, ℕ, ◌+◌, ◌≤◌, ◌==◌, nat_lt, ◌&&◌, Bool, true, false, cond, List, [], ◌∷◌, ◌++◌, Some, filter}
 use Rattle.std.specs.Int.{from_bool}
 use Rattle.std.specs.List.{sum_by}
-use Rattle.hwp_core_rule.specs.hwp_geom.declared.FileNo.{FileNo}
-use Rattle.hwp_core_rule.specs.hwp_geom.declared.Frame.{Frame}
-use Rattle.hwp_core_rule.specs.hwp_geom.declared.Layout.{Layout}
-use Rattle.hwp_core_rule.specs.hwp_geom.declared.Page.{Page}
-use Rattle.hwp_core_rule.specs.hwp_geom.declared.VSlot.{VSlot}
-use Rattle.hwp_core_rule.specs.hwp_geom.declared.Who.{Who}
-use Rattle.hwp_core_rule.specs.hwp_page.declared.What.{What}
-use Rattle.hwp_core_rule.specs.hwp_page.declared.What.TheVariants as entries
-use Rattle.hwp_core_rule.specs.hwp_page.Losses.{is_loss, is_same_file}
-use Rattle.hwp_core_rule.specs.hwp_words.Stops.{is_stopped}
-use Rattle.hwp_core_rule.specs.declared.Length.{Length}
-use Rattle.hwp_core_rule.specs.declared.Log.{Log}
-use Rattle.hwp_core_rule.specs.declared.Made.{Made}
-use Rattle.hwp_core_rule.specs.declared.SharedWord.{SharedWord}
-use Rattle.hwp_core_rule.specs.declared.SharedWord.TheVariants as places
-use Rattle.hwp_core_rule.specs.declared.Sight.{Sight}
-use Rattle.hwp_core_rule.specs.declared.View.{View}
+use Rattle.hwp_page.specs.hwp_geom.declared.FileNo.{FileNo}
+use Rattle.hwp_page.specs.hwp_geom.declared.Frame.{Frame}
+use Rattle.hwp_page.specs.hwp_geom.declared.Layout.{Layout}
+use Rattle.hwp_page.specs.hwp_geom.declared.Page.{Page}
+use Rattle.hwp_page.specs.hwp_geom.declared.VSlot.{VSlot}
+use Rattle.hwp_page.specs.hwp_geom.declared.Who.{Who}
+use Rattle.hwp_page.specs.declared.What.{What}
+use Rattle.hwp_page.specs.declared.What.TheVariants as entries
+use Rattle.hwp_page.specs.Losses.{is_loss, is_same_file}
+use Rattle.hwp_words.specs.Stops.{is_stopped}
+use Rattle.hwp_core_rule.specs.declared.view.Length.{Length}
+use Rattle.hwp_core_rule.specs.declared.log.Log.{Log}
+use Rattle.hwp_core_rule.specs.declared.view.Made.{Made}
+use Rattle.hwp_core_rule.specs.declared.shared_word.SharedWord.{SharedWord}
+use Rattle.hwp_core_rule.specs.declared.shared_word.SharedWord.TheVariants as places
+use Rattle.hwp_core_rule.specs.declared.view.Sight.{Sight}
+use Rattle.hwp_core_rule.specs.declared.view.View.{View}
 use Rattle.hwp_core_rule.specs.Lists.{EachMember, SomeMember}
 use Rattle.hwp_core_rule.specs.Logs.{file_of}
 

@@ -1,13 +1,13 @@
 -- A step of a task, made for the task's own command and body.
 use Rattle.std.proofs.Common.{◌≡◌, ℕ, Option, Some, sym, subst}
-use Rattle.hwp_core_rule.specs.hwp_geom.declared.Layout.{Layout}
-use Rattle.hwp_core_rule.specs.hwp_geom.declared.Who.{Who}
-use Rattle.hwp_core_rule.specs.hwp_page.History.{BodyValue}
-use Rattle.hwp_core_rule.specs.declared.Step.{Step}
-use Rattle.hwp_core_rule.specs.declared.View.{View}
-use Rattle.hwp_core_task.specs.declared.turn.Turn.{Turn}
-use Rattle.hwp_core_task.specs.Calls.{CanMake, Steps, logs}
-use Rattle.hwp_core_task.specs.Turns.{IsTask, Member}
+use Rattle.hwp_page.specs.hwp_geom.declared.Layout.{Layout}
+use Rattle.hwp_page.specs.hwp_geom.declared.Who.{Who}
+use Rattle.hwp_page.specs.History.{BodyValue}
+use Rattle.hwp_core_rule.specs.declared.step.Step.{Step}
+use Rattle.hwp_core_rule.specs.declared.view.View.{View}
+use Rattle.hwp_core_rule.specs.declared.turn.Turn.{Turn}
+use Rattle.hwp_core_rule.specs.Calls.{CanMake, Steps, logs}
+use Rattle.hwp_core_rule.specs.Turns.{IsTask, Member}
 
 pub can-of : {layout : Layout} {view : View} {step : Step} {who other : Who} {put given : Option BodyValue} → other ≡ who → given ≡ put → CanMake layout who step put view → CanMake layout other step given view
 can-of {layout} {view} {step} {who} {other} {put} {given} own is can =

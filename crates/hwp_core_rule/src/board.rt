@@ -1,13 +1,13 @@
 ghost use Rattle.std.specs.Prelude.{◌≡◌, ◌≢◌, ℕ, ◌<◌, List};
-ghost use Rattle.hwp_core_rule.specs.hwp_geom.declared.Cpu.{Cpu as CpuOf};
-ghost use Rattle.hwp_core_rule.specs.hwp_geom.declared.Layout.{Layout};
-ghost use Rattle.hwp_core_rule.specs.declared.State.{State};
+ghost use Rattle.hwp_page.specs.hwp_geom.declared.Cpu.{Cpu as CpuOf};
+ghost use Rattle.hwp_page.specs.hwp_geom.declared.Layout.{Layout};
+ghost use Rattle.hwp_core_rule.specs.declared.record.State.{State};
 ghost use Rattle.hwp_core_rule.specs.Rule.{Holds};
-ghost use Rattle.hwp_core_task.specs.Boards.{Played, view_of, AreSeated, TakesTurn};
+ghost use Rattle.hwp_core_rule.specs.Boards.{Played, view_of, AreSeated, TakesTurn};
 
 use crate::task::Task;
 use crate::turn::Turn;
-use hwp_core_rule::{Cpu, Kind};
+use hwp_page::{Cpu, Kind};
 
 /// A machine on which the tasks of its processors advance, turn by turn.
 pub trait Board {

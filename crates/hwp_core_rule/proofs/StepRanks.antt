@@ -2,14 +2,14 @@
 use Rattle.std.proofs.Common.{◌≡◌, ◌≢◌, ℕ, ◌<◌, ◌≤◌, ◌⊎◌, inl, inr, Bool, true, false, List, [], ◌∷◌, Some, None, slice_get, refl, sym, ap, ◌∙◌, subst, arith}
 use Rattle.std.proofs.lemmas.Bool.{both_ways}
 use Rattle.std.proofs.lemmas.Option.{get_or_from_slice_get, none-some, same_Some}
-use Rattle.hwp_core_rule.specs.hwp_geom.declared.Frame.{Frame}
-use Rattle.hwp_core_rule.specs.hwp_geom.declared.Layout.{Layout}
-use Rattle.hwp_core_rule.specs.hwp_geom.declared.Who.{Who}
-use Rattle.hwp_core_rule.proofs.of_hwp_geom.WordLaws.{not_nil}
-use Rattle.hwp_core_rule.specs.hwp_words.Frames.{poison_of}
-use Rattle.hwp_core_rule.specs.declared.State.{State}
-use Rattle.hwp_core_rule.specs.declared.Step.TheVariants as steps
-use Rattle.hwp_core_rule.specs.declared.View.{View}
+use Rattle.hwp_page.specs.hwp_geom.declared.Frame.{Frame}
+use Rattle.hwp_page.specs.hwp_geom.declared.Layout.{Layout}
+use Rattle.hwp_page.specs.hwp_geom.declared.Who.{Who}
+use Rattle.hwp_page.proofs.of_hwp_geom.WordLaws.{not_nil}
+use Rattle.hwp_words.specs.Frames.{poison_of}
+use Rattle.hwp_core_rule.specs.declared.record.State.{State}
+use Rattle.hwp_core_rule.specs.declared.step.Step.TheVariants as steps
+use Rattle.hwp_core_rule.specs.declared.view.View.{View}
 use Rattle.hwp_core_rule.specs.Lists.{EachMember}
 use Rattle.hwp_core_rule.specs.Moves.{Move}
 use Rattle.hwp_core_rule.specs.Opening.{opening_view}
@@ -20,12 +20,12 @@ use Rattle.hwp_core_rule.specs.Views.{view_after}
 use Rattle.hwp_core_rule.specs.Words.{read, put}
 use Rattle.hwp_core_rule.proofs.Lists.{same-or}
 use Rattle.hwp_core_rule.proofs.WordsByKind.{same-put}
-use Rattle.hwp_core_task.specs.declared.turn.Turn.{Turn}
-use Rattle.hwp_core_task.specs.Boards.{view_of}
-use Rattle.hwp_core_task.specs.Calls.{Steps, logs, rec_of}
-use Rattle.hwp_core_task.specs.Turns.{Member}
-use Rattle.hwp_core_task.specs.Ranks.{Made, CostFalls, HasFailed, IsRanked, Pending, PlansMild, Quiet, failure_weight, failures_left, is_waits, top, words_at}
-use Rattle.hwp_core_task.proofs.Failures.{read-moved, words-moved, pending-moved, failures-moved, poison-lowers, retire-lowers}
+use Rattle.hwp_core_rule.specs.declared.turn.Turn.{Turn}
+use Rattle.hwp_core_rule.specs.Boards.{view_of}
+use Rattle.hwp_core_rule.specs.Calls.{Steps, logs, rec_of}
+use Rattle.hwp_core_rule.specs.Turns.{Member}
+use Rattle.hwp_core_rule.specs.Ranks.{Made, CostFalls, HasFailed, IsRanked, Pending, PlansMild, Quiet, failure_weight, failures_left, is_waits, top, words_at}
+use Rattle.hwp_core_rule.proofs.Failures.{read-moved, words-moved, pending-moved, failures-moved, poison-lowers, retire-lowers}
 
 module _ {S : Type 0} {m : Member S} {layout : Layout} {seat : ℕ} {a b : State} {s t : S} {turn : Turn} (made : Made m layout seat a b s t turn) where
   -- what the seat knows
