@@ -6,7 +6,7 @@ ghost use Rattle.hwp_claim.specs.Fails.{begin, answer, after_act, AfterClaim, Is
 use hwp_claim_act::Act;
 use hwp_claim_frame::{
     At, Body, Claim, ClaimAnswer, Frame, Layout, Ranked, Scheduled, Situation, Step, Task, Thread,
-    Turn, Who,
+    Turn, Who, let_go_of,
 };
 use std::alloc::Global;
 use std::mem;
@@ -101,11 +101,6 @@ impl Fail {
             FailAt::Claim { .. } | FailAt::Act { .. } => None,
         }
     }
-
-    /// Lets it go. Where a crate drops a value, it proves how each part of that goes; a call of this proves nothing of it.
-    pub fn dismiss(self) {
-        drop(self);
-    }
 }
 
 /// No page was in the frame.
@@ -187,9 +182,6 @@ impl Fail {
         drop(mem::replace(&mut self.at, at));
     }
 }
-
-/// Lets the body go that a step met. Each way out of a function that lets it go itself proves anew how it goes.
-pub(crate) fn let_go_of(_body: Option<Body>) {}
 
 impl Task for Fail {
     ghost use Rattle.hwp_claim.specs.Fails as fails;

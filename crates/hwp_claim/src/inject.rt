@@ -1,9 +1,10 @@
 ghost use Rattle.std.specs.Prelude.{◌≡◌};
 ghost use Rattle.hwp_claim.specs.Injects.{answer, begin, loaded};
 
-use crate::fail::{Fail, FailAnswer, let_go_of};
+use crate::fail::{Fail, FailAnswer};
 use hwp_claim_frame::{
     Body, Frame, Layout, Ranked, Scheduled, SharedWord, Step, Task, Turn, Who, is_stopped,
+    let_go_of,
 };
 use std::alloc::Global;
 use std::mem;

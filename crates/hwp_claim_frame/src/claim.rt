@@ -4,10 +4,10 @@ ghost use Rattle.hwp_claim_frame.specs.declared.claim.ClaimAt.TheVariants as sta
 ghost use Rattle.hwp_claim_frame.specs.Claims.{start, begin, plan, answer, is_owned, IsBody, stopped, stop_turn, poisoned, is_done, looked, grabbed, after_grab, after_meet, after_unlock};
 
 use crate::grab::{Grab, GrabAnswer};
-use crate::meet::{Meet, MeetAnswer, is_ended, let_go_of};
+use crate::meet::{Meet, MeetAnswer, is_ended};
 use hwp_core::{
     Body, Frame, FrameWord, Layout, Page, Ranked, SharedWord, Step, Task, Turn, Unlock, Who,
-    is_stopped,
+    is_stopped, let_go_of,
 };
 
 /// Poisons a frame, and takes it from those that use it, or could: out of the free ones, or under its locks (Linux

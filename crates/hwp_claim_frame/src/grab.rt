@@ -1,7 +1,6 @@
 ghost use Rattle.std.specs.Prelude.{◌≡◌, is_some, is_none};
 
-use crate::meet::let_go_of;
-use hwp_core::{Body, Frame, Layout, Ranked, SharedWord, Step, Task, Turn, Who};
+use hwp_core::{Body, Frame, Layout, Ranked, SharedWord, Step, Task, Turn, Who, let_go_of};
 
 /// Takes a poisoned frame out of the free ones, so that nothing is ever put into it: the frame then has one reference, and
 /// the processor has its lock (Linux take_page_off_buddy, within memory_failure).

@@ -12,6 +12,7 @@ pub use hwp_core::{
     At, Board, Body, CacheWord, CounterWord, Cpu, Entry, FileNo, Frame, FrameWord, HeldSlots, Kind,
     Layout, Line, List, Mask, Mode, Ops, OutOfMemory, Outcome, Page, PageWord, PolicyWord, Proc,
     ProcessWord, Pte, Ranked, Refer, Release, Scheduled, SharedWord, Situation, Slots, Step,
-    StopWord, Task, Text, Thread, Turn, Unlock, VSlot, Who, index, is_stopped, lowest_bit,
+    StopWord, Task, Text, Thread, Turn, Unlock, VSlot, Who, index, is_stopped, let_go_of,
+    lowest_bit,
 };
 pub use meet::{Meet, MeetAnswer};

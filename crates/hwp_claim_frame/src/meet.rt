@@ -1,6 +1,8 @@
 ghost use Rattle.std.specs.Prelude.{◌≡◌, Option, is_some, is_none, true, cond};
 
-use hwp_core::{Body, Frame, FrameWord, Layout, Page, Ranked, Release, Step, Task, Turn, Who};
+use hwp_core::{
+    Body, Frame, FrameWord, Layout, Page, Ranked, Release, Step, Task, Turn, Who, let_go_of,
+};
 use std::mem;
 
 /// Meets a frame that is in use: takes a reference to it and its lock, and before that the lock of the page that is in it, if
@@ -368,9 +370,6 @@ impl Meet {
         Turn::Moved
     }
 }
-
-/// Lets the body go that a step met. Each way out of a function that lets it go itself proves anew how it goes.
-pub(crate) fn let_go_of(_body: Option<Body>) {}
 
 impl Task for Meet {
     ghost use Rattle.hwp_claim_frame.specs.Meets as meets;

@@ -1,6 +1,7 @@
 ghost use Rattle.std.specs.Prelude.{◌≡◌, is_none};
 ghost use Rattle.hwp_core.specs.Clears.{IsBegun, pte_of};
 
+use crate::let_go::let_go_of;
 use hwp_core_rule::{
     Body, Frame, HeldSlots, Layout, Page, Pte, Ranked, Step, Task, Turn, VSlot, Who,
 };
@@ -65,9 +66,6 @@ fn pte_of(barred: bool) -> Pte
 {
     if barred { Pte::Poison } else { Pte::Empty }
 }
-
-/// Lets the body go that a step met. Each way out of a function that lets it go itself proves anew how it goes.
-pub(crate) fn let_go_of(_body: Option<Body>) {}
 
 impl Task for Clear {
     ghost use Rattle.hwp_core.specs.Clears as clears;

@@ -1,5 +1,6 @@
 ghost use Rattle.std.specs.Prelude.{◌≡◌, Option, is_none};
 
+use crate::let_go::let_go_of;
 use crate::unhold::Unhold;
 use crate::unlock::Unlock;
 use hwp_core_rule::{Body, Frame, Layout, Page, Ranked, Step, Task, Turn, Who};
@@ -110,12 +111,12 @@ impl Task for GiveUp {
                 turn
             }
             GiveUpAt::GiveUp => {
-                drop(body);
+                let_go_of(body);
                 self.set(GiveUpAt::Over);
                 Turn::NoMemory
             }
             GiveUpAt::Over => {
-                drop(body);
+                let_go_of(body);
                 Turn::Moved
             }
         }

@@ -5,6 +5,7 @@
 mod clear;
 mod give_up;
 mod hold;
+mod let_go;
 mod pin;
 mod refer;
 mod release;
@@ -23,6 +24,7 @@ pub use hwp_core_rule::{
     SlotRoom, Slots, Step, StopWord, Task, Text, Thread, Turn, VSlot, Version, View, What, Who,
     advance, frame_in, index, is_stopped, lowest_bit, next_to_read, signals,
 };
+pub use let_go::let_go_of;
 pub use pin::{Pin, PinAnswer};
 pub use refer::Refer;
 pub use release::{Release, ReleaseAnswer};

@@ -1,5 +1,6 @@
 ghost use Rattle.std.specs.Prelude.{◌≡◌, is_none};
 
+use crate::let_go::let_go_of;
 use hwp_core_rule::{Body, Frame, Layout, Ranked, SharedWord, Step, Task, Turn, Who};
 
 /// Takes more references to a frame that the processor has references to already (Linux get_page).
@@ -76,7 +77,7 @@ impl Task for Refer {
     }
 
     fn settle(&mut self, _layout: &Layout, found: u64, body: Option<Body>) -> Turn {
-        drop(body);
+        let_go_of(body);
         match self.at {
             ReferAt::Load => {
                 self.at = ReferAt::Get { seen: found };

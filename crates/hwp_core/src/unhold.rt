@@ -1,5 +1,6 @@
 ghost use Rattle.std.specs.Prelude.{◌≡◌, is_some, is_none};
 
+use crate::let_go::let_go_of;
 use crate::release::Release;
 use hwp_core_rule::{Body, Frame, Layout, Page, Ranked, Step, Task, Turn, Who};
 use std::cmp::min;
@@ -117,7 +118,7 @@ impl Task for Unhold {
     fn settle(&mut self, layout: &Layout, found: u64, body: Option<Body>) -> Turn {
         match &mut self.at {
             UnholdAt::UnlockFrame { frame, count, .. } => {
-                drop(body);
+                let_go_of(body);
                 let release = Release::new(self.who, *frame, *count);
                 self.set(UnholdAt::Release { release });
                 Turn::Moved
@@ -130,12 +131,12 @@ impl Task for Unhold {
                 turn
             }
             UnholdAt::UnlockPage { .. } => {
-                drop(body);
+                let_go_of(body);
                 self.set(UnholdAt::Over);
                 Turn::Moved
             }
             UnholdAt::Over => {
-                drop(body);
+                let_go_of(body);
                 Turn::Moved
             }
         }

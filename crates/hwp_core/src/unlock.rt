@@ -1,5 +1,6 @@
 ghost use Rattle.std.specs.Prelude.{◌≡◌, Option, is_none};
 
+use crate::let_go::let_go_of;
 use crate::release::Release;
 use hwp_core_rule::{Body, Frame, Layout, Ranked, Step, Task, Turn, Who};
 
@@ -76,7 +77,7 @@ impl Task for Unlock {
     fn settle(&mut self, layout: &Layout, found: u64, body: Option<Body>) -> Turn {
         match &mut self.at {
             UnlockAt::UnlockFrame { frame, .. } => {
-                drop(body);
+                let_go_of(body);
                 let release = Release::new(self.who, *frame, 1);
                 self.set(UnlockAt::Release { release });
                 Turn::Moved
@@ -89,7 +90,7 @@ impl Task for Unlock {
                 turn
             }
             UnlockAt::Over => {
-                drop(body);
+                let_go_of(body);
                 Turn::Moved
             }
         }

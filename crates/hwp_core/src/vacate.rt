@@ -1,7 +1,7 @@
 ghost use Rattle.std.specs.Prelude.{◌≡◌, is_none};
 ghost use Rattle.hwp_core.specs.Vacates.{begin, plan};
 
-use crate::clear::let_go_of;
+use crate::let_go::let_go_of;
 use crate::release::Release;
 use hwp_core_rule::{Body, Frame, Layout, Page, Ranked, Step, Task, Turn, Who};
 use std::cmp::min;

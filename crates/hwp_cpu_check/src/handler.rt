@@ -155,11 +155,6 @@ impl Handler {
     {
         let_go(mem::replace(&mut self.at, at));
     }
-
-    /// Lets it go.
-    pub fn dismiss(self) {
-        drop(self);
-    }
 }
 
 // by hand, since crates above cite what is proved here, and with a derive prove anew how each part goes
@@ -180,7 +175,7 @@ impl Drop for Handler {
 /// Lets go of the failure, if there is one.
 fn let_go(at: HandlerAt) {
     match at {
-        HandlerAt::Fail { fail } => fail.dismiss(),
+        HandlerAt::Fail { fail } => drop(fail),
         HandlerAt::Stop | HandlerAt::GaveUp | HandlerAt::Over { .. } => {}
     }
 }

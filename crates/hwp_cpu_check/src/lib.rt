@@ -15,7 +15,7 @@ pub use hwp_claim::{
     At, Board, Body, CacheWord, CounterWord, Cpu, Entry, FailAnswer, FileNo, Found, Frame,
     FrameWord, Inject, Kind, Layout, Line, List, Mask, Mode, Ops, OutOfMemory, Page, PageWord,
     PolicyWord, Proc, ProcessWord, Pte, Ranked, Scheduled, SharedWord, Step, StopWord, Task, Text,
-    Thread, Turn, VSlot, Who, index, is_stopped, lowest_bit,
+    Thread, Turn, VSlot, Who, index, is_stopped, let_go_of, lowest_bit,
 };
 pub use hwp_law_commands::{
     Access, Acted, Admit, Answer, Collector, Command, CpuLine, Decision, EventLine, FrameLine,

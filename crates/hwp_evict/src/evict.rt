@@ -8,7 +8,7 @@ ghost use Rattle.hwp_evict.specs.Evicts.{begin, answer, CanEnter, CanEnterHeld, 
 use hwp_core::{
     At, Body, Clear, Entry, Frame, GiveUp, HeldSlots, Hold, Layout, Mask, Page, PageState, Pte,
     Ranked, Scheduled, SharedWord, SlotRoom, Slots, Step, Task, Turn, Unhold, VSlot, Vacate, What,
-    Who, is_stopped,
+    Who, is_stopped, let_go_of,
 };
 use std::mem;
 
@@ -484,9 +484,6 @@ fn freed(who: Who, page: Page, frame: Frame, body: Body, done: At) -> EvictAt
         answer: EvictAnswer::Done(done),
     }
 }
-
-/// Lets the body go that a step met. Each way out of a function that lets it go itself proves anew how it goes.
-pub(crate) fn let_go_of(_body: Option<Body>) {}
 
 impl Task for Evict {
     ghost use Rattle.hwp_evict.specs.Evicts as evicts;

@@ -1,9 +1,9 @@
 ghost use Rattle.std.specs.Prelude.{◌≡◌, is_some, is_none};
 ghost use Rattle.hwp_evict.specs.Fsyncs.{begin, plan, answer, number, after_stop, after_report, reported};
 
-use crate::evict::let_go_of;
 use hwp_core::{
     Body, FileNo, Layout, Ranked, Scheduled, SharedWord, Step, Task, Turn, Who, is_stopped,
+    let_go_of,
 };
 
 /// Tells how much of a file was lost since a handle saw its loss word last. A handle is the pair of a processor and a file, and its

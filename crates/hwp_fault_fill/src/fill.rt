@@ -2,7 +2,9 @@ ghost use Rattle.std.specs.Prelude.{◌≡◌, None};
 ghost use Rattle.hwp_fault_fill.specs.Fills.{HasRoomFor, brought};
 
 use crate::take::{Take, TakeAnswer};
-use hwp_core::{Body, Entry, Frame, Layout, Page, Ranked, Refer, Step, Task, Turn, What, Who};
+use hwp_core::{
+    Body, Entry, Frame, Layout, Page, Ranked, Refer, Step, Task, Turn, What, Who, let_go_of,
+};
 
 /// Puts a page that is held, and in no frame, into a free frame: the first half of a fault on it (this project's rule).
 #[derive(Drop)]
@@ -81,9 +83,6 @@ fn bring(who: Who, body: &mut Body)
         what: What::FaultIn,
     });
 }
-
-/// Lets the body go that a step met. Each way out of a function that lets it go itself proves anew how it goes.
-pub(crate) fn let_go_of(_body: Option<Body>) {}
 
 impl Task for Fill {
     ghost use Rattle.hwp_fault_fill.specs.Fills as fills;

@@ -1,8 +1,7 @@
 ghost use Rattle.std.specs.Prelude.{◌≡◌, ◌^◌, ◌<◌, is_some, is_none};
 
-use crate::fill::let_go_of;
 use hwp_core::{
-    Body, Frame, FrameWord, FreeWord, Layout, Ranked, SharedWord, Step, Task, Turn, Who,
+    Body, Frame, FrameWord, FreeWord, Layout, Ranked, SharedWord, Step, Task, Turn, Who, let_go_of,
 };
 
 /// Takes a free frame, the lowest that it is shown: it then has one reference, and the processor has its lock. A poisoned one

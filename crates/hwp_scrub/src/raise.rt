@@ -1,10 +1,10 @@
 ghost use Rattle.std.specs.Prelude.{◌≡◌, ◌≤◌, length};
 ghost use Rattle.hwp_scrub.specs.Raises.{AfterProcess, AfterStop, BeginsCheck, after_handler, answer, begin, checked, ended, give_up, mode_of, thread_of};
 
-use crate::scrub::let_go_of;
 use hwp_cpu_check::{
     BANKS, Bank, Body, EventOutcome, Handler, Layout, List, McgBits, Mode, Page, Proc, ProcessWord,
-    Ranked, Scheduled, SharedWord, Step, Task, Thread, ToldLines, Turn, Who, is_stopped, no_events,
+    Ranked, Scheduled, SharedWord, Step, Task, Thread, ToldLines, Turn, Who, is_stopped, let_go_of,
+    no_events,
 };
 use std::alloc::Global;
 use std::mem;
@@ -183,7 +183,7 @@ impl Raise {
             return;
         };
         self.lines.append(handler.told());
-        handler.dismiss();
+        drop(handler);
         self.after_check(stopped);
     }
 
@@ -210,7 +210,7 @@ impl Raise {
         ensures { self.new ≡ record self.old { at = at } }
     {
         match mem::replace(&mut self.at, at) {
-            RaiseAt::Handle { handler } => handler.dismiss(),
+            RaiseAt::Handle { handler } => drop(handler),
             RaiseAt::LoadStop
             | RaiseAt::LoadProcess { .. }
             | RaiseAt::GiveUp

@@ -8,7 +8,7 @@ ghost use Rattle.hwp_scrub.specs.Scrubs.{AfterBad, AfterWeak, BeginsCheck, Meets
 use hwp_cpu_check::{
     Acted, BANKS, Bank, Body, Event, EventOutcome, Frame, Handler, Held, Layout, Line, List,
     McgBits, Mode, Origin, Ranked, Scheduled, SharedWord, Step, Task, ToldLines, Turn, Who, grade,
-    is_stopped, lowest_bit, no_events,
+    is_stopped, let_go_of, lowest_bit, no_events,
 };
 use std::alloc::Global;
 use std::mem;
@@ -201,7 +201,7 @@ impl Scrub {
             return;
         };
         self.lines.append(handler.told());
-        handler.dismiss();
+        drop(handler);
         self.after_check(frame, stopped);
     }
 
@@ -297,9 +297,6 @@ fn kept_line(event: Event) -> EventOutcome
         found: None,
     }
 }
-
-/// Lets the body go that a step met. Each way out of a function that lets it go itself proves anew how it goes.
-pub(crate) fn let_go_of(_body: Option<Body>) {}
 
 impl Task for Scrub {
     ghost use Rattle.hwp_scrub.specs.Fits as fits;

@@ -7,7 +7,7 @@ ghost use Rattle.hwp_soft.specs.Softs.{begin, answer, is_held, is_movable, IsHel
 use crate::movable::Movable;
 use hwp_core::{
     At, Body, Entry, Frame, FrameWord, GiveUp, Layout, Mask, Page, Ranked, Release, Scheduled,
-    SharedWord, SlotRoom, Step, Task, Turn, Unhold, What, Who, is_stopped,
+    SharedWord, SlotRoom, Step, Task, Turn, Unhold, What, Who, is_stopped, let_go_of,
 };
 use hwp_fault_fill::{Take, TakeAnswer};
 use hwp_soft_move::{Discard, Relocate, Seize, SeizeAnswer};
@@ -434,9 +434,6 @@ fn ended(at: &SoftAt, turn: Turn) -> Turn
         turn
     }
 }
-
-/// Lets the body go that a step met. Each way out of a function that lets it go itself proves anew how it goes.
-fn let_go_of(_body: Option<Body>) {}
 
 impl Task for Soft {
     ghost use Rattle.hwp_soft.specs.Offline as offline;

@@ -1,8 +1,9 @@
 ghost use Rattle.std.specs.Prelude.{◌≡◌, Option, is_none};
 ghost use Rattle.hwp_soft_move.specs.Discards.{begin, plan, answer, poisoned};
 
-use crate::relocate::let_go_of;
-use hwp_claim_frame::{Body, Frame, FrameWord, Layout, Ranked, Step, Task, Turn, Unlock, Who};
+use hwp_claim_frame::{
+    Body, Frame, FrameWord, Layout, Ranked, Step, Task, Turn, Unlock, Who, let_go_of,
+};
 
 /// Puts a locked frame in which no page is out of use: poisons it, counts that, and retires it (Linux page_handle_poison).
 #[derive(Drop)]

@@ -7,6 +7,7 @@ ghost use Rattle.hwp_soft_move.specs.Relocations.{IsBegun, plan, StartsRemap, af
 use crate::remap::{Remap, count};
 use hwp_claim_frame::{
     At, Body, Frame, HeldSlots, Layout, Page, Ranked, Refer, Release, Step, Task, Turn, Who,
+    let_go_of,
 };
 
 /// Puts a page that is held into another frame, which is held too, and its old frame out of use: the poison of that is counted,
@@ -153,9 +154,6 @@ fn after_remap(remap: Remap) -> RelocateAt
         RelocateAt::Remap { remap }
     }
 }
-
-/// Lets the body go that a step met. Each way out of a function that lets it go itself proves anew how it goes.
-pub(crate) fn let_go_of(_body: Option<Body>) {}
 
 impl Task for Relocate {
     ghost use Rattle.hwp_soft_move.specs.Relocating as relocating;

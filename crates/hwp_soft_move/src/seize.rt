@@ -1,10 +1,9 @@
 ghost use Rattle.std.specs.Prelude.{◌≡◌, true, is_none};
 ghost use Rattle.hwp_soft_move.specs.Seizes.{begin, plan, answer, is_owned, IsBody, looked};
 
-use crate::relocate::let_go_of;
 use hwp_claim_frame::{
     Body, Frame, FrameWord, Grab, GrabAnswer, Layout, Meet, MeetAnswer, Page, Ranked, SharedWord,
-    Step, Task, Turn, Who,
+    Step, Task, Turn, Who, let_go_of,
 };
 use std::mem;
 
