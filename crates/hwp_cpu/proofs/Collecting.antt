@@ -21,7 +21,7 @@ use Rattle.hwp_cpu_causes.proofs.HandleNumbers.{IsNumbered}
 use Rattle.hwp_cpu_command_laws.specs.hwp_cpu_command.Stays.{IsHalted}
 use Rattle.hwp_cpu_row.specs.hwp_geom.declared.Layout.{Layout}
 use Rattle.hwp_cpu_row.specs.hwp_geom.declared.VSlot.{VSlot}
-use Rattle.hwp_cpu_command_laws.specs.hwp_cpu_command.hwp_cpu_copy.declared.Copying.{Copying}
+use Rattle.hwp_cpu_command_laws.specs.hwp_cpu_command.hwp_cpu_access.declared.Copying.{Copying}
 use Rattle.hwp_cpu_command_laws.specs.hwp_cpu_command.hwp_cpu_access.declared.Instruction.{Instruction}
 use Rattle.hwp_cpu_row.specs.hwp_cpu_check.declared.EventOutcome.{EventOutcome}
 use Rattle.std.proofs.lemmas.Bool.{both_ways}

@@ -11,16 +11,16 @@ use Rattle.hwp_cpu_command_laws.specs.hwp_cpu_command.hwp_cpu_access.declared.In
 use Rattle.hwp_cpu_command_laws.specs.hwp_cpu_command.hwp_cpu_access.declared.InstructionAnswer.TheVariants as answers
 use Rattle.hwp_cpu_command_laws.specs.hwp_cpu_command.hwp_cpu_access.declared.instruction.Pause.{Pause}
 use Rattle.hwp_cpu_command_laws.specs.hwp_cpu_command.hwp_cpu_access.Instructions as instructions
-use Rattle.hwp_cpu_command_laws.specs.hwp_cpu_command.hwp_cpu_copy.declared.Copying.{Copying}
-use Rattle.hwp_cpu_command_laws.specs.hwp_cpu_command.hwp_cpu_copy.declared.copying.CopyingAt.{CopyingAt}
-use Rattle.hwp_cpu_command_laws.specs.hwp_cpu_command.hwp_cpu_copy.declared.copying.CopyingAt.TheVariants as copying_at
-use Rattle.hwp_cpu_command_laws.specs.hwp_cpu_command.hwp_cpu_copy.Copyings as copyings
-use Rattle.hwp_cpu_command_laws.specs.hwp_cpu_command.hwp_cpu_copy.Costs as copying_costs
-use Rattle.hwp_cpu_command_laws.specs.hwp_cpu_command.hwp_cpu_copy.hwp_fork.declared.cow.Sub.{Sub}
-use Rattle.hwp_cpu_command_laws.specs.hwp_cpu_command.hwp_cpu_copy.hwp_fork.declared.cow.Sub.TheVariants as subs
-use Rattle.hwp_cpu_command_laws.specs.hwp_cpu_command.hwp_cpu_copy.hwp_fork.declared.cow.CowAt.{CowAt}
-use Rattle.hwp_cpu_command_laws.specs.hwp_cpu_command.hwp_cpu_copy.hwp_fork.declared.cow.CowAt.TheVariants as cow_at
-use Rattle.hwp_cpu_command_laws.specs.hwp_cpu_command.hwp_cpu_copy.hwp_fork.Cows as cows
+use Rattle.hwp_cpu_command_laws.specs.hwp_cpu_command.hwp_cpu_access.declared.Copying.{Copying}
+use Rattle.hwp_cpu_command_laws.specs.hwp_cpu_command.hwp_cpu_access.declared.copying.CopyingAt.{CopyingAt}
+use Rattle.hwp_cpu_command_laws.specs.hwp_cpu_command.hwp_cpu_access.declared.copying.CopyingAt.TheVariants as copying_at
+use Rattle.hwp_cpu_command_laws.specs.hwp_cpu_command.hwp_cpu_access.Copyings as copyings
+use Rattle.hwp_cpu_command_laws.specs.hwp_cpu_command.hwp_cpu_access.CopyCosts as copying_costs
+use Rattle.hwp_cpu_command_laws.specs.hwp_cpu_command.hwp_cpu_access.hwp_fork.declared.cow.Sub.{Sub}
+use Rattle.hwp_cpu_command_laws.specs.hwp_cpu_command.hwp_cpu_access.hwp_fork.declared.cow.Sub.TheVariants as subs
+use Rattle.hwp_cpu_command_laws.specs.hwp_cpu_command.hwp_cpu_access.hwp_fork.declared.cow.CowAt.{CowAt}
+use Rattle.hwp_cpu_command_laws.specs.hwp_cpu_command.hwp_cpu_access.hwp_fork.declared.cow.CowAt.TheVariants as cow_at
+use Rattle.hwp_cpu_command_laws.specs.hwp_cpu_command.hwp_cpu_access.hwp_fork.Cows as cows
 
 -- behind its pause
 pub copy-behind : (c : Copying) (p : Pause) → c.at ≡ copying_at.Access → c.instruction.at ≡ instruction_at.Paused p

@@ -35,11 +35,11 @@ use Rattle.hwp_cpu_command_laws.specs.hwp_cpu_command.hwp_cpu_access.declared.in
 use Rattle.hwp_cpu_command_laws.specs.hwp_cpu_command.hwp_cpu_access.Fits.{checks_made}
 use Rattle.hwp_cpu_command_laws.specs.hwp_cpu_command.hwp_cpu_access.Instructions as instructions
 use Rattle.hwp_cpu_command_laws.proofs.of_hwp_cpu_command.of_hwp_cpu_access.Resting.{resting-stays}
-use Rattle.hwp_cpu_command_laws.specs.hwp_cpu_command.hwp_cpu_copy.declared.Copying.{Copying}
-use Rattle.hwp_cpu_command_laws.specs.hwp_cpu_command.hwp_cpu_copy.declared.copying.CopyingAt.{CopyingAt}
-use Rattle.hwp_cpu_command_laws.specs.hwp_cpu_command.hwp_cpu_copy.declared.copying.CopyingAt.TheVariants as copying_at
-use Rattle.hwp_cpu_command_laws.specs.hwp_cpu_command.hwp_cpu_copy.Copyings as copyings
-use Rattle.hwp_cpu_command_laws.proofs.of_hwp_cpu_command.of_hwp_cpu_copy.CopyResting as copy-resting
+use Rattle.hwp_cpu_command_laws.specs.hwp_cpu_command.hwp_cpu_access.declared.Copying.{Copying}
+use Rattle.hwp_cpu_command_laws.specs.hwp_cpu_command.hwp_cpu_access.declared.copying.CopyingAt.{CopyingAt}
+use Rattle.hwp_cpu_command_laws.specs.hwp_cpu_command.hwp_cpu_access.declared.copying.CopyingAt.TheVariants as copying_at
+use Rattle.hwp_cpu_command_laws.specs.hwp_cpu_command.hwp_cpu_access.Copyings as copyings
+use Rattle.hwp_cpu_command_laws.proofs.of_hwp_cpu_command.of_hwp_cpu_access.CopyResting as copy-resting
 use Rattle.hwp_cpu_command_laws.specs.hwp_cpu_command.hwp_soft.declared.Soft.{Soft}
 use Rattle.hwp_cpu_command_laws.specs.hwp_cpu_command.hwp_soft.declared.SoftAnswer.{SoftAnswer}
 use Rattle.hwp_cpu_command_laws.specs.hwp_cpu_command.hwp_soft.declared.soft.SoftAt.{SoftAt}

@@ -15,7 +15,7 @@ use Rattle.hwp_cpu_command_laws.specs.hwp_cpu_command.hwp_cpu_control.declared.S
 use Rattle.hwp_cpu_command_laws.specs.hwp_cpu_command.hwp_cpu_control.Spoils as spoils
 use Rattle.hwp_cpu_row.specs.hwp_cpu_check.Told.{halts}
 use Rattle.hwp_cpu_command_laws.specs.hwp_cpu_command.hwp_cpu_access.declared.Instruction.{Instruction}
-use Rattle.hwp_cpu_command_laws.specs.hwp_cpu_command.hwp_cpu_copy.declared.Copying.{Copying}
+use Rattle.hwp_cpu_command_laws.specs.hwp_cpu_command.hwp_cpu_access.declared.Copying.{Copying}
 use Rattle.hwp_cpu_command_laws.specs.hwp_cpu_command.hwp_scrub.declared.Raise.{Raise}
 use Rattle.hwp_cpu_command_laws.specs.hwp_cpu_command.hwp_scrub.declared.Scrub.{Scrub}
 use Rattle.hwp_cpu_command_laws.specs.hwp_cpu_command.declared.job.Job.{Job}

@@ -1,5 +1,5 @@
 -- A turn of a command's own task.
-use Rattle.hwp_cpu_command_laws.specs.hwp_cpu_command.hwp_cpu_copy.declared.Copying.{Copying}
+use Rattle.hwp_cpu_command_laws.specs.hwp_cpu_command.hwp_cpu_access.declared.Copying.{Copying}
 use Rattle.hwp_cpu_command_laws.specs.hwp_cpu_command.Runs.{Runs}
 use Rattle.hwp_cpu_row.specs.hwp_core_rule.declared.Made.{Made}
 use Rattle.hwp_cpu_row.specs.hwp_geom.declared.VSlot.{VSlot}

@@ -27,14 +27,14 @@ use Rattle.hwp_cpu_command_laws.specs.hwp_cpu_command.hwp_cpu_access.Costs as in
 use Rattle.hwp_cpu_command_laws.specs.hwp_cpu_command.hwp_cpu_access.Costs.{anew_after_wait}
 use Rattle.hwp_cpu_command_laws.specs.hwp_cpu_command.hwp_cpu_access.Instructions as instructions
 use Rattle.hwp_cpu_command_laws.proofs.of_hwp_cpu_command.of_hwp_cpu_access.InstructionCosts.{resumed-cost}
-use Rattle.hwp_cpu_command_laws.specs.hwp_cpu_command.hwp_cpu_copy.declared.Copying.{Copying}
-use Rattle.hwp_cpu_command_laws.specs.hwp_cpu_command.hwp_cpu_copy.declared.copying.CopyingAt.{CopyingAt}
-use Rattle.hwp_cpu_command_laws.specs.hwp_cpu_command.hwp_cpu_copy.declared.copying.CopyingAt.TheVariants as copying_at
-use Rattle.hwp_cpu_command_laws.specs.hwp_cpu_command.hwp_cpu_copy.Copyings as copyings
-use Rattle.hwp_cpu_command_laws.specs.hwp_cpu_command.hwp_cpu_copy.Costs as copying_costs
-use Rattle.hwp_cpu_command_laws.specs.hwp_cpu_command.hwp_cpu_copy.Fits as copying_fits
+use Rattle.hwp_cpu_command_laws.specs.hwp_cpu_command.hwp_cpu_access.declared.Copying.{Copying}
+use Rattle.hwp_cpu_command_laws.specs.hwp_cpu_command.hwp_cpu_access.declared.copying.CopyingAt.{CopyingAt}
+use Rattle.hwp_cpu_command_laws.specs.hwp_cpu_command.hwp_cpu_access.declared.copying.CopyingAt.TheVariants as copying_at
+use Rattle.hwp_cpu_command_laws.specs.hwp_cpu_command.hwp_cpu_access.Copyings as copyings
+use Rattle.hwp_cpu_command_laws.specs.hwp_cpu_command.hwp_cpu_access.CopyCosts as copying_costs
+use Rattle.hwp_cpu_command_laws.specs.hwp_cpu_command.hwp_cpu_access.CopyFits as copying_fits
 use Rattle.hwp_cpu_command_laws.proofs.of_hwp_cpu_command.of_hwp_cpu_access.InstructionRank.{instruction-lasting}
-use Rattle.hwp_cpu_command_laws.proofs.of_hwp_cpu_command.of_hwp_cpu_copy.CopyRank.{copy-lasting}
+use Rattle.hwp_cpu_command_laws.proofs.of_hwp_cpu_command.of_hwp_cpu_access.CopyRank.{copy-lasting}
 use Rattle.hwp_cpu_command_laws.proofs.of_hwp_cpu_command.of_hwp_scrub.RaiseRank.{raise-lasting}
 use Rattle.hwp_cpu_command_laws.proofs.of_hwp_cpu_command.of_hwp_scrub.ScrubRank.{scrub-lasting}
 use Rattle.hwp_cpu_command_laws.specs.hwp_cpu_command.hwp_scrub.RaiseCosts as raise_costs
@@ -51,7 +51,7 @@ use Rattle.hwp_cpu_command_laws.proofs.of_hwp_cpu_command.of_hwp_soft.SoftRank.{
 use Rattle.hwp_cpu.specs.declared.course.Course.{Course}
 use Rattle.hwp_cpu.specs.Dues.{next_due}
 use Rattle.hwp_cpu.specs.Courses.{RestsNow, behind_cost, cost, cost_behind, flat, gives_up, gives_up_access, gives_up_copy, going_on, own_cost, rests, soft_weight}
-use Rattle.hwp_cpu_command_laws.proofs.of_hwp_cpu_command.of_hwp_cpu_copy.CopyResting.{at-pause as copy-at-pause}
+use Rattle.hwp_cpu_command_laws.proofs.of_hwp_cpu_command.of_hwp_cpu_access.CopyResting.{at-pause as copy-at-pause}
 use Rattle.hwp_cpu.proofs.CopyRests.{copy-behind, copy-gives-over}
 use Rattle.hwp_cpu.proofs.RestLaws.{some-of}
 use Rattle.hwp_cpu.proofs.ToldSince.{most}

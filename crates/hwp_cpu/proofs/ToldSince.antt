@@ -28,13 +28,13 @@ use Rattle.hwp_cpu_command_laws.proofs.of_hwp_cpu_command.of_hwp_cpu_access.Told
 use Rattle.hwp_cpu_command_laws.proofs.of_hwp_cpu_command.of_hwp_scrub.RaiseLines.{raise-few}
 use Rattle.hwp_cpu_command_laws.proofs.of_hwp_cpu_command.of_hwp_scrub.ScrubLines.{frame_lines, scrub-few}
 use Rattle.hwp_cpu_row.specs.hwp_cpu_check.Checks.{Check}
-use Rattle.hwp_cpu_command_laws.specs.hwp_cpu_command.hwp_cpu_copy.declared.Copying.{Copying}
-use Rattle.hwp_cpu_command_laws.specs.hwp_cpu_command.hwp_cpu_copy.declared.copying.CopyingAt.{CopyingAt}
-use Rattle.hwp_cpu_command_laws.specs.hwp_cpu_command.hwp_cpu_copy.declared.copying.CopyingAt.TheVariants as copying_at
-use Rattle.hwp_cpu_command_laws.specs.hwp_cpu_command.hwp_cpu_copy.Copyings as copyings
-use Rattle.hwp_cpu_command_laws.specs.hwp_cpu_command.hwp_cpu_copy.Fits as copying_fits
-use Rattle.hwp_cpu_command_laws.specs.hwp_cpu_command.hwp_cpu_copy.hwp_fork.Cows.{sub_of}
-use Rattle.hwp_cpu_command_laws.proofs.of_hwp_cpu_command.of_hwp_cpu_copy.CowSteps.{request-who}
+use Rattle.hwp_cpu_command_laws.specs.hwp_cpu_command.hwp_cpu_access.declared.Copying.{Copying}
+use Rattle.hwp_cpu_command_laws.specs.hwp_cpu_command.hwp_cpu_access.declared.copying.CopyingAt.{CopyingAt}
+use Rattle.hwp_cpu_command_laws.specs.hwp_cpu_command.hwp_cpu_access.declared.copying.CopyingAt.TheVariants as copying_at
+use Rattle.hwp_cpu_command_laws.specs.hwp_cpu_command.hwp_cpu_access.Copyings as copyings
+use Rattle.hwp_cpu_command_laws.specs.hwp_cpu_command.hwp_cpu_access.CopyFits as copying_fits
+use Rattle.hwp_cpu_command_laws.specs.hwp_cpu_command.hwp_cpu_access.hwp_fork.Cows.{sub_of}
+use Rattle.hwp_cpu_command_laws.proofs.of_hwp_cpu_command.of_hwp_cpu_access.CowSteps.{request-who}
 use Rattle.hwp_cpu_command_laws.specs.hwp_cpu_command.hwp_evict.declared.Evict.{Evict}
 use Rattle.hwp_cpu_command_laws.specs.hwp_cpu_command.hwp_evict.declared.EvictAnswer.{EvictAnswer}
 use Rattle.hwp_cpu_command_laws.specs.hwp_cpu_command.hwp_evict.declared.EvictAnswer.TheVariants as evict_answers

@@ -3,5 +3,13 @@ pub mod Instructions
 pub mod Fits
 pub mod Costs
 pub mod Done
+pub mod Copyings
+pub mod Looks
+pub mod Runs
+pub mod CopyFits
+pub mod CopyCosts
+pub mod CopyDone
 pub use Rattle.hwp_fault.specs as hwp_fault
 pub use Rattle.hwp_cpu_check.specs as hwp_cpu_check
+pub use Rattle.hwp_evict.specs as hwp_evict
+pub use Rattle.hwp_fork.specs as hwp_fork

@@ -40,7 +40,7 @@ use Rattle.hwp_cpu_command.specs.hwp_fault.declared.AccessKind.{AccessKind}
 use Rattle.hwp_cpu_command.specs.hwp_fault.declared.AccessKind.TheVariants as kinds
 use Rattle.hwp_cpu_command.specs.hwp_fault.declared.Request.{Request}
 use Rattle.hwp_cpu_command.specs.hwp_fault.Accesses.{IsDeclared}
-use Rattle.hwp_cpu_command.specs.hwp_cpu_copy.Copyings.{load_of}
+use Rattle.hwp_cpu_command.specs.hwp_cpu_access.Copyings.{load_of}
 use Rattle.hwp_cpu_command.specs.declared.Job.{Job}
 use Rattle.hwp_cpu_command.specs.declared.Job.TheVariants as jobs
 use Rattle.hwp_cpu_command.specs.Answers.{denied_answer}

@@ -60,17 +60,17 @@ use Rattle.hwp_soft.specs.hwp_claim.Fails as fails
 use Rattle.hwp_soft.specs.hwp_claim.Injects as injects
 use Rattle.hwp_soft.proofs.of_hwp_claim.InjectEnds as inject_ends
 use Rattle.hwp_cpu_row.specs.hwp_cpu_check.Fits.{IsAtRest}
-use Rattle.hwp_cpu_copy.specs.hwp_cpu_access.declared.Instruction.{Instruction}
-use Rattle.hwp_cpu_copy.specs.hwp_cpu_access.declared.InstructionAnswer.{InstructionAnswer}
-use Rattle.hwp_cpu_copy.specs.hwp_cpu_access.declared.instruction.InstructionAt.{InstructionAt}
-use Rattle.hwp_cpu_copy.specs.hwp_cpu_access.declared.instruction.InstructionAt.TheVariants as instruction_at
-use Rattle.hwp_cpu_copy.specs.hwp_cpu_access.Fits as instruction_fits
-use Rattle.hwp_cpu_copy.specs.hwp_cpu_access.Instructions as instructions
-use Rattle.hwp_cpu_copy.specs.Copyings as copyings
-use Rattle.hwp_cpu_copy.specs.declared.Copying.{Copying}
-use Rattle.hwp_cpu_copy.specs.declared.copying.CopyingAt.{CopyingAt}
-use Rattle.hwp_cpu_copy.specs.declared.copying.CopyingAt.TheVariants as copying_at
-use Rattle.hwp_cpu_copy.proofs.CopyEnds as copy_ends
+use Rattle.hwp_cpu_access.specs.declared.Instruction.{Instruction}
+use Rattle.hwp_cpu_access.specs.declared.InstructionAnswer.{InstructionAnswer}
+use Rattle.hwp_cpu_access.specs.declared.instruction.InstructionAt.{InstructionAt}
+use Rattle.hwp_cpu_access.specs.declared.instruction.InstructionAt.TheVariants as instruction_at
+use Rattle.hwp_cpu_access.specs.Fits as instruction_fits
+use Rattle.hwp_cpu_access.specs.Instructions as instructions
+use Rattle.hwp_cpu_access.specs.Copyings as copyings
+use Rattle.hwp_cpu_access.specs.declared.Copying.{Copying}
+use Rattle.hwp_cpu_access.specs.declared.copying.CopyingAt.{CopyingAt}
+use Rattle.hwp_cpu_access.specs.declared.copying.CopyingAt.TheVariants as copying_at
+use Rattle.hwp_cpu_access.proofs.CopyEnds as copy_ends
 use Rattle.hwp_scrub.specs.declared.Raise.{Raise}
 use Rattle.hwp_scrub.specs.declared.RaiseAnswer.{RaiseAnswer}
 use Rattle.hwp_scrub.specs.declared.raise.RaiseAt.{RaiseAt}

@@ -46,7 +46,7 @@ use Rattle.hwp_evict.proofs.EvictLaws as evicting
 use Rattle.hwp_evict.proofs.EvictCosts.{evict-mild, evict-ranked, evict-tells}
 use Rattle.hwp_evict.proofs.FsyncLaws as fsyncing
 use Rattle.hwp_evict.proofs.FsyncLaws.{fsync-mild, fsync-ranked, fsync-tells}
-use Rattle.hwp_cpu_copy.proofs.of_hwp_fault.AccessCosts.{access-mild}
+use Rattle.hwp_cpu_access.proofs.of_hwp_fault.AccessCosts.{access-mild}
 use Rattle.hwp_soft.specs.hwp_claim.declared.fail.FailAt.{FailAt}
 use Rattle.hwp_soft.specs.hwp_claim.declared.fail.FailAt.TheVariants as fail_at
 use Rattle.hwp_soft.specs.hwp_claim.declared.FailAnswer.{FailAnswer}
@@ -59,23 +59,23 @@ use Rattle.hwp_soft.proofs.of_hwp_claim.InjectLaws as injecting
 use Rattle.hwp_soft.proofs.of_hwp_claim.InjectRank.{inject-lasting, inject-ranked, inject-tells}
 use Rattle.hwp_cpu_row.specs.hwp_cpu_check.declared.Handler.{Handler}
 use Rattle.hwp_cpu_row.specs.hwp_cpu_check.Handlers as handlers
-use Rattle.hwp_cpu_copy.specs.hwp_cpu_access.declared.Instruction.{Instruction}
-use Rattle.hwp_cpu_copy.specs.hwp_cpu_access.declared.InstructionAnswer.{InstructionAnswer}
-use Rattle.hwp_cpu_copy.specs.hwp_cpu_access.declared.instruction.InstructionAt.{InstructionAt}
-use Rattle.hwp_cpu_copy.specs.hwp_cpu_access.declared.instruction.InstructionAt.TheVariants as instruction_at
-use Rattle.hwp_cpu_copy.specs.hwp_cpu_access.Costs as instruction_costs
-use Rattle.hwp_cpu_copy.specs.hwp_cpu_access.Instructions as instructions
-use Rattle.hwp_cpu_copy.specs.hwp_cpu_access.Fits.{task as instruction-task}
-use Rattle.hwp_cpu_copy.proofs.of_hwp_cpu_access.InstructionLaws as instructing
-use Rattle.hwp_cpu_copy.proofs.of_hwp_cpu_access.InstructionRank.{instruction-lasting, instruction-ranked, instruction-tells}
-use Rattle.hwp_cpu_copy.specs.declared.Copying.{Copying}
-use Rattle.hwp_cpu_copy.specs.declared.copying.CopyingAt.{CopyingAt}
-use Rattle.hwp_cpu_copy.specs.declared.copying.CopyingAt.TheVariants as copying_at
-use Rattle.hwp_cpu_copy.specs.Copyings as copyings
-use Rattle.hwp_cpu_copy.specs.Costs as copying_costs
-use Rattle.hwp_cpu_copy.specs.Fits.{task as copying-task}
-use Rattle.hwp_cpu_copy.proofs.CopyLaws as copying
-use Rattle.hwp_cpu_copy.proofs.CopyRank.{copy-lasting, copy-ranked, copy-tells}
+use Rattle.hwp_cpu_access.specs.declared.Instruction.{Instruction}
+use Rattle.hwp_cpu_access.specs.declared.InstructionAnswer.{InstructionAnswer}
+use Rattle.hwp_cpu_access.specs.declared.instruction.InstructionAt.{InstructionAt}
+use Rattle.hwp_cpu_access.specs.declared.instruction.InstructionAt.TheVariants as instruction_at
+use Rattle.hwp_cpu_access.specs.Costs as instruction_costs
+use Rattle.hwp_cpu_access.specs.Instructions as instructions
+use Rattle.hwp_cpu_access.specs.Fits.{task as instruction-task}
+use Rattle.hwp_cpu_access.proofs.InstructionLaws as instructing
+use Rattle.hwp_cpu_access.proofs.InstructionRank.{instruction-lasting, instruction-ranked, instruction-tells}
+use Rattle.hwp_cpu_access.specs.declared.Copying.{Copying}
+use Rattle.hwp_cpu_access.specs.declared.copying.CopyingAt.{CopyingAt}
+use Rattle.hwp_cpu_access.specs.declared.copying.CopyingAt.TheVariants as copying_at
+use Rattle.hwp_cpu_access.specs.Copyings as copyings
+use Rattle.hwp_cpu_access.specs.CopyCosts as copying_costs
+use Rattle.hwp_cpu_access.specs.CopyFits.{task as copying-task}
+use Rattle.hwp_cpu_access.proofs.CopyLaws as copying
+use Rattle.hwp_cpu_access.proofs.CopyRank.{copy-lasting, copy-ranked, copy-tells}
 use Rattle.hwp_scrub.specs.declared.Log.{Log}
 use Rattle.hwp_scrub.specs.declared.Raise.{Raise}
 use Rattle.hwp_scrub.specs.declared.raise.RaiseAt.{RaiseAt}

@@ -5,11 +5,10 @@ pub mod JobLaws
 mod AccessBegins
 pub use Rattle.hwp_soft.proofs.of_hwp_claim as of_hwp_claim
 pub use Rattle.hwp_cpu_control.proofs.of_hwp_core_rule as of_hwp_core_rule
-pub use Rattle.hwp_cpu_copy.proofs.of_hwp_cpu_access as of_hwp_cpu_access
+pub use Rattle.hwp_cpu_access.proofs as of_hwp_cpu_access
 pub use Rattle.hwp_cpu_row.proofs.of_hwp_cpu_check as of_hwp_cpu_check
 pub use Rattle.hwp_cpu_control.proofs as of_hwp_cpu_control
-pub use Rattle.hwp_cpu_copy.proofs as of_hwp_cpu_copy
 pub use Rattle.hwp_evict.proofs as of_hwp_evict
 pub use Rattle.hwp_scrub.proofs as of_hwp_scrub
 pub use Rattle.hwp_soft.proofs as of_hwp_soft
-pub use Rattle.hwp_cpu_copy.proofs.of_hwp_fault as of_hwp_fault
+pub use Rattle.hwp_cpu_access.proofs.of_hwp_fault as of_hwp_fault

@@ -27,8 +27,8 @@ use Rattle.hwp_evict.specs.declared.Refusal.{Refusal}
 use Rattle.hwp_evict.specs.declared.Refusal.TheVariants as refusals
 use Rattle.hwp_soft.specs.hwp_claim.declared.FailAnswer.{FailAnswer}
 use Rattle.hwp_soft.specs.hwp_claim.declared.FailAnswer.TheVariants as fail
-use Rattle.hwp_cpu_copy.specs.hwp_cpu_access.declared.InstructionAnswer.{InstructionAnswer}
-use Rattle.hwp_cpu_copy.specs.hwp_cpu_access.declared.InstructionAnswer.TheVariants as instruction
+use Rattle.hwp_cpu_access.specs.declared.InstructionAnswer.{InstructionAnswer}
+use Rattle.hwp_cpu_access.specs.declared.InstructionAnswer.TheVariants as instruction
 use Rattle.hwp_scrub.specs.declared.RaiseAnswer.{RaiseAnswer}
 use Rattle.hwp_scrub.specs.declared.RaiseAnswer.TheVariants as raise
 use Rattle.hwp_scrub.specs.declared.ScrubAnswer.{ScrubAnswer}

@@ -42,13 +42,13 @@ use Rattle.hwp_evict.specs.declared.Eviction.TheVariants as evictions
 use Rattle.hwp_evict.specs.Evictions.{IsOfKind}
 use Rattle.hwp_evict.specs.Evicts as evicts
 use Rattle.hwp_evict.specs.Fsyncs as fsyncs
-use Rattle.hwp_cpu_copy.specs.hwp_fault.declared.AccessKind.{AccessKind}
-use Rattle.hwp_cpu_copy.specs.hwp_fault.declared.AccessKind.TheVariants as kinds
-use Rattle.hwp_cpu_copy.specs.hwp_fault.declared.Request.{Request}
-use Rattle.hwp_cpu_copy.specs.hwp_fault.Accesses as accesses
+use Rattle.hwp_cpu_access.specs.hwp_fault.declared.AccessKind.{AccessKind}
+use Rattle.hwp_cpu_access.specs.hwp_fault.declared.AccessKind.TheVariants as kinds
+use Rattle.hwp_cpu_access.specs.hwp_fault.declared.Request.{Request}
+use Rattle.hwp_cpu_access.specs.hwp_fault.Accesses as accesses
 use Rattle.hwp_soft.specs.hwp_claim.Injects as injects
-use Rattle.hwp_cpu_copy.specs.hwp_cpu_access.Instructions as instructions
-use Rattle.hwp_cpu_copy.specs.Copyings as copyings
+use Rattle.hwp_cpu_access.specs.Instructions as instructions
+use Rattle.hwp_cpu_access.specs.Copyings as copyings
 use Rattle.hwp_scrub.specs.declared.LocalChange.{LocalChange}
 use Rattle.hwp_scrub.specs.declared.LocalChange.TheVariants as changes
 use Rattle.hwp_scrub.specs.Logs as logs

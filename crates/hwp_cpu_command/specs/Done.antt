@@ -11,9 +11,9 @@ use Rattle.hwp_soft.specs.hwp_claim_frame.Done.{Grows, Marking, counts_owed, mar
 use Rattle.hwp_soft.specs.hwp_claim.declared.inject.InjectAt.{InjectAt}
 use Rattle.hwp_soft.specs.hwp_claim.declared.inject.InjectAt.TheVariants as inject_at
 use Rattle.hwp_soft.specs.hwp_claim.Done as fail_done
-use Rattle.hwp_cpu_copy.specs.hwp_cpu_access.Done as instruction_done
-use Rattle.hwp_cpu_copy.specs.hwp_cpu_access.Done.{FailuresGrow, failures_by}
-use Rattle.hwp_cpu_copy.specs.Done as copying_done
+use Rattle.hwp_cpu_access.specs.Done as instruction_done
+use Rattle.hwp_cpu_access.specs.Done.{FailuresGrow, failures_by}
+use Rattle.hwp_cpu_access.specs.CopyDone as copying_done
 use Rattle.hwp_scrub.specs.RaiseDone as raise_done
 use Rattle.hwp_scrub.specs.Done as scrub_done
 use Rattle.hwp_soft.specs.Done as soft_done

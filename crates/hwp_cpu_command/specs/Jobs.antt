@@ -26,14 +26,14 @@ use Rattle.hwp_soft.specs.hwp_claim.declared.Inject.{Inject}
 use Rattle.hwp_soft.specs.hwp_claim.Injects as injects
 use Rattle.hwp_cpu_row.specs.hwp_banks.Banks.{Banks, empty_banks}
 use Rattle.hwp_cpu_row.specs.hwp_cpu_check.declared.EventOutcome.{EventOutcome}
-use Rattle.hwp_cpu_copy.specs.hwp_cpu_access.declared.Instruction.{Instruction}
-use Rattle.hwp_cpu_copy.specs.hwp_cpu_access.Costs as instruction_costs
-use Rattle.hwp_cpu_copy.specs.hwp_cpu_access.Fits as instruction_fits
-use Rattle.hwp_cpu_copy.specs.hwp_cpu_access.Instructions as instructions
-use Rattle.hwp_cpu_copy.specs.declared.Copying.{Copying}
-use Rattle.hwp_cpu_copy.specs.Copyings as copyings
-use Rattle.hwp_cpu_copy.specs.Costs as copying_costs
-use Rattle.hwp_cpu_copy.specs.Fits as copying_fits
+use Rattle.hwp_cpu_access.specs.declared.Instruction.{Instruction}
+use Rattle.hwp_cpu_access.specs.Costs as instruction_costs
+use Rattle.hwp_cpu_access.specs.Fits as instruction_fits
+use Rattle.hwp_cpu_access.specs.Instructions as instructions
+use Rattle.hwp_cpu_access.specs.declared.Copying.{Copying}
+use Rattle.hwp_cpu_access.specs.Copyings as copyings
+use Rattle.hwp_cpu_access.specs.CopyCosts as copying_costs
+use Rattle.hwp_cpu_access.specs.CopyFits as copying_fits
 use Rattle.hwp_scrub.specs.declared.Raise.{Raise}
 use Rattle.hwp_scrub.specs.RaiseCosts as raise_costs
 use Rattle.hwp_scrub.specs.RaiseFits as raise_fits

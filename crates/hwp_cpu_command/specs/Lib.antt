@@ -12,13 +12,12 @@ pub use Rattle.hwp_soft.specs.hwp_claim_act as hwp_claim_act
 pub use Rattle.hwp_soft.specs.hwp_claim_frame as hwp_claim_frame
 pub use Rattle.hwp_evict.specs.hwp_core as hwp_core
 pub use Rattle.hwp_cpu_control.specs.hwp_core_rule as hwp_core_rule
-pub use Rattle.hwp_cpu_copy.specs.hwp_cpu_access as hwp_cpu_access
+pub use Rattle.hwp_cpu_access.specs as hwp_cpu_access
 pub use Rattle.hwp_cpu_row.specs.hwp_cpu_check as hwp_cpu_check
 pub use Rattle.hwp_cpu_control.specs as hwp_cpu_control
-pub use Rattle.hwp_cpu_copy.specs as hwp_cpu_copy
 pub use Rattle.hwp_evict.specs as hwp_evict
-pub use Rattle.hwp_cpu_copy.specs.hwp_fault as hwp_fault
-pub use Rattle.hwp_cpu_copy.specs.hwp_fork as hwp_fork
+pub use Rattle.hwp_cpu_access.specs.hwp_fault as hwp_fault
+pub use Rattle.hwp_cpu_access.specs.hwp_fork as hwp_fork
 pub use Rattle.hwp_cpu_control.specs.hwp_geom as hwp_geom
 pub use Rattle.hwp_cpu_control.specs.hwp_kill as hwp_kill
 pub use Rattle.hwp_cpu_row.specs.hwp_law_commands as hwp_law_commands

@@ -24,8 +24,8 @@ use Rattle.hwp_cpu_control.specs.Spoils as spoils
 use Rattle.hwp_evict.specs.Evicts as evicts
 use Rattle.hwp_evict.specs.Fsyncs as fsyncs
 use Rattle.hwp_soft.specs.hwp_claim.Injects as injects
-use Rattle.hwp_cpu_copy.specs.hwp_cpu_access.Instructions as instructions
-use Rattle.hwp_cpu_copy.specs.Copyings as copyings
+use Rattle.hwp_cpu_access.specs.Instructions as instructions
+use Rattle.hwp_cpu_access.specs.Copyings as copyings
 use Rattle.hwp_scrub.specs.Logs as logs
 use Rattle.hwp_scrub.specs.Raises as raises
 use Rattle.hwp_scrub.specs.Scrubs as scrubs

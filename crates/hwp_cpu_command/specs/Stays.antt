@@ -25,8 +25,8 @@ use Rattle.hwp_cpu_control.specs.declared.read_stop.ReadStopAt.TheVariants as re
 use Rattle.hwp_cpu_control.specs.declared.spoil.SpoilAt.TheVariants as spoil_at
 use Rattle.hwp_evict.specs.declared.evict.EvictAt.TheVariants as evict_at
 use Rattle.hwp_evict.specs.declared.fsync.FsyncAt.TheVariants as fsync_at
-use Rattle.hwp_cpu_copy.specs.hwp_fault.declared.Access.{Access}
-use Rattle.hwp_cpu_copy.specs.hwp_fault.declared.access.AccessAt.TheVariants as access_at
+use Rattle.hwp_cpu_access.specs.hwp_fault.declared.Access.{Access}
+use Rattle.hwp_cpu_access.specs.hwp_fault.declared.access.AccessAt.TheVariants as access_at
 use Rattle.hwp_soft.specs.hwp_claim_frame.declared.claim.Claim.{Claim}
 use Rattle.hwp_soft.specs.hwp_claim_frame.declared.claim.ClaimAt.TheVariants as claim_at
 use Rattle.hwp_soft.specs.hwp_claim.declared.fail.Fail.{Fail}
@@ -36,12 +36,12 @@ use Rattle.hwp_soft.specs.hwp_claim.declared.inject.InjectAt.TheVariants as inje
 use Rattle.hwp_cpu_row.specs.hwp_cpu_check.declared.Handler.{Handler}
 use Rattle.hwp_cpu_row.specs.hwp_cpu_check.declared.handler.HandlerAt.TheVariants as handler_at
 use Rattle.hwp_cpu_row.specs.hwp_cpu_check.Told.{halts}
-use Rattle.hwp_cpu_copy.specs.hwp_cpu_access.declared.InstructionAnswer.TheVariants as instruction_answers
-use Rattle.hwp_cpu_copy.specs.hwp_cpu_access.declared.instruction.InstructionAt.TheVariants as instruction_at
-use Rattle.hwp_cpu_copy.specs.hwp_cpu_access.Instructions as instructions
-use Rattle.hwp_cpu_copy.specs.hwp_cpu_access.declared.Instruction.{Instruction}
-use Rattle.hwp_cpu_copy.specs.declared.copying.CopyingAt.TheVariants as copying_at
-use Rattle.hwp_cpu_copy.specs.Fits.{begun}
+use Rattle.hwp_cpu_access.specs.declared.InstructionAnswer.TheVariants as instruction_answers
+use Rattle.hwp_cpu_access.specs.declared.instruction.InstructionAt.TheVariants as instruction_at
+use Rattle.hwp_cpu_access.specs.Instructions as instructions
+use Rattle.hwp_cpu_access.specs.declared.Instruction.{Instruction}
+use Rattle.hwp_cpu_access.specs.declared.copying.CopyingAt.TheVariants as copying_at
+use Rattle.hwp_cpu_access.specs.CopyFits.{begun}
 use Rattle.hwp_scrub.specs.declared.RaiseAnswer.TheVariants as raise_answers
 use Rattle.hwp_scrub.specs.declared.raise.RaiseAt.TheVariants as raise_at
 use Rattle.hwp_scrub.specs.Raises as raises

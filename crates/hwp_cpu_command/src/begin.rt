@@ -2,7 +2,7 @@ ghost use Rattle.std.specs.Prelude.{◌≡◌, ◌<◌, ℕ, Bool, true, false, 
 ghost use Rattle.hwp_cpu_control.specs.hwp_geom.Layout.{IsSound};
 ghost use Rattle.hwp_cpu_control.specs.hwp_geom.Limits.{line_limit};
 ghost use Rattle.hwp_cpu_control.specs.hwp_page.Step.{IsOf};
-ghost use Rattle.hwp_cpu_copy.specs.hwp_fault.Accesses.{IsDeclared};
+ghost use Rattle.hwp_cpu_access.specs.hwp_fault.Accesses.{IsDeclared};
 ghost use Rattle.hwp_cpu_row.specs.hwp_script_read.Valid.{IsAccess, IsCommandOf, IsThreadOf};
 ghost use Rattle.hwp_cpu_row.specs.hwp_banks.Banks.{Banks, empty_banks};
 ghost use Rattle.hwp_cpu_row.specs.hwp_banks.Banks.{raw_event};
@@ -19,8 +19,8 @@ ghost use Rattle.hwp_cpu_command.specs.Jobs.{left_in};
 ghost use Rattle.hwp_cpu_command.specs.declared.job.Job.TheVariants as jobs;
 
 use crate::job::Job;
+use hwp_cpu_access::{AccessKind, Copying, Instruction, Request};
 use hwp_cpu_control::{Denial, Denied, Fork, Nested, Prctl, Spoil, Targets};
-use hwp_cpu_copy::{AccessKind, Copying, Instruction, Request};
 use hwp_cpu_row::{
     Admit, BANKS, Bank, Command, Event, Handles, Inject, Local, McgBits, Origin, PrctlArgs, Status,
     Watching, no_events,

@@ -1,10 +1,10 @@
 ghost use Rattle.std.specs.Prelude.{◌≡◌, option_and_then, option_map};
 
+use hwp_cpu_access::{Copying, Instruction, InstructionAnswer};
 use hwp_cpu_control::{
     Denial, Denied, DeniedAnswer, Fork, ForkAnswer, Nested, NestedAnswer, Prctl, PrctlAnswer,
     ReadStopAnswer, Spoil, SpoilAnswer,
 };
-use hwp_cpu_copy::{Copying, Instruction, InstructionAnswer};
 use hwp_cpu_row::{
     Answer, EventOutcome, FailAnswer, FrameChange, Inject, Local, Offlining, Row, Watching,
 };

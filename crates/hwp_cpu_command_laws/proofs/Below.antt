@@ -45,9 +45,9 @@ use Rattle.hwp_cpu_command.specs.hwp_cpu_access.declared.Instruction.{Instructio
 use Rattle.hwp_cpu_command.specs.hwp_cpu_access.Costs as instruction_costs
 use Rattle.hwp_cpu_command.specs.hwp_cpu_access.Instructions as instructions
 use Rattle.hwp_cpu_command.proofs.of_hwp_cpu_access.InstructionCosts.{again-cost, few-frees, held-most, instruction-below, left-few}
-use Rattle.hwp_cpu_command.specs.hwp_cpu_copy.declared.Copying.{Copying}
-use Rattle.hwp_cpu_command.specs.hwp_cpu_copy.Copyings as copyings
-use Rattle.hwp_cpu_command.proofs.of_hwp_cpu_copy.CopyRank.{copy-below}
+use Rattle.hwp_cpu_command.specs.hwp_cpu_access.declared.Copying.{Copying}
+use Rattle.hwp_cpu_command.specs.hwp_cpu_access.Copyings as copyings
+use Rattle.hwp_cpu_command.proofs.of_hwp_cpu_access.CopyRank.{copy-below}
 use Rattle.hwp_cpu_command.specs.hwp_banks.Banks.{Banks}
 use Rattle.hwp_cpu_command.specs.hwp_scrub.declared.Raise.{Raise}
 use Rattle.hwp_cpu_command.specs.hwp_scrub.declared.raise.RaiseAt.{RaiseAt}

@@ -21,13 +21,13 @@ use Rattle.hwp_cpu_command.specs.hwp_cpu_access.declared.instruction.Pause.{Paus
 use Rattle.hwp_cpu_command.specs.hwp_cpu_access.declared.instruction.Pause.TheVariants as pauses
 use Rattle.hwp_cpu_command.specs.hwp_cpu_access.Done as instruction_done
 use Rattle.hwp_cpu_command.specs.hwp_cpu_access.Instructions as instructions
-use Rattle.hwp_cpu_command.specs.hwp_cpu_copy.declared.copying.CopyingAt.{CopyingAt}
-use Rattle.hwp_cpu_command.specs.hwp_cpu_copy.declared.copying.CopyingAt.TheVariants as copying_at
-use Rattle.hwp_cpu_command.specs.hwp_cpu_copy.Copyings as copyings
-use Rattle.hwp_cpu_command.specs.hwp_cpu_copy.declared.Copying.{Copying}
-use Rattle.hwp_cpu_command.specs.hwp_cpu_copy.Done as copying_done
-use Rattle.hwp_cpu_command.proofs.of_hwp_cpu_copy.CopyEnds as copy_ends
-use Rattle.hwp_cpu_command.proofs.of_hwp_cpu_copy.CopyResting as copy_resting
+use Rattle.hwp_cpu_command.specs.hwp_cpu_access.declared.copying.CopyingAt.{CopyingAt}
+use Rattle.hwp_cpu_command.specs.hwp_cpu_access.declared.copying.CopyingAt.TheVariants as copying_at
+use Rattle.hwp_cpu_command.specs.hwp_cpu_access.Copyings as copyings
+use Rattle.hwp_cpu_command.specs.hwp_cpu_access.declared.Copying.{Copying}
+use Rattle.hwp_cpu_command.specs.hwp_cpu_access.CopyDone as copying_done
+use Rattle.hwp_cpu_command.proofs.of_hwp_cpu_access.CopyEnds as copy_ends
+use Rattle.hwp_cpu_command.proofs.of_hwp_cpu_access.CopyResting as copy_resting
 use Rattle.hwp_cpu_command.specs.hwp_scrub.declared.LocalChange.{LocalChange}
 use Rattle.hwp_cpu_command.specs.hwp_scrub.declared.Raise.{Raise}
 use Rattle.hwp_cpu_command.specs.hwp_scrub.declared.raise.RaiseAt.{RaiseAt}

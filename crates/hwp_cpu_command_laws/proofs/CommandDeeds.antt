@@ -85,11 +85,11 @@ use Rattle.hwp_cpu_command.specs.hwp_cpu_access.Done as instruction_done
 use Rattle.hwp_cpu_command.specs.hwp_cpu_access.Done.{FailuresGrow, failures_by}
 use Rattle.hwp_cpu_command.specs.hwp_cpu_access.Instructions as instructions
 use Rattle.hwp_cpu_command.proofs.of_hwp_cpu_access.InstructionAdds.{instruction-adds}
-use Rattle.hwp_cpu_command.specs.hwp_cpu_copy.declared.Copying.{Copying}
-use Rattle.hwp_cpu_command.specs.hwp_cpu_copy.Copyings as copyings
-use Rattle.hwp_cpu_command.specs.hwp_cpu_copy.Done as copying_done
-use Rattle.hwp_cpu_command.proofs.of_hwp_cpu_copy.CopyAdds.{copy-adds}
-use Rattle.hwp_cpu_command.proofs.of_hwp_cpu_copy.CopyEnds as copy_ends
+use Rattle.hwp_cpu_command.specs.hwp_cpu_access.declared.Copying.{Copying}
+use Rattle.hwp_cpu_command.specs.hwp_cpu_access.Copyings as copyings
+use Rattle.hwp_cpu_command.specs.hwp_cpu_access.CopyDone as copying_done
+use Rattle.hwp_cpu_command.proofs.of_hwp_cpu_access.CopyAdds.{copy-adds}
+use Rattle.hwp_cpu_command.proofs.of_hwp_cpu_access.CopyEnds as copy_ends
 use Rattle.hwp_cpu_command.proofs.of_hwp_cpu_access.CommandGrows.{failures-grow}
 use Rattle.hwp_cpu_command.specs.hwp_scrub.declared.Raise.{Raise}
 use Rattle.hwp_cpu_command.specs.hwp_scrub.RaiseDone as raise_done

@@ -67,13 +67,13 @@ use Rattle.hwp_cpu_command.specs.hwp_cpu_access.Instructions as instructions
 use Rattle.hwp_cpu_command.proofs.of_hwp_cpu_access.CheckLaws.{halts-more}
 use Rattle.hwp_cpu_command.proofs.of_hwp_cpu_access.Quiet.{access}
 use Rattle.hwp_cpu_command.specs.hwp_fork.Cows as cows
-use Rattle.hwp_cpu_command.specs.hwp_cpu_copy.declared.Copying.{Copying}
-use Rattle.hwp_cpu_command.specs.hwp_cpu_copy.declared.copying.CopyingAt.{CopyingAt}
-use Rattle.hwp_cpu_command.specs.hwp_cpu_copy.declared.copying.CopyingAt.TheVariants as copying_at
-use Rattle.hwp_cpu_command.specs.hwp_cpu_copy.Copyings as copyings
-use Rattle.hwp_cpu_command.specs.hwp_cpu_copy.Fits as copying_fits
-use Rattle.hwp_cpu_command.specs.hwp_cpu_copy.Runs as copying_runs
-use Rattle.hwp_cpu_command.proofs.of_hwp_cpu_copy.CowSteps.{request-who}
+use Rattle.hwp_cpu_command.specs.hwp_cpu_access.declared.Copying.{Copying}
+use Rattle.hwp_cpu_command.specs.hwp_cpu_access.declared.copying.CopyingAt.{CopyingAt}
+use Rattle.hwp_cpu_command.specs.hwp_cpu_access.declared.copying.CopyingAt.TheVariants as copying_at
+use Rattle.hwp_cpu_command.specs.hwp_cpu_access.Copyings as copyings
+use Rattle.hwp_cpu_command.specs.hwp_cpu_access.CopyFits as copying_fits
+use Rattle.hwp_cpu_command.specs.hwp_cpu_access.Runs as copying_runs
+use Rattle.hwp_cpu_command.proofs.of_hwp_cpu_access.CowSteps.{request-who}
 use Rattle.hwp_cpu_command.specs.hwp_scrub.declared.Raise.{Raise}
 use Rattle.hwp_cpu_command.specs.hwp_scrub.declared.raise.RaiseAt.{RaiseAt}
 use Rattle.hwp_cpu_command.specs.hwp_scrub.declared.raise.RaiseAt.TheVariants as raise_at

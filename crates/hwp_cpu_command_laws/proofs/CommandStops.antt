@@ -41,12 +41,12 @@ use Rattle.hwp_cpu_command.specs.hwp_cpu_control.declared.fork.ForkAt.{ForkAt}
 use Rattle.hwp_cpu_command.specs.hwp_cpu_control.declared.fork.ForkAt.TheVariants as fork_at
 use Rattle.hwp_cpu_command.specs.hwp_cpu_control.Forks as forks
 use Rattle.hwp_cpu_command.specs.hwp_geom.declared.VSlot.{VSlot}
-use Rattle.hwp_cpu_command.specs.hwp_cpu_copy.declared.Copying.{Copying}
-use Rattle.hwp_cpu_command.specs.hwp_cpu_copy.declared.copying.CopyingAt.{CopyingAt}
-use Rattle.hwp_cpu_command.specs.hwp_cpu_copy.declared.copying.CopyingAt.TheVariants as copying_at
-use Rattle.hwp_cpu_command.specs.hwp_cpu_copy.Copyings as copyings
-use Rattle.hwp_cpu_command.specs.hwp_cpu_copy.Fits as copying_fits
-use Rattle.hwp_cpu_command.specs.hwp_cpu_copy.Runs.{Run, checks_by, made_by}
+use Rattle.hwp_cpu_command.specs.hwp_cpu_access.declared.Copying.{Copying}
+use Rattle.hwp_cpu_command.specs.hwp_cpu_access.declared.copying.CopyingAt.{CopyingAt}
+use Rattle.hwp_cpu_command.specs.hwp_cpu_access.declared.copying.CopyingAt.TheVariants as copying_at
+use Rattle.hwp_cpu_command.specs.hwp_cpu_access.Copyings as copyings
+use Rattle.hwp_cpu_command.specs.hwp_cpu_access.CopyFits as copying_fits
+use Rattle.hwp_cpu_command.specs.hwp_cpu_access.Runs.{Run, checks_by, made_by}
 use Rattle.hwp_cpu_command.specs.hwp_cpu_check.hwp_guest.declared.Admit.{Admit}
 use Rattle.hwp_cpu_command.specs.hwp_cpu_control.declared.Denial.{Denial}
 use Rattle.hwp_cpu_command.specs.hwp_cpu_control.declared.Denial.TheVariants as denials

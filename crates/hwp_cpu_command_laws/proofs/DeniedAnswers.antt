@@ -57,7 +57,7 @@ use Rattle.hwp_cpu_command.specs.hwp_evict.Evicts as evicts
 use Rattle.hwp_cpu_command.specs.hwp_evict.Fsyncs as fsyncs
 use Rattle.hwp_cpu_command.specs.hwp_claim.Injects as injects
 use Rattle.hwp_cpu_command.specs.hwp_cpu_access.Instructions as instructions
-use Rattle.hwp_cpu_command.specs.hwp_cpu_copy.Copyings as copyings
+use Rattle.hwp_cpu_command.specs.hwp_cpu_access.Copyings as copyings
 use Rattle.hwp_cpu_command.specs.hwp_scrub.Logs as logs
 use Rattle.hwp_cpu_command.specs.hwp_scrub.Raises as raises
 use Rattle.hwp_cpu_command.specs.hwp_scrub.Scrubs as scrubs

@@ -26,10 +26,10 @@ use Rattle.hwp_cpu_command.specs.hwp_cpu_access.declared.InstructionAnswer.TheVa
 use Rattle.hwp_cpu_command.specs.hwp_fork.declared.Sub.{Sub}
 use Rattle.hwp_cpu_command.specs.hwp_fork.declared.Sub.TheVariants as subs
 use Rattle.hwp_cpu_command.specs.hwp_fork.Cows as cows
-use Rattle.hwp_cpu_command.specs.hwp_cpu_copy.declared.Copying.{Copying}
-use Rattle.hwp_cpu_command.specs.hwp_cpu_copy.declared.copying.CopyingAt.{CopyingAt}
-use Rattle.hwp_cpu_command.specs.hwp_cpu_copy.declared.copying.CopyingAt.TheVariants as copying_at
-use Rattle.hwp_cpu_command.specs.hwp_cpu_copy.Copyings as copyings
+use Rattle.hwp_cpu_command.specs.hwp_cpu_access.declared.Copying.{Copying}
+use Rattle.hwp_cpu_command.specs.hwp_cpu_access.declared.copying.CopyingAt.{CopyingAt}
+use Rattle.hwp_cpu_command.specs.hwp_cpu_access.declared.copying.CopyingAt.TheVariants as copying_at
+use Rattle.hwp_cpu_command.specs.hwp_cpu_access.Copyings as copyings
 use Rattle.hwp_cpu_command.specs.hwp_scrub.declared.Raise.{Raise}
 use Rattle.hwp_cpu_command.specs.hwp_scrub.declared.Raiser.{Raiser}
 use Rattle.hwp_cpu_command.specs.hwp_scrub.declared.raise.RaiseAt.{RaiseAt}

@@ -24,18 +24,18 @@ use Rattle.hwp_law_run.specs.hwp_law_commands.Commands.{process_of_thread}
 use Rattle.hwp_cpu_row.specs.hwp_cpu_check.declared.EventOutcome.{EventOutcome}
 use Rattle.hwp_cpu_row.specs.hwp_cpu_check.Checks.{Check, left_by, lines_of}
 use Rattle.hwp_cpu_row.specs.hwp_cpu_check.Told.{first_signal}
-use Rattle.hwp_cpu_copy.specs.hwp_fault.declared.AccessKind.TheVariants as kinds
-use Rattle.hwp_cpu_copy.specs.hwp_fault.declared.Request.{Request}
-use Rattle.hwp_cpu_copy.specs.hwp_fault.Accesses as accesses
-use Rattle.hwp_cpu_copy.specs.hwp_fault.Touches.{refusal_by}
-use Rattle.hwp_cpu_copy.specs.hwp_fork.declared.cow.Sub.{Sub}
-use Rattle.hwp_cpu_copy.specs.hwp_fork.declared.cow.Sub.TheVariants as subs
-use Rattle.hwp_cpu_copy.specs.hwp_fork.Cows as cows
-use Rattle.hwp_cpu_copy.specs.hwp_cpu_access.Checks.{AreChecks}
-use Rattle.hwp_cpu_copy.specs.hwp_cpu_access.Fits.{LetsGoOn, checks_in}
-use Rattle.hwp_cpu_copy.specs.Copyings.{load_of, request_by}
-use Rattle.hwp_cpu_copy.specs.Fits.{IsLastPlace}
-use Rattle.hwp_cpu_copy.specs.Runs.{AreRuns, IsBetween, LooksLast, Run, checks_by, made_by, words_of}
+use Rattle.hwp_cpu_access.specs.hwp_fault.declared.AccessKind.TheVariants as kinds
+use Rattle.hwp_cpu_access.specs.hwp_fault.declared.Request.{Request}
+use Rattle.hwp_cpu_access.specs.hwp_fault.Accesses as accesses
+use Rattle.hwp_cpu_access.specs.hwp_fault.Touches.{refusal_by}
+use Rattle.hwp_cpu_access.specs.hwp_fork.declared.cow.Sub.{Sub}
+use Rattle.hwp_cpu_access.specs.hwp_fork.declared.cow.Sub.TheVariants as subs
+use Rattle.hwp_cpu_access.specs.hwp_fork.Cows as cows
+use Rattle.hwp_cpu_access.specs.Checks.{AreChecks}
+use Rattle.hwp_cpu_access.specs.Fits.{LetsGoOn, checks_in}
+use Rattle.hwp_cpu_access.specs.Copyings.{load_of, request_by}
+use Rattle.hwp_cpu_access.specs.CopyFits.{IsLastPlace}
+use Rattle.hwp_cpu_access.specs.Runs.{AreRuns, IsBetween, LooksLast, Run, checks_by, made_by, words_of}
 
 -- the store of the word through the twin `to`, as its accesses ask for it
 abbrev pub store_by : Who → Thread → VSlot → ℕ → ℕ → Page → Proc → Request

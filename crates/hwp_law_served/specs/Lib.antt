@@ -16,7 +16,7 @@ pub use Rattle.hwp_soft.specs.hwp_claim_frame as hwp_claim_frame
 pub use Rattle.hwp_law_run.specs.hwp_core_rule as hwp_core_rule
 pub use Rattle.hwp_cpu_row.specs.hwp_cpu_check as hwp_cpu_check
 pub use Rattle.hwp_cpu_row.specs as hwp_cpu_row
-pub use Rattle.hwp_cpu_copy.specs.hwp_evict as hwp_evict
+pub use Rattle.hwp_cpu_access.specs.hwp_evict as hwp_evict
 pub use Rattle.hwp_law_run.specs.hwp_geom as hwp_geom
 pub use Rattle.hwp_law_run.specs.hwp_kill as hwp_kill
 pub use Rattle.hwp_law_run.specs.hwp_law as hwp_law
@@ -32,8 +32,7 @@ pub use Rattle.hwp_law_run.specs.hwp_severity as hwp_severity
 pub use Rattle.hwp_soft.specs as hwp_soft
 pub use Rattle.hwp_soft.specs.hwp_soft_move as hwp_soft_move
 pub use Rattle.hwp_law_run.specs.hwp_words as hwp_words
-pub use Rattle.hwp_cpu_copy.specs.hwp_fault as hwp_fault
-pub use Rattle.hwp_cpu_copy.specs.hwp_cpu_access as hwp_cpu_access
+pub use Rattle.hwp_cpu_access.specs.hwp_fault as hwp_fault
+pub use Rattle.hwp_cpu_access.specs as hwp_cpu_access
 pub use Rattle.hwp_cpu_control.specs as hwp_cpu_control
-pub use Rattle.hwp_cpu_copy.specs as hwp_cpu_copy
-pub use Rattle.hwp_cpu_copy.specs.hwp_fork as hwp_fork
+pub use Rattle.hwp_cpu_access.specs.hwp_fork as hwp_fork

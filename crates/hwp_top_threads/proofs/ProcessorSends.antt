@@ -29,8 +29,8 @@ use Rattle.hwp_top_turns.specs.hwp_cpu_command.hwp_evict.contracts.evict.EvictAt
 use Rattle.hwp_top_turns.specs.hwp_cpu_command.hwp_evict.contracts.evict.Evict as Evict
 use Rattle.hwp_top_turns.specs.hwp_cpu_command.hwp_evict.contracts.fsync.Fsync as Fsync
 use Rattle.hwp_top_turns.specs.hwp_cpu_command.hwp_fork.contracts.cow.Cow as Cow
-use Rattle.hwp_top_turns.specs.hwp_cpu_command.hwp_cpu_copy.contracts.copying.CopyingAt as CopyingAt
-use Rattle.hwp_top_turns.specs.hwp_cpu_command.hwp_cpu_copy.contracts.copying.Copying as Copying
+use Rattle.hwp_top_turns.specs.hwp_cpu_command.hwp_cpu_access.contracts.copying.CopyingAt as CopyingAt
+use Rattle.hwp_top_turns.specs.hwp_cpu_command.hwp_cpu_access.contracts.copying.Copying as Copying
 use Rattle.hwp_top_turns.specs.hwp_cpu_control.contracts.prctl.Prctl as Prctl
 use Rattle.hwp_top_turns.specs.hwp_cpu_control.contracts.fork.Fork as Fork
 use Rattle.hwp_top_turns.specs.hwp_cpu_control.contracts.denied.Denied as Denied

@@ -44,19 +44,19 @@ use Rattle.hwp_cpu_command.specs.hwp_cpu_access.declared.InstructionAnswer.TheVa
 use Rattle.hwp_cpu_command.specs.hwp_cpu_access.Done as instruction_done
 use Rattle.hwp_cpu_command.specs.hwp_cpu_access.Fits as instruction_fits
 use Rattle.hwp_cpu_command.specs.hwp_cpu_access.Fits.{checks_in}
-use Rattle.hwp_cpu_command.specs.hwp_cpu_copy.declared.Copying.{Copying}
-use Rattle.hwp_cpu_command.specs.hwp_cpu_copy.declared.copying.CopyingAt.{CopyingAt}
-use Rattle.hwp_cpu_command.specs.hwp_cpu_copy.declared.copying.CopyingAt.TheVariants as copying_at
-use Rattle.hwp_cpu_command.specs.hwp_cpu_copy.Copyings as copyings
-use Rattle.hwp_cpu_command.specs.hwp_cpu_copy.Copyings.{request_by}
-use Rattle.hwp_cpu_command.specs.hwp_cpu_copy.Done as copying_done
-use Rattle.hwp_cpu_command.specs.hwp_cpu_copy.Fits as copying_fits
-use Rattle.hwp_cpu_command.specs.hwp_cpu_copy.Fits.{HasRun}
-use Rattle.hwp_cpu_command.specs.hwp_cpu_copy.Runs.{AreRuns, IsBetween, Run, checks_by, made_by, words_of}
-use Rattle.hwp_cpu_command.proofs.of_hwp_cpu_copy.CopyEnds.{EndsByAccess, HasEnded, all-told, has-ended}
-use Rattle.hwp_cpu_command.proofs.of_hwp_cpu_copy.CopyLaws.{over-instruction}
-use Rattle.hwp_cpu_command.proofs.of_hwp_cpu_copy.CowSteps.{request-who}
-use Rattle.hwp_cpu_command.proofs.of_hwp_cpu_copy.RunLaws.{checks-append, runs-counted}
+use Rattle.hwp_cpu_command.specs.hwp_cpu_access.declared.Copying.{Copying}
+use Rattle.hwp_cpu_command.specs.hwp_cpu_access.declared.copying.CopyingAt.{CopyingAt}
+use Rattle.hwp_cpu_command.specs.hwp_cpu_access.declared.copying.CopyingAt.TheVariants as copying_at
+use Rattle.hwp_cpu_command.specs.hwp_cpu_access.Copyings as copyings
+use Rattle.hwp_cpu_command.specs.hwp_cpu_access.Copyings.{request_by}
+use Rattle.hwp_cpu_command.specs.hwp_cpu_access.CopyDone as copying_done
+use Rattle.hwp_cpu_command.specs.hwp_cpu_access.CopyFits as copying_fits
+use Rattle.hwp_cpu_command.specs.hwp_cpu_access.CopyFits.{HasRun}
+use Rattle.hwp_cpu_command.specs.hwp_cpu_access.Runs.{AreRuns, IsBetween, Run, checks_by, made_by, words_of}
+use Rattle.hwp_cpu_command.proofs.of_hwp_cpu_access.CopyEnds.{EndsByAccess, HasEnded, all-told, has-ended}
+use Rattle.hwp_cpu_command.proofs.of_hwp_cpu_access.CopyLaws.{over-instruction}
+use Rattle.hwp_cpu_command.proofs.of_hwp_cpu_access.CowSteps.{request-who}
+use Rattle.hwp_cpu_command.proofs.of_hwp_cpu_access.RunLaws.{checks-append, runs-counted}
 use Rattle.hwp_cpu_command.specs.declared.Job.{Job}
 use Rattle.hwp_cpu_command.specs.declared.Job.TheVariants as jobs
 use Rattle.hwp_cpu_command.specs.Answers.{instruction_answer}

@@ -35,7 +35,7 @@ use Rattle.hwp_law_served.specs.hwp_cpu_row.declared.Row.{Row}
 use Rattle.hwp_law_served.specs.hwp_cpu_check.declared.EventOutcome.{EventOutcome}
 use Rattle.hwp_law_served.specs.hwp_fault.declared.Request.{Request}
 use Rattle.hwp_law_served.specs.hwp_fault.Touches.{refusal_by}
-use Rattle.hwp_law_served.specs.hwp_cpu_copy.Runs.{made_by}
+use Rattle.hwp_law_served.specs.hwp_cpu_access.Runs.{made_by}
 use Rattle.hwp_law_served.specs.Causes.{IsCausedWith}
 use Rattle.hwp_law_served.specs.Copied.{IsCopyCaused, IsCopyEnded, store_by, sub_next}
 use Rattle.hwp_law_served.specs.Rows.{offlined}

@@ -22,7 +22,7 @@ use Rattle.hwp_law_served.specs.hwp_cpu_check.declared.EventOutcome.{EventOutcom
 use Rattle.hwp_law_served.specs.hwp_cpu_row.declared.FrameChange.{FrameChange}
 use Rattle.hwp_law_served.specs.hwp_fault.declared.Request.{Request}
 use Rattle.hwp_law_served.specs.hwp_fork.declared.cow.Sub.{Sub}
-use Rattle.hwp_law_served.specs.hwp_cpu_copy.Runs.{Run}
+use Rattle.hwp_law_served.specs.hwp_cpu_access.Runs.{Run}
 use Rattle.hwp_law_served.specs.Causes.{FoundGone, IsCausedWith, SawProcess}
 use Rattle.hwp_law_served.specs.Copied.{IsCopyEnded, IsGoing, store_by}
 

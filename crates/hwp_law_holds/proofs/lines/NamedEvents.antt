@@ -56,8 +56,8 @@ use Rattle.hwp_law_served.specs.hwp_fork.declared.cow.CowAt.TheVariants as cow_a
 use Rattle.hwp_law_served.specs.hwp_fork.declared.cow.Sub.{Sub}
 use Rattle.hwp_law_served.specs.hwp_fork.declared.cow.Sub.TheVariants as subs
 use Rattle.hwp_law_served.specs.hwp_fork.Cows as cows
-use Rattle.hwp_law_served.specs.hwp_cpu_copy.Copyings.{request_by}
-use Rattle.hwp_law_served.specs.hwp_cpu_copy.Runs.{AreRuns, IsRun, Run, checks_by}
+use Rattle.hwp_law_served.specs.hwp_cpu_access.Copyings.{request_by}
+use Rattle.hwp_law_served.specs.hwp_cpu_access.Runs.{AreRuns, IsRun, Run, checks_by}
 use Rattle.hwp_law_served.specs.Copied.{AreChecksOf, IsCopyTold, store_by}
 use Rattle.hwp_law_holds.proofs.copied.CopyEvents.{lines-behind}
 use Rattle.hwp_law_served.specs.hwp_claim.declared.Found.{Found}

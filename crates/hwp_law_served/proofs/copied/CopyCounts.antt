@@ -19,14 +19,14 @@ use Rattle.hwp_law_run.proofs.of_hwp_core_rule.MoreEntries.{each-append}
 use Rattle.hwp_law_run.specs.hwp_core_rule.Known.{IsOnTheWay, deeds, is_failure}
 use Rattle.hwp_law_run.specs.hwp_law.Copies.{is_load, is_store}
 use Rattle.hwp_cpu_row.specs.hwp_cpu_check.Checks.{left_by}
-use Rattle.hwp_cpu_copy.specs.hwp_fault.declared.Request.{Request}
-use Rattle.hwp_cpu_copy.specs.hwp_fault.Accesses.{what_of}
-use Rattle.hwp_cpu_copy.specs.hwp_fork.declared.cow.Cow.{Cow}
-use Rattle.hwp_cpu_copy.specs.hwp_fork.declared.cow.CowAt.{CowAt}
-use Rattle.hwp_cpu_copy.specs.hwp_fork.declared.cow.CowAt.TheVariants as at
-use Rattle.hwp_cpu_copy.specs.hwp_fork.Cows as cows
-use Rattle.hwp_cpu_copy.specs.Copyings.{load_of, store_of}
-use Rattle.hwp_cpu_copy.specs.Runs.{AreRuns, IsAccessRun, IsBetween, IsRun, Run, made_by, words_of}
+use Rattle.hwp_cpu_access.specs.hwp_fault.declared.Request.{Request}
+use Rattle.hwp_cpu_access.specs.hwp_fault.Accesses.{what_of}
+use Rattle.hwp_cpu_access.specs.hwp_fork.declared.cow.Cow.{Cow}
+use Rattle.hwp_cpu_access.specs.hwp_fork.declared.cow.CowAt.{CowAt}
+use Rattle.hwp_cpu_access.specs.hwp_fork.declared.cow.CowAt.TheVariants as at
+use Rattle.hwp_cpu_access.specs.hwp_fork.Cows as cows
+use Rattle.hwp_cpu_access.specs.Copyings.{load_of, store_of}
+use Rattle.hwp_cpu_access.specs.Runs.{AreRuns, IsAccessRun, IsBetween, IsRun, Run, made_by, words_of}
 use Rattle.hwp_law_served.specs.Copied.{HasCopied}
 use Rattle.hwp_law_served.proofs.copied.OwnIn.{in_page}
 use Rattle.hwp_law_served.proofs.copied.RunFacts.{IsSoOf, of-runs}

@@ -30,12 +30,12 @@ use Rattle.hwp_law_run.specs.hwp_law.Pairings.{is_soft}
 use Rattle.hwp_law_run.specs.hwp_law.States.{entry_named}
 use Rattle.hwp_cpu_row.specs.declared.Row.{Row}
 use Rattle.hwp_cpu_row.specs.hwp_cpu_check.declared.EventOutcome.{EventOutcome}
-use Rattle.hwp_cpu_copy.specs.hwp_fault.declared.Request.{Request}
-use Rattle.hwp_cpu_copy.specs.hwp_fault.Accesses.{IsDeclared}
-use Rattle.hwp_cpu_copy.specs.hwp_fault.Touches.{refusal_by}
-use Rattle.hwp_cpu_copy.specs.hwp_fork.Cows as cows
-use Rattle.hwp_cpu_copy.specs.Copyings.{load_of, store_of}
-use Rattle.hwp_cpu_copy.specs.Runs.{IsBetween, Run, made_by}
+use Rattle.hwp_cpu_access.specs.hwp_fault.declared.Request.{Request}
+use Rattle.hwp_cpu_access.specs.hwp_fault.Accesses.{IsDeclared}
+use Rattle.hwp_cpu_access.specs.hwp_fault.Touches.{refusal_by}
+use Rattle.hwp_cpu_access.specs.hwp_fork.Cows as cows
+use Rattle.hwp_cpu_access.specs.Copyings.{load_of, store_of}
+use Rattle.hwp_cpu_access.specs.Runs.{IsBetween, Run, made_by}
 use Rattle.hwp_law_served.specs.Accounts.{IsAccounted}
 use Rattle.hwp_law_served.specs.Causes.{IsBeside, IsCausedWith}
 use Rattle.hwp_law_served.specs.Copied.{HasCopied, IsBehind, IsCopyCaused, IsCopyEnded, IsRefused, store_by, sub_next}

@@ -14,13 +14,13 @@ use Rattle.hwp_law_run.specs.hwp_law_commands.Commands.{is_check}
 use Rattle.hwp_law_run.specs.hwp_report_text.declared.Answer.{Answer}
 use Rattle.hwp_law_run.specs.hwp_report_text.declared.Answer.TheVariants as answers
 use Rattle.hwp_cpu_row.specs.hwp_cpu_check.declared.EventOutcome.{EventOutcome}
-use Rattle.hwp_cpu_copy.specs.hwp_fault.declared.AccessKind.{AccessKind}
-use Rattle.hwp_cpu_copy.specs.hwp_fault.declared.AccessKind.TheVariants as kinds
-use Rattle.hwp_cpu_copy.specs.hwp_fault.declared.Request.{Request}
-use Rattle.hwp_cpu_copy.specs.hwp_fault.Touches.{refusal_by}
-use Rattle.hwp_cpu_copy.specs.hwp_fork.declared.cow.Sub.{Sub}
-use Rattle.hwp_cpu_copy.specs.Copyings.{request_by}
-use Rattle.hwp_cpu_copy.specs.Runs.{IsBetween, Run}
+use Rattle.hwp_cpu_access.specs.hwp_fault.declared.AccessKind.{AccessKind}
+use Rattle.hwp_cpu_access.specs.hwp_fault.declared.AccessKind.TheVariants as kinds
+use Rattle.hwp_cpu_access.specs.hwp_fault.declared.Request.{Request}
+use Rattle.hwp_cpu_access.specs.hwp_fault.Touches.{refusal_by}
+use Rattle.hwp_cpu_access.specs.hwp_fork.declared.cow.Sub.{Sub}
+use Rattle.hwp_cpu_access.specs.Copyings.{request_by}
+use Rattle.hwp_cpu_access.specs.Runs.{IsBetween, Run}
 use Rattle.hwp_law_served.specs.Copied.{IsBehind, IsCopyEnded, IsLeft, IsRefused}
 
 no-check : (kind : AccessKind) (slot : VSlot) (line : ℕ) (thread : Thread) → is_check (refusal_by kind slot line thread) ≡ false

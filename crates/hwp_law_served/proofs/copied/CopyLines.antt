@@ -29,17 +29,17 @@ use Rattle.hwp_law_run.specs.hwp_law_commands.Commands.{command_at, is_check}
 use Rattle.hwp_law_run.specs.hwp_law.Copies.{checks_by, copy_checks, is_load, is_store, own_in}
 use Rattle.hwp_cpu_row.specs.hwp_cpu_check.Checks.{Check, left_by}
 use Rattle.hwp_cpu_row.specs.hwp_cpu_check.declared.EventOutcome.{EventOutcome}
-use Rattle.hwp_cpu_copy.specs.hwp_fault.declared.Request.{Request}
-use Rattle.hwp_cpu_copy.specs.hwp_fault.Accesses.{what_of}
-use Rattle.hwp_cpu_copy.specs.hwp_fork.declared.cow.Cow.{Cow}
-use Rattle.hwp_cpu_copy.specs.hwp_fork.declared.cow.CowAt.{CowAt}
-use Rattle.hwp_cpu_copy.specs.hwp_fork.declared.cow.CowAt.TheVariants as at
-use Rattle.hwp_cpu_copy.specs.hwp_fork.declared.cow.Sub.{Sub}
-use Rattle.hwp_cpu_copy.specs.hwp_fork.declared.cow.Sub.TheVariants as subs
-use Rattle.hwp_cpu_copy.specs.hwp_fork.Cows as cows
-use Rattle.hwp_cpu_copy.specs.hwp_cpu_access.Fits.{checks_in}
-use Rattle.hwp_cpu_copy.specs.Copyings.{load_of, request_by, store_of}
-use Rattle.hwp_cpu_copy.specs.Runs.{AreRuns, IsAccessRun, IsBetween, IsFreeRun, IsRun, Run, made_by, words_of}
+use Rattle.hwp_cpu_access.specs.hwp_fault.declared.Request.{Request}
+use Rattle.hwp_cpu_access.specs.hwp_fault.Accesses.{what_of}
+use Rattle.hwp_cpu_access.specs.hwp_fork.declared.cow.Cow.{Cow}
+use Rattle.hwp_cpu_access.specs.hwp_fork.declared.cow.CowAt.{CowAt}
+use Rattle.hwp_cpu_access.specs.hwp_fork.declared.cow.CowAt.TheVariants as at
+use Rattle.hwp_cpu_access.specs.hwp_fork.declared.cow.Sub.{Sub}
+use Rattle.hwp_cpu_access.specs.hwp_fork.declared.cow.Sub.TheVariants as subs
+use Rattle.hwp_cpu_access.specs.hwp_fork.Cows as cows
+use Rattle.hwp_cpu_access.specs.Fits.{checks_in}
+use Rattle.hwp_cpu_access.specs.Copyings.{load_of, request_by, store_of}
+use Rattle.hwp_cpu_access.specs.Runs.{AreRuns, IsAccessRun, IsBetween, IsFreeRun, IsRun, Run, made_by, words_of}
 use Rattle.hwp_law_served.specs.Copied.{AreChecksOf, HasCopied, IsCopyTold, IsLeft, store_by, sub_next}
 use Rattle.hwp_law_served.proofs.RunEnds.{IsEnd}
 use Rattle.hwp_law_served.proofs.copied.CheckLines.{IsCheckAt, IsQuiet, IsWay, by-load, by-next, by-none, by-store, line_by_line, low-seen, none-seen, quiet-all, seen, seen-access, way-all}

@@ -20,7 +20,7 @@ use Rattle.hwp_law_run.specs.hwp_report_text.declared.Answer.TheVariants as answ
 use Rattle.hwp_law_run.specs.hwp_law.States.{place_named, state_named}
 use Rattle.hwp_cpu_row.specs.declared.Row.{Row}
 use Rattle.hwp_cpu_row.specs.hwp_cpu_check.Told.{first_signal}
-use Rattle.hwp_cpu_copy.specs.Runs.{made_by}
+use Rattle.hwp_cpu_access.specs.Runs.{made_by}
 use Rattle.hwp_law_served.specs.Accounts.{IsAccounted}
 use Rattle.hwp_law_served.specs.Causes.{IsCausedWith}
 use Rattle.hwp_law_served.specs.Copied.{HasSwitched, IsCopyCaused, IsCopyEnded, IsRefused, store_by, sub_next}

@@ -20,13 +20,13 @@ use Rattle.hwp_law_run.specs.hwp_report_text.declared.Answer.{Answer}
 use Rattle.hwp_law_run.specs.hwp_report_text.declared.Answer.TheVariants as answers
 use Rattle.hwp_cpu_row.specs.hwp_cpu_check.declared.EventOutcome.{EventOutcome}
 use Rattle.hwp_cpu_row.specs.hwp_cpu_check.Checks.{AreChecks, Check, left_by}
-use Rattle.hwp_cpu_copy.specs.hwp_fault.declared.Request.{Request}
-use Rattle.hwp_cpu_copy.specs.hwp_fork.declared.cow.Cow.{Cow}
-use Rattle.hwp_cpu_copy.specs.hwp_fork.declared.cow.Sub.{Sub}
-use Rattle.hwp_cpu_copy.specs.hwp_fork.declared.cow.Sub.TheVariants as subs
-use Rattle.hwp_cpu_copy.specs.hwp_fork.Cows as cows
-use Rattle.hwp_cpu_copy.specs.Copyings.{load_of, request_by, store_of}
-use Rattle.hwp_cpu_copy.specs.Runs.{AreRuns, IsAccessRun, IsRun, Run}
+use Rattle.hwp_cpu_access.specs.hwp_fault.declared.Request.{Request}
+use Rattle.hwp_cpu_access.specs.hwp_fork.declared.cow.Cow.{Cow}
+use Rattle.hwp_cpu_access.specs.hwp_fork.declared.cow.Sub.{Sub}
+use Rattle.hwp_cpu_access.specs.hwp_fork.declared.cow.Sub.TheVariants as subs
+use Rattle.hwp_cpu_access.specs.hwp_fork.Cows as cows
+use Rattle.hwp_cpu_access.specs.Copyings.{load_of, request_by, store_of}
+use Rattle.hwp_cpu_access.specs.Runs.{AreRuns, IsAccessRun, IsRun, Run}
 use Rattle.hwp_law_served.specs.Copied.{AreChecksOf, FoundEnded, FoundNone, HasCopied, IsBehind, IsCopyCaused, IsCopyEnded, IsCopyTold, IsGoing, IsStoppedFreeing, WasStopped, store_by}
 use Rattle.hwp_law_served.proofs.CheckTells.{checks-stay, deeds-stay}
 

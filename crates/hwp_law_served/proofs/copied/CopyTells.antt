@@ -20,14 +20,14 @@ use Rattle.hwp_law_run.specs.hwp_report_text.declared.Answer.{Answer}
 use Rattle.hwp_law_run.specs.hwp_law_commands.Commands.{current_thread}
 use Rattle.hwp_cpu_row.specs.hwp_cpu_check.declared.EventOutcome.{EventOutcome}
 use Rattle.hwp_cpu_row.specs.hwp_cpu_check.Checks.{Check, left_by, lines_of}
-use Rattle.hwp_cpu_copy.specs.hwp_fork.declared.cow.Cow.{Cow}
-use Rattle.hwp_cpu_copy.specs.hwp_fork.declared.cow.CowAt.{CowAt}
-use Rattle.hwp_cpu_copy.specs.hwp_fork.declared.cow.CowAt.TheVariants as at
-use Rattle.hwp_cpu_copy.specs.hwp_fork.declared.cow.Sub.{Sub}
-use Rattle.hwp_cpu_copy.specs.hwp_fork.declared.cow.Sub.TheVariants as subs
-use Rattle.hwp_cpu_copy.specs.hwp_fork.Cows as cows
-use Rattle.hwp_cpu_copy.specs.Copyings.{request_by}
-use Rattle.hwp_cpu_copy.specs.Runs.{AreRuns, IsRun, Run, checks_by}
+use Rattle.hwp_cpu_access.specs.hwp_fork.declared.cow.Cow.{Cow}
+use Rattle.hwp_cpu_access.specs.hwp_fork.declared.cow.CowAt.{CowAt}
+use Rattle.hwp_cpu_access.specs.hwp_fork.declared.cow.CowAt.TheVariants as at
+use Rattle.hwp_cpu_access.specs.hwp_fork.declared.cow.Sub.{Sub}
+use Rattle.hwp_cpu_access.specs.hwp_fork.declared.cow.Sub.TheVariants as subs
+use Rattle.hwp_cpu_access.specs.hwp_fork.Cows as cows
+use Rattle.hwp_cpu_access.specs.Copyings.{request_by}
+use Rattle.hwp_cpu_access.specs.Runs.{AreRuns, IsRun, Run, checks_by}
 use Rattle.hwp_law_served.specs.Copied.{AreChecksOf, IsCopyTold, store_by}
 use Rattle.hwp_law_served.specs.Told.{AreToldWith}
 use Rattle.hwp_law_served.proofs.RowTold.{HoldsOfEvents, IsToldRight, of-checks, told-by, told-each}

@@ -31,10 +31,10 @@ use Rattle.hwp_law_run.specs.hwp_law.Copies.{own_in}
 use Rattle.hwp_law_run.specs.hwp_law.Lines.{answer_of}
 use Rattle.hwp_law_run.specs.hwp_law.Private.{last_word, word_in}
 use Rattle.hwp_cpu_row.specs.hwp_cpu_check.declared.EventOutcome.{EventOutcome}
-use Rattle.hwp_cpu_copy.specs.hwp_fault.declared.Request.{Request}
-use Rattle.hwp_cpu_copy.specs.hwp_fork.Cows as cows
-use Rattle.hwp_cpu_copy.specs.Copyings.{load_of}
-use Rattle.hwp_cpu_copy.specs.Runs.{made_by}
+use Rattle.hwp_cpu_access.specs.hwp_fault.declared.Request.{Request}
+use Rattle.hwp_cpu_access.specs.hwp_fork.Cows as cows
+use Rattle.hwp_cpu_access.specs.Copyings.{load_of}
+use Rattle.hwp_cpu_access.specs.Runs.{made_by}
 use Rattle.hwp_law_served.specs.Causes.{IsCausedWith}
 use Rattle.hwp_law_served.specs.Copied.{HasCopied, HasSwitched, store_by, sub_next}
 use Rattle.hwp_law_served.proofs.RowLines.{answer-told}

@@ -14,14 +14,14 @@ use Rattle.hwp_law_run.proofs.of_hwp_core_rule.Lists.{each-push}
 use Rattle.hwp_law_run.proofs.of_hwp_core_rule.MoreEntries.{each-append}
 use Rattle.hwp_law_run.specs.hwp_core_rule.Known.{IsAt}
 use Rattle.hwp_cpu_row.specs.hwp_cpu_check.Checks.{left_by}
-use Rattle.hwp_cpu_copy.specs.hwp_fault.declared.Request.{Request}
-use Rattle.hwp_cpu_copy.specs.hwp_fault.Accesses.{what_of}
-use Rattle.hwp_cpu_copy.specs.hwp_fork.declared.cow.Cow.{Cow}
-use Rattle.hwp_cpu_copy.specs.hwp_fork.declared.cow.CowAt.{CowAt}
-use Rattle.hwp_cpu_copy.specs.hwp_fork.declared.cow.CowAt.TheVariants as at
-use Rattle.hwp_cpu_copy.specs.hwp_fork.Cows as cows
-use Rattle.hwp_cpu_copy.specs.Copyings.{load_of, request_by, store_of}
-use Rattle.hwp_cpu_copy.specs.Runs.{AreRuns, IsAccessRun, IsBetween, IsFreeRun, IsRun, Run, made_by, words_of}
+use Rattle.hwp_cpu_access.specs.hwp_fault.declared.Request.{Request}
+use Rattle.hwp_cpu_access.specs.hwp_fault.Accesses.{what_of}
+use Rattle.hwp_cpu_access.specs.hwp_fork.declared.cow.Cow.{Cow}
+use Rattle.hwp_cpu_access.specs.hwp_fork.declared.cow.CowAt.{CowAt}
+use Rattle.hwp_cpu_access.specs.hwp_fork.declared.cow.CowAt.TheVariants as at
+use Rattle.hwp_cpu_access.specs.hwp_fork.Cows as cows
+use Rattle.hwp_cpu_access.specs.Copyings.{load_of, request_by, store_of}
+use Rattle.hwp_cpu_access.specs.Runs.{AreRuns, IsAccessRun, IsBetween, IsFreeRun, IsRun, Run, made_by, words_of}
 use Rattle.hwp_law_served.specs.Copied.{sub_next}
 
 -- ---- whose the accesses are

@@ -16,15 +16,15 @@ use Rattle.hwp_law_run.specs.hwp_core_rule.Lists.{EachMember}
 use Rattle.hwp_law_run.specs.hwp_core_rule.Known.{IsAt, deeds}
 use Rattle.hwp_cpu_row.specs.hwp_cpu_check.declared.EventOutcome.{EventOutcome}
 use Rattle.hwp_cpu_row.specs.hwp_cpu_check.Checks.{left_by}
-use Rattle.hwp_cpu_copy.specs.hwp_fault.declared.Request.{Request}
-use Rattle.hwp_cpu_copy.specs.hwp_fork.declared.cow.Cow.{Cow}
-use Rattle.hwp_cpu_copy.specs.hwp_fork.declared.cow.CowAt.{CowAt}
-use Rattle.hwp_cpu_copy.specs.hwp_fork.declared.cow.CowAt.TheVariants as at
-use Rattle.hwp_cpu_copy.specs.hwp_fork.declared.cow.Sub.{Sub}
-use Rattle.hwp_cpu_copy.specs.hwp_fork.declared.cow.Sub.TheVariants as subs
-use Rattle.hwp_cpu_copy.specs.hwp_fork.Cows as cows
-use Rattle.hwp_cpu_copy.specs.Copyings.{store_of}
-use Rattle.hwp_cpu_copy.specs.Runs.{AreRuns, IsAccessRun, IsFreeRun, IsRun, Run, made_by, words_of}
+use Rattle.hwp_cpu_access.specs.hwp_fault.declared.Request.{Request}
+use Rattle.hwp_cpu_access.specs.hwp_fork.declared.cow.Cow.{Cow}
+use Rattle.hwp_cpu_access.specs.hwp_fork.declared.cow.CowAt.{CowAt}
+use Rattle.hwp_cpu_access.specs.hwp_fork.declared.cow.CowAt.TheVariants as at
+use Rattle.hwp_cpu_access.specs.hwp_fork.declared.cow.Sub.{Sub}
+use Rattle.hwp_cpu_access.specs.hwp_fork.declared.cow.Sub.TheVariants as subs
+use Rattle.hwp_cpu_access.specs.hwp_fork.Cows as cows
+use Rattle.hwp_cpu_access.specs.Copyings.{store_of}
+use Rattle.hwp_cpu_access.specs.Runs.{AreRuns, IsAccessRun, IsFreeRun, IsRun, Run, made_by, words_of}
 use Rattle.hwp_law_served.specs.Copied.{HasCopied, HasSwitched, sub_next}
 
 abbrev is_switched : Sub → Bool

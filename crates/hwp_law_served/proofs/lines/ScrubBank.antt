@@ -32,7 +32,7 @@ use Rattle.hwp_cpu_row.specs.hwp_cpu_check.Told.{at_once, required_by}
 use Rattle.hwp_scrub.specs.Visits as scrubs
 use Rattle.hwp_scrub.specs.Visits.{AreBanks, IsKept, scrub_bank, scrubbing}
 use Rattle.hwp_scrub.proofs.VisitLaws.{bad-leaves, left-banks}
-use Rattle.hwp_cpu_copy.specs.Runs.{checks_by}
+use Rattle.hwp_cpu_access.specs.Runs.{checks_by}
 use Rattle.hwp_law_served.specs.Copied.{IsCopyTold}
 use Rattle.hwp_law_served.specs.Told.{AreToldBy, AreToldWith, IsCutShort, IsRaiseTold, IsScrubTold, IsUntold, is_raised}
 

@@ -1,5 +1,0 @@
-use Rattle.hwp_cpu_copy.proofs.copying.CopyingRanked.ranked.Goals as goal
-use Rattle.hwp_cpu_copy.proofs.CopyRank.{copy-ranked}
-
-pub returns : goal.returns
-returns c = copy-ranked

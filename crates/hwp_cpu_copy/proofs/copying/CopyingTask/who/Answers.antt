@@ -1,5 +1,0 @@
-use Rattle.hwp_cpu_copy.proofs.copying.CopyingTask.who.Goals as goal
-use Rattle.hwp_cpu_copy.proofs.CopyLaws.{law}
-
-pub returns-clause-law : goal.returns-clause-law
-returns-clause-law c = law
