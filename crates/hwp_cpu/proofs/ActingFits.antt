@@ -27,8 +27,8 @@ use Rattle.hwp_cpu_row.specs.hwp_law_commands.Guests.{guest_access}
 use Rattle.hwp_cpu_row.specs.hwp_cpu_check.hwp_guest.declared.Admit.{Admit}
 use Rattle.hwp_cpu_row.specs.hwp_cpu_check.hwp_guest.declared.Admit.TheVariants as admissions
 use Rattle.hwp_cpu_row.proofs.GuestListLaws.{admitted-none, of-access}
-use Rattle.hwp_cpu_command_laws.specs.hwp_cpu_command.Begins.{CanCopy, CanDeny}
-use Rattle.hwp_cpu_command_laws.specs.hwp_cpu_command.Runs.{CanFork}
+use Rattle.hwp_cpu_command.specs.Begins.{CanCopy, CanDeny}
+use Rattle.hwp_cpu_command.specs.Runs.{CanFork}
 
 module _ (layout : Layout) (twins : AreTwinsFit layout) where
   paired-access : (cpu : ℕ) (ot : Option ThreadDecl) (ov ow : Option TransDecl) → IsSomeAnd ot (λ (t : ThreadDecl). (t.cpu.0 ≡ cpu) × IsSomeAnd ov (λ (v : TransDecl). v.process ≡ t.process))

@@ -1,78 +1,78 @@
 -- A turn of the frame that is taken out of use beside a command, and what is so when that is done.
-use Rattle.hwp_cpu_command_laws.specs.hwp_cpu_command.hwp_cpu_access.CopyFits as copying_fits
-use Rattle.hwp_cpu_command_laws.proofs.of_hwp_cpu_command.of_hwp_cpu_access.CopyResting as copy-resting
+use Rattle.hwp_cpu_command.specs.hwp_cpu_access.CopyFits as copying_fits
+use Rattle.hwp_cpu_command.proofs.of_hwp_cpu_access.CopyResting as copy-resting
 use Rattle.hwp_cpu_row.specs.hwp_geom.declared.VSlot.{VSlot}
-use Rattle.hwp_cpu_causes.specs.hwp_law_served.Causes.{IsBeside}
+use Rattle.hwp_law_served.specs.Causes.{IsBeside}
 use Rattle.std.proofs.lemmas.Bool.{and_parts, not-true}
 use Rattle.hwp_cpu.proofs.CourseLaws.{abandoned-stays, over-stays}
 use Rattle.hwp_cpu.proofs.SoftMade.{HasLeft, soft-left, soft-pays}
 use Rattle.hwp_cpu.specs.Courses.{is_abandoned, with_result, offline_result, offlining}
-use Rattle.hwp_cpu_command_laws.proofs.of_hwp_cpu_command.of_hwp_cpu_access.Resting.{resting-stays}
-use Rattle.hwp_cpu_causes.proofs.OnTheWay.{met-beside}
-use Rattle.hwp_cpu_causes.proofs.BesideKeeps.{own-stays, soft-beside}
-use Rattle.hwp_cpu_causes.proofs.OfflineServed.{left-offline, no-kernel, offline-served}
+use Rattle.hwp_cpu_command.proofs.of_hwp_cpu_access.Resting.{resting-stays}
+use Rattle.hwp_cpu.proofs.causes.OnTheWay.{met-beside}
+use Rattle.hwp_cpu.proofs.causes.BesideKeeps.{own-stays, soft-beside}
+use Rattle.hwp_cpu.proofs.causes.OfflineServed.{left-offline, no-kernel, offline-served}
 use Rattle.hwp_cpu_row.specs.hwp_law_commands.Notes.{is_for_pages}
 use Rattle.hwp_cpu_row.specs.hwp_law_commands.Commands.{is_check, is_kernels}
 use Rattle.hwp_cpu_row.specs.hwp_report_text.Offlines.{offline_answer}
-use Rattle.hwp_cpu_command_laws.proofs.of_hwp_cpu_command.JobLaws as jobbing
-use Rattle.hwp_cpu_command_laws.specs.hwp_cpu_command.Jobs.{offlined_by, told_of}
+use Rattle.hwp_cpu_command.proofs.JobLaws as jobbing
+use Rattle.hwp_cpu_command.specs.Jobs.{offlined_by, told_of}
 use Rattle.hwp_cpu.specs.Serving.{HasCopyPaused, Pauses, RunsBeside, marked_so_far, IsPaused, IsUnderWay, Rests, IsRunning}
-use Rattle.hwp_cpu_causes.specs.hwp_law_served.Offlinings.{left_beside, left_by, watched_at, IsOfflineServed, left_at}
+use Rattle.hwp_law_served.specs.Offlinings.{left_beside, left_by, watched_at, IsOfflineServed, left_at}
 use Rattle.std.proofs.lemmas.List.{length-append, map-append}
 use Rattle.std.proofs.lemmas.List.Elements.{filter_map-append, filter-append}
-use Rattle.hwp_cpu_command_laws.specs.hwp_cpu_command.hwp_soft.declared.SoftAnswer.{SoftAnswer}
+use Rattle.hwp_cpu_command.specs.hwp_soft.declared.SoftAnswer.{SoftAnswer}
 use Rattle.hwp_cpu.proofs.Marks.{beside-over}
 use Rattle.hwp_cpu_row.specs.hwp_law_commands.Watched.{due, Watched}
 use Rattle.hwp_cpu.specs.declared.course.Course.{Course}
-use Rattle.hwp_cpu_command_laws.proofs.Beside.{job-at-pause, answered-unmarked}
+use Rattle.hwp_cpu.proofs.commands.Beside.{job-at-pause, answered-unmarked}
 use Rattle.std.proofs.lemmas.Option.{none-some, same_Some}
 use Rattle.std.proofs.Common.{None, is_some, arith, inl, suc, true, ◌++◌, subst, option_map, ◌∷◌, zero, refl, not, Option, ◌+◌, map, cond, ◌≡◌, false, ap, Bool, true≢false, inr, append-nil, filter, Some, slice_get, sym, ℕ, List, length, ◌∙◌, [], nat_lt, ◌⊎◌}
 use Rattle.hwp_cpu_row.proofs.of_hwp_core_rule.Lists.{each-push}
 use Rattle.hwp_cpu_row.specs.hwp_geom.declared.Frame.{Frame}
 use Rattle.hwp_cpu.proofs.BesideTurns.{at_rest, way-with}
-use Rattle.hwp_cpu_causes.specs.hwp_law_served.Handles.{answers_by}
-use Rattle.hwp_cpu_command_laws.specs.hwp_cpu_command.declared.job.Job.{Job}
+use Rattle.hwp_law_served.specs.Handles.{answers_by}
+use Rattle.hwp_cpu_command.specs.declared.job.Job.{Job}
 use Rattle.hwp_cpu_row.specs.hwp_core_rule.declared.View.{View}
-use Rattle.hwp_cpu_causes.specs.Beside.{AddsBeside}
-use Rattle.hwp_cpu_command_laws.proofs.CommandRuns.{runs-who}
+use Rattle.hwp_cpu.specs.Beside.{AddsBeside}
+use Rattle.hwp_cpu.proofs.commands.CommandRuns.{runs-who}
 use Rattle.hwp_cpu.proofs.OwnRests.{HoldsNone}
 use Rattle.hwp_cpu_row.specs.hwp_cpu_check.declared.EventOutcome.{EventOutcome}
 use Rattle.hwp_cpu_row.specs.hwp_core_rule.Calls.{IsOnTurn, logs, Steps}
 use Rattle.hwp_cpu_row.specs.hwp_geom.declared.Layout.{Layout}
-use Rattle.hwp_cpu_causes.specs.hwp_law.Pairings.{is_soft}
+use Rattle.hwp_law_served.specs.hwp_law.Pairings.{is_soft}
 use Rattle.std.specs.Prelude.{take}
 use Rattle.hwp_cpu_row.specs.hwp_core_rule.declared.Made.{Made}
-use Rattle.hwp_cpu_command_laws.specs.hwp_cpu_command.hwp_cpu_access.Fits.{checks_made, checks_in}
+use Rattle.hwp_cpu_command.specs.hwp_cpu_access.Fits.{checks_made, checks_in}
 use Rattle.hwp_cpu_row.specs.hwp_geom.declared.Cpu.{Cpu}
-use Rattle.hwp_cpu_causes.specs.hwp_law_served.Served.{SawRunning, IsOffliningServed}
-use Rattle.hwp_cpu_causes.specs.hwp_law_served.hwp_page.declared.At.{At}
-use Rattle.hwp_cpu_command_laws.proofs.of_hwp_cpu_command.JobEnds.{soft-ended}
+use Rattle.hwp_law_served.specs.Served.{SawRunning, IsOffliningServed}
+use Rattle.hwp_law_served.specs.hwp_page.declared.At.{At}
+use Rattle.hwp_cpu_command.proofs.JobEnds.{soft-ended}
 use Rattle.hwp_cpu_row.specs.hwp_script_lines.declared.Command.{Command}
 use Rattle.hwp_cpu_row.specs.hwp_geom.declared.Who.{Who}
 use Rattle.hwp_cpu_row.specs.declared.Local.{Local}
 use Rattle.hwp_cpu.specs.Processors.{at_number}
 use Rattle.hwp_cpu_row.specs.hwp_page.History.{BodyValue}
 use Rattle.hwp_cpu_row.specs.declared.Offlining.{Offlining}
-use Rattle.hwp_cpu_command_laws.specs.hwp_cpu_command.Done.{marked_beyond, owed_now}
+use Rattle.hwp_cpu_command.specs.Done.{marked_beyond, owed_now}
 use Rattle.hwp_cpu_row.proofs.Acts.{in-time-push}
 use Rattle.hwp_cpu.proofs.ProcessorKeeps.{way-beside}
-use Rattle.hwp_cpu_command_laws.proofs.CommandDeeds.{unowed-at-end}
-use Rattle.hwp_cpu_command_laws.specs.hwp_cpu_command.hwp_soft.declared.Soft.{Soft}
+use Rattle.hwp_cpu.proofs.commands.CommandDeeds.{unowed-at-end}
+use Rattle.hwp_cpu_command.specs.hwp_soft.declared.Soft.{Soft}
 use Rattle.hwp_cpu_row.specs.hwp_core_rule.declared.Step.{Step}
-use Rattle.hwp_cpu_command_laws.specs.hwp_cpu_command.Stays.{Stepped}
+use Rattle.hwp_cpu_command.specs.Stays.{Stepped}
 use Rattle.hwp_cpu_row.specs.declared.Row.{Row}
 use Rattle.hwp_cpu_row.specs.hwp_core_rule.declared.Turn.{Turn}
 use Rattle.hwp_cpu_row.specs.Acts.{told_notes}
 use Rattle.hwp_cpu_row.specs.hwp_page.declared.What.{What}
 use Rattle.std.specs.List.{cons_option}
-use Rattle.hwp_cpu_command_laws.specs.hwp_cpu_command.Answers.{soft_answer}
+use Rattle.hwp_cpu_command.specs.Answers.{soft_answer}
 use Rattle.hwp_cpu_row.specs.hwp_core_rule.Known.{deeds}
-use Rattle.hwp_cpu_command_laws.specs.hwp_cpu_command.Jobs as jobs
-use Rattle.hwp_cpu_command_laws.specs.hwp_cpu_command.hwp_soft.declared.SoftAnswer.TheVariants as soft_answers
-use Rattle.hwp_cpu_command_laws.specs.hwp_cpu_command.hwp_soft.Offline as offline
-use Rattle.hwp_cpu_command_laws.specs.hwp_cpu_command.hwp_soft.Softs as softs
+use Rattle.hwp_cpu_command.specs.Jobs as jobs
+use Rattle.hwp_cpu_command.specs.hwp_soft.declared.SoftAnswer.TheVariants as soft_answers
+use Rattle.hwp_cpu_command.specs.hwp_soft.Offline as offline
+use Rattle.hwp_cpu_command.specs.hwp_soft.Softs as softs
 use Rattle.hwp_cpu_row.specs.hwp_page.declared.What.TheVariants as entries
-use Rattle.hwp_cpu_command_laws.specs.hwp_cpu_command.declared.job.Job.TheVariants as kinds
+use Rattle.hwp_cpu_command.specs.declared.job.Job.TheVariants as kinds
 
 -- the first of a list with one more
 take-more : {A : Type 0} (l : List A) (n : ℕ) (x : A) → slice_get l n ≡ Some x → take (n + 1) l ≡ take n l ++ x ∷ []

@@ -1,69 +1,69 @@
 -- A frame that is taken out of use beside a command: how that begins, goes on and ends, and how the command's own task goes on behind it.
-use Rattle.hwp_cpu_command_laws.specs.hwp_cpu_command.hwp_cpu_access.declared.Copying.{Copying}
-use Rattle.hwp_cpu_command_laws.specs.hwp_cpu_command.hwp_cpu_access.Copyings as copyings
-use Rattle.hwp_cpu_command_laws.specs.hwp_cpu_command.hwp_cpu_access.declared.copying.CopyingAt.{CopyingAt}
-use Rattle.hwp_cpu_command_laws.specs.hwp_cpu_command.hwp_cpu_access.declared.copying.CopyingAt.TheVariants as copying_at
-use Rattle.hwp_cpu_command_laws.proofs.of_hwp_cpu_command.of_hwp_cpu_access.CopyResting as copy-resting
-use Rattle.hwp_cpu_command_laws.specs.hwp_cpu_command.Runs.{Runs}
+use Rattle.hwp_cpu_command.specs.hwp_cpu_access.declared.Copying.{Copying}
+use Rattle.hwp_cpu_command.specs.hwp_cpu_access.Copyings as copyings
+use Rattle.hwp_cpu_command.specs.hwp_cpu_access.declared.copying.CopyingAt.{CopyingAt}
+use Rattle.hwp_cpu_command.specs.hwp_cpu_access.declared.copying.CopyingAt.TheVariants as copying_at
+use Rattle.hwp_cpu_command.proofs.of_hwp_cpu_access.CopyResting as copy-resting
+use Rattle.hwp_cpu_command.specs.Runs.{Runs}
 use Rattle.std.proofs.lemmas.Option.{none-some}
 use Rattle.hwp_cpu_row.specs.hwp_report_text.declared.Answer.TheVariants as answers
-use Rattle.hwp_cpu_causes.specs.Beside.{ArePriorWith}
+use Rattle.hwp_cpu.specs.Beside.{ArePriorWith}
 use Rattle.hwp_cpu.proofs.Collecting.{access-plain, prior-at-first}
 use Rattle.hwp_cpu_row.specs.hwp_geom.declared.VSlot.{VSlot}
 use Rattle.std.proofs.lemmas.Bool.{cases_lt}
-use Rattle.hwp_cpu_command_laws.proofs.of_hwp_cpu_command.of_hwp_cpu_access.Resting.{resumes}
+use Rattle.hwp_cpu_command.proofs.of_hwp_cpu_access.Resting.{resumes}
 use Rattle.hwp_cpu.specs.Courses.{part}
 use Rattle.hwp_cpu.specs.Dues.{DueValue, next_due}
 use Rattle.std.proofs.Common.{true, true≢false, subst, filter_map, ℕ, Some, Option, ◌++◌, ap, append-nil, None, refl, inr, ◌≡◌, is_some, List, ◌<◌, ◌≤◌, sym, length, inl, arith, ◌∙◌, [], ◌⊎◌}
 use Rattle.hwp_cpu_row.specs.hwp_claim_frame.Done.{Marking}
-use Rattle.hwp_cpu_command_laws.specs.hwp_cpu_command.Stays.{EndsAtOnce, HasSpoiled}
+use Rattle.hwp_cpu_command.specs.Stays.{EndsAtOnce, HasSpoiled}
 use Rattle.std.specs.Prelude.{take}
 use Rattle.std.proofs.lemmas.List.{length-map, take_all}
-use Rattle.hwp_cpu_command_laws.proofs.Beside.{IsAtPause, IsSameBehind, job-at-pause, resume-goes}
-use Rattle.hwp_cpu_causes.specs.hwp_law_served.Accounts.{act_marking}
+use Rattle.hwp_cpu.proofs.commands.Beside.{IsAtPause, IsSameBehind, job-at-pause, resume-goes}
+use Rattle.hwp_law_served.specs.Accounts.{act_marking}
 use Rattle.hwp_cpu.specs.Serving.{HasCopyPaused, Pauses, left_so_far, Rests, IsRunning, Serves, marked_so_far, IsUnderWay, IsPaused, HasToldAll, OwnGoesOn, KeepsWatch}
-use Rattle.hwp_cpu_causes.proofs.OnTheWay.{runs-access, IsAccessOf, prior-behind}
-use Rattle.hwp_cpu_command_laws.specs.hwp_cpu_command.FileHandles.{HasHandle}
+use Rattle.hwp_cpu.proofs.causes.OnTheWay.{runs-access, IsAccessOf, prior-behind}
+use Rattle.hwp_cpu_command.specs.FileHandles.{HasHandle}
 use Rattle.hwp_cpu_row.specs.declared.Local.{Local}
-use Rattle.hwp_cpu_command_laws.proofs.CommandRuns.{runs-who, GoesOn as CommandGoesOn, runs-alike}
-use Rattle.hwp_cpu_command_laws.specs.hwp_cpu_command.Jobs.{told_of}
-use Rattle.hwp_cpu_command_laws.proofs.CommandStops.{has-stopped}
+use Rattle.hwp_cpu.proofs.commands.CommandRuns.{runs-who, GoesOn as CommandGoesOn, runs-alike}
+use Rattle.hwp_cpu_command.specs.Jobs.{told_of}
+use Rattle.hwp_cpu.proofs.commands.CommandStops.{has-stopped}
 use Rattle.hwp_cpu_row.specs.hwp_cpu_check.declared.EventOutcome.{EventOutcome}
-use Rattle.hwp_cpu_causes.specs.hwp_law_served.Offlinings.{left_beside, left_by, watched_at}
+use Rattle.hwp_law_served.specs.Offlinings.{left_beside, left_by, watched_at}
 use Rattle.hwp_cpu_row.specs.hwp_law_commands.Settings.{settings}
 use Rattle.hwp_cpu_row.specs.hwp_geom.declared.Layout.{Layout}
-use Rattle.hwp_cpu_command_laws.specs.hwp_cpu_command.Settings.{policies_now, of_thread}
+use Rattle.hwp_cpu_command.specs.Settings.{policies_now, of_thread}
 use Rattle.hwp_cpu_row.specs.declared.Row.{Row}
 use Rattle.hwp_cpu_row.specs.hwp_core_rule.Known.{deeds}
 use Rattle.hwp_cpu_row.specs.Acts.{acts}
-use Rattle.hwp_cpu_command_laws.specs.hwp_cpu_command.Done.{HasCounted, marked_beyond}
+use Rattle.hwp_cpu_command.specs.Done.{HasCounted, marked_beyond}
 use Rattle.hwp_cpu_row.specs.declared.Watching.{Watching}
-use Rattle.hwp_cpu_command_laws.specs.hwp_cpu_command.hwp_kill.declared.Policy.{Policy}
+use Rattle.hwp_cpu_command.specs.hwp_kill.declared.Policy.{Policy}
 use Rattle.hwp_cpu_row.specs.hwp_banks.Banks.{Banks}
 use Rattle.hwp_cpu.proofs.OwnRests.{HoldsNone}
 use Rattle.hwp_cpu_row.specs.hwp_core_rule.declared.Spoiled.{Spoiled}
 use Rattle.hwp_cpu_row.specs.hwp_geom.declared.Who.{Who}
 use Rattle.hwp_cpu.proofs.Collected.{keeps-longer}
 use Rattle.hwp_cpu_row.specs.hwp_geom.declared.Cpu.{Cpu}
-use Rattle.hwp_cpu_causes.specs.hwp_law_served.Handles.{answers_by}
+use Rattle.hwp_law_served.specs.Handles.{answers_by}
 use Rattle.hwp_cpu_row.specs.hwp_geom.declared.Thread.{Thread}
 use Rattle.hwp_cpu.specs.declared.course.Course.{Course}
 use Rattle.hwp_cpu_row.specs.hwp_core_rule.Calls.{IsOnTurn}
-use Rattle.hwp_cpu_command_laws.specs.hwp_cpu_command.Stays as stays
+use Rattle.hwp_cpu_command.specs.Stays as stays
 use Rattle.hwp_cpu_row.specs.hwp_geom.declared.Frame.{Frame}
-use Rattle.hwp_cpu_command_laws.specs.hwp_cpu_command.hwp_soft.declared.Soft.{Soft}
+use Rattle.hwp_cpu_command.specs.hwp_soft.declared.Soft.{Soft}
 use Rattle.hwp_cpu.specs.Processors.{at_number}
-use Rattle.hwp_cpu_command_laws.specs.hwp_cpu_command.declared.job.Job.{Job}
+use Rattle.hwp_cpu_command.specs.declared.job.Job.{Job}
 use Rattle.hwp_cpu_row.specs.hwp_script_lines.declared.Command.{Command}
 use Rattle.hwp_cpu_row.specs.hwp_core_rule.declared.View.{View}
 use Rattle.hwp_cpu.proofs.Rows.{past-end}
 use Rattle.hwp_cpu_row.specs.declared.Offlining.{Offlining}
-use Rattle.hwp_cpu_command_laws.specs.hwp_cpu_command.hwp_cpu_access.declared.instruction.Pause.{Pause}
-use Rattle.hwp_cpu_command_laws.specs.hwp_cpu_command.hwp_cpu_access.declared.Instruction.{Instruction}
-use Rattle.hwp_cpu_command_laws.specs.hwp_cpu_command.hwp_soft.Softs as softs
-use Rattle.hwp_cpu_command_laws.specs.hwp_cpu_command.declared.job.Job.TheVariants as kinds
-use Rattle.hwp_cpu_command_laws.specs.hwp_cpu_command.Jobs as jobs
-use Rattle.hwp_cpu_command_laws.specs.hwp_cpu_command.hwp_cpu_access.Instructions as instructions
+use Rattle.hwp_cpu_command.specs.hwp_cpu_access.declared.instruction.Pause.{Pause}
+use Rattle.hwp_cpu_command.specs.hwp_cpu_access.declared.Instruction.{Instruction}
+use Rattle.hwp_cpu_command.specs.hwp_soft.Softs as softs
+use Rattle.hwp_cpu_command.specs.declared.job.Job.TheVariants as kinds
+use Rattle.hwp_cpu_command.specs.Jobs as jobs
+use Rattle.hwp_cpu_command.specs.hwp_cpu_access.Instructions as instructions
 
 -- ---- where its own task rests
 

@@ -1,5 +1,5 @@
 -- What a command has given to the collector: as it goes on, and where its own task rests.
-use Rattle.hwp_cpu_causes.specs.hwp_law_served.Served.{IsOffliningServed}
+use Rattle.hwp_law_served.specs.Served.{IsOffliningServed}
 use Rattle.hwp_cpu_row.specs.hwp_cpu_check.declared.EventOutcome.{EventOutcome}
 use Rattle.hwp_cpu_row.specs.hwp_geom.declared.Who.{Who}
 use Rattle.std.proofs.Common.{refl, Some, sym, append_assoc, ap, ◌+◌, ◌++◌, List, ◌≡◌, ◌≤◌, map, None, true, false, ℕ, subst, length, Option, arith, true≢false, ◌∙◌}
@@ -13,7 +13,7 @@ use Rattle.hwp_cpu_row.specs.Acts.{AreInTime, told_notes}
 use Rattle.hwp_cpu.specs.declared.course.Course.{Course}
 use Rattle.hwp_cpu.specs.Serving.{noting, noted_by, KeepsWatch}
 use Rattle.hwp_cpu_row.specs.hwp_core_rule.declared.View.{View}
-use Rattle.hwp_cpu_command_laws.specs.hwp_cpu_command.Jobs.{told_of}
+use Rattle.hwp_cpu_command.specs.Jobs.{told_of}
 use Rattle.hwp_cpu_row.specs.hwp_law_commands.Watched.{Watched, due, offlining, told}
 use Rattle.hwp_cpu.specs.Courses.{told_since}
 use Rattle.hwp_cpu.specs.Dues.{DueValue}
@@ -23,7 +23,7 @@ use Rattle.hwp_cpu_row.specs.declared.Offlining.{Offlining}
 use Rattle.hwp_cpu_row.specs.hwp_cec.Ages.{CecEvent, Note}
 use Rattle.hwp_cpu_row.specs.hwp_cec.Counters.{Counters, StandsFor}
 use Rattle.hwp_cpu_row.proofs.Acts.{in-time-more}
-use Rattle.hwp_cpu_causes.proofs.of_hwp_law_commands.NoteLaws.{offlining-append}
+use Rattle.hwp_cpu_row.proofs.of_hwp_law_commands.NoteLaws.{offlining-append}
 
 -- ---- as the command goes on
 

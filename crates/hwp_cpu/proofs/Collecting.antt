@@ -1,39 +1,39 @@
 -- The commands behind whose answer frames may be due: a machine check that was raised, and a scrub.
-use Rattle.hwp_cpu_causes.proofs.OnTheWay.{prior-begins}
-use Rattle.hwp_cpu_causes.specs.Beside.{ArePriorWith, CanCollect}
+use Rattle.hwp_cpu.proofs.causes.OnTheWay.{prior-begins}
+use Rattle.hwp_cpu.specs.Beside.{ArePriorWith, CanCollect}
 use Rattle.hwp_cpu.specs.Serving.{left_so_far}
 use Rattle.hwp_cpu_row.specs.hwp_core_rule.declared.Made.{Made}
-use Rattle.hwp_cpu_command_laws.proofs.of_hwp_cpu_command.OfKind.{of-copying, of-fork, of-instruction, of-evict, of-soft, of-inject, of-scrub, of-prctl, of-nested, of-fsync, of-unpoison, of-raise, of-spoil, of-log}
+use Rattle.hwp_cpu_command.proofs.OfKind.{of-copying, of-fork, of-instruction, of-evict, of-soft, of-inject, of-scrub, of-prctl, of-nested, of-fsync, of-unpoison, of-raise, of-spoil, of-log}
 use Rattle.std.proofs.Common.{Bool, sym, true≢false, Some, refl, None, List, ℕ, inr, false, Option, slice_get, ◌⊎◌, ap, ◌≡◌, true, inl, ◌∙◌, []}
-use Rattle.hwp_cpu_command_laws.specs.hwp_cpu_command.declared.job.Job.{Job}
-use Rattle.hwp_cpu_causes.specs.hwp_law_served.Causes.{IsAnswerCaused, FoundStopped}
+use Rattle.hwp_cpu_command.specs.declared.job.Job.{Job}
+use Rattle.hwp_law_served.specs.Causes.{IsAnswerCaused, FoundStopped}
 use Rattle.hwp_cpu_row.specs.hwp_report_text.declared.Answer.{Answer}
-use Rattle.hwp_cpu_command_laws.specs.hwp_cpu_command.FileHandles.{handles_after}
-use Rattle.hwp_cpu_command_laws.specs.hwp_cpu_command.hwp_words.Stops.{is_stopped}
-use Rattle.hwp_cpu_causes.specs.hwp_law_served.Offlinings.{left_among, left_itself}
-use Rattle.hwp_cpu_command_laws.specs.hwp_cpu_command.Done.{can_fail}
+use Rattle.hwp_cpu_command.specs.FileHandles.{handles_after}
+use Rattle.hwp_cpu_command.specs.hwp_words.Stops.{is_stopped}
+use Rattle.hwp_law_served.specs.Offlinings.{left_among, left_itself}
+use Rattle.hwp_cpu_command.specs.Done.{can_fail}
 use Rattle.hwp_cpu_row.specs.declared.FrameChange.{FrameChange}
 use Rattle.hwp_cpu_row.specs.hwp_geom.declared.FileNo.{FileNo}
-use Rattle.hwp_cpu_command_laws.specs.hwp_cpu_command.Jobs.{denial_of, told_of}
+use Rattle.hwp_cpu_command.specs.Jobs.{denial_of, told_of}
 use Rattle.hwp_cpu_row.specs.hwp_script_lines.declared.Command.{Command}
-use Rattle.hwp_cpu_command_laws.specs.hwp_cpu_command.Runs.{Runs, RunsAs, RunsDenied}
-use Rattle.hwp_cpu_causes.proofs.HandleNumbers.{IsNumbered}
-use Rattle.hwp_cpu_command_laws.specs.hwp_cpu_command.Stays.{IsHalted}
+use Rattle.hwp_cpu_command.specs.Runs.{Runs, RunsAs, RunsDenied}
+use Rattle.hwp_cpu.proofs.causes.HandleNumbers.{IsNumbered}
+use Rattle.hwp_cpu_command.specs.Stays.{IsHalted}
 use Rattle.hwp_cpu_row.specs.hwp_geom.declared.Layout.{Layout}
 use Rattle.hwp_cpu_row.specs.hwp_geom.declared.VSlot.{VSlot}
-use Rattle.hwp_cpu_command_laws.specs.hwp_cpu_command.hwp_cpu_access.declared.Copying.{Copying}
-use Rattle.hwp_cpu_command_laws.specs.hwp_cpu_command.hwp_cpu_access.declared.Instruction.{Instruction}
+use Rattle.hwp_cpu_command.specs.hwp_cpu_access.declared.Copying.{Copying}
+use Rattle.hwp_cpu_command.specs.hwp_cpu_access.declared.Instruction.{Instruction}
 use Rattle.hwp_cpu_row.specs.hwp_cpu_check.declared.EventOutcome.{EventOutcome}
 use Rattle.std.proofs.lemmas.Bool.{both_ways}
 use Rattle.hwp_cpu_row.specs.hwp_geom.declared.Who.{Who}
 use Rattle.hwp_cpu_row.specs.hwp_core_rule.declared.View.{View}
 use Rattle.hwp_cpu_row.specs.hwp_script_lines.declared.Command.TheVariants as commands
-use Rattle.hwp_cpu_command_laws.specs.hwp_cpu_command.declared.job.Job.TheVariants as kinds
+use Rattle.hwp_cpu_command.specs.declared.job.Job.TheVariants as kinds
 use Rattle.hwp_cpu_row.specs.hwp_report_text.declared.Answer.TheVariants as answers
-use Rattle.hwp_cpu_causes.proofs.DeniedCauses.{access-by, runs-kind}
+use Rattle.hwp_cpu.proofs.causes.DeniedCauses.{access-by, runs-kind}
 use Rattle.hwp_cpu_row.specs.hwp_law_commands.Commands.{Access, access_of}
 use Rattle.std.proofs.lemmas.Option.{none-some}
-use Rattle.hwp_cpu_command_laws.proofs.CommandRuns.{runs-admitted}
+use Rattle.hwp_cpu.proofs.commands.CommandRuns.{runs-admitted}
 
 abbrev is_copying : Job → Bool
 is_copying (kinds.Copying y) = true

@@ -1,8 +1,8 @@
 -- When the command that runs has its answer, its row is right, and the next command may begin.
 use Rattle.hwp_cpu_row.specs.hwp_geom.declared.Frame.{Frame}
-use Rattle.hwp_cpu_causes.specs.hwp_law_served.Handles.{KnowsNumber, answers_by, number_at}
+use Rattle.hwp_law_served.specs.Handles.{KnowsNumber, answers_by, number_at}
 use Rattle.hwp_cpu_row.specs.hwp_script_read.Valid.{IsCommandOf}
-use Rattle.hwp_cpu_command_laws.specs.hwp_cpu_command.Begins.{BeginsWith}
+use Rattle.hwp_cpu_command.specs.Begins.{BeginsWith}
 use Rattle.hwp_cpu_row.specs.hwp_geom.declared.VSlot.{VSlot}
 use Rattle.hwp_cpu_row.specs.hwp_geom.declared.FileNo.{FileNo}
 use Rattle.hwp_cpu_row.specs.hwp_script_lines.declared.Command.TheVariants as commands
@@ -11,8 +11,8 @@ use Rattle.hwp_cpu_row.specs.hwp_law_commands.Cows.{acting}
 use Rattle.hwp_cpu_row.specs.CowLists.{KnowsCows, acting_in, copied_in}
 use Rattle.hwp_cpu_row.proofs.CowListLaws.{acting-known, copied-known, told-are, told-known}
 use Rattle.hwp_cpu_row.proofs.of_hwp_law_commands.CowLaws.{acting-watches}
-use Rattle.hwp_cpu_causes.specs.hwp_law.Losses.{number_by, tells_number}
-use Rattle.hwp_cpu_command_laws.specs.hwp_cpu_command.Runs.{CanFork, Runs}
+use Rattle.hwp_law_served.specs.hwp_law.Losses.{number_by, tells_number}
+use Rattle.hwp_cpu_command.specs.Runs.{CanFork, Runs}
 use Rattle.hwp_cpu.proofs.ActingFits.{at-least, fork-acted}
 use Rattle.hwp_cpu.proofs.FreshChildren.{can-fork}
 use Rattle.hwp_cpu.proofs.KnownHandles.{number-acted, tells-acted, handle-known, handles-many}
@@ -44,22 +44,22 @@ use Rattle.hwp_cpu_row.specs.hwp_core_rule.Known.{HasMadeNone}
 use Rattle.hwp_cpu_row.specs.declared.Row.{Row}
 use Rattle.hwp_cpu_row.specs.hwp_banks.Banks.{Banks, empty_banks}
 use Rattle.hwp_cpu_row.specs.declared.Local.{Local}
-use Rattle.hwp_cpu_command_laws.specs.hwp_cpu_command.declared.job.Job.{Job}
-use Rattle.hwp_cpu_command_laws.specs.hwp_cpu_command.FileHandles.{StandsOn}
-use Rattle.hwp_cpu_command_laws.specs.hwp_cpu_command.Jobs as jobs
-use Rattle.hwp_cpu_command_laws.specs.hwp_cpu_command.Jobs.{banks_before, told_of}
-use Rattle.hwp_cpu_command_laws.specs.hwp_cpu_command.Settings.{policies_in}
-use Rattle.hwp_cpu_command_laws.specs.hwp_cpu_command.Stays.{IsAtStop, IsHalted}
-use Rattle.hwp_cpu_command_laws.proofs.of_hwp_cpu_command.JobEnds.{ends}
-use Rattle.hwp_cpu_command_laws.proofs.CommandRuns.{before-begins, begins-fits, begins-runs, runs-who}
-use Rattle.hwp_cpu_command_laws.proofs.CommandStops.{begins-stop, has-stopped, only-stopped, untold-at-start}
-use Rattle.hwp_cpu_causes.specs.hwp_law_served.Accounts.{IsNote, own_marking, markings_in}
-use Rattle.hwp_cpu_causes.specs.hwp_law_served.Rows.{notes_from}
-use Rattle.hwp_cpu_causes.specs.hwp_law_served.Served.{CanStop, IsOneOf, IsOwnSpoil, IsOwnStop, IsRowServed, SawRunning}
-use Rattle.hwp_cpu_causes.proofs.of_hwp_law_served.Handles.{number-last, numbers-more}
-use Rattle.hwp_cpu_causes.proofs.of_hwp_law_served.lines.ScrubBank.{empty-free}
-use Rattle.hwp_cpu_causes.proofs.HandleNumbers.{tells-inside}
-use Rattle.hwp_cpu_causes.proofs.RowServed.{row-served}
+use Rattle.hwp_cpu_command.specs.declared.job.Job.{Job}
+use Rattle.hwp_cpu_command.specs.FileHandles.{StandsOn}
+use Rattle.hwp_cpu_command.specs.Jobs as jobs
+use Rattle.hwp_cpu_command.specs.Jobs.{banks_before, told_of}
+use Rattle.hwp_cpu_command.specs.Settings.{policies_in}
+use Rattle.hwp_cpu_command.specs.Stays.{IsAtStop, IsHalted}
+use Rattle.hwp_cpu_command.proofs.JobEnds.{ends}
+use Rattle.hwp_cpu.proofs.commands.CommandRuns.{before-begins, begins-fits, begins-runs, runs-who}
+use Rattle.hwp_cpu.proofs.commands.CommandStops.{begins-stop, has-stopped, only-stopped, untold-at-start}
+use Rattle.hwp_law_served.specs.Accounts.{IsNote, own_marking, markings_in}
+use Rattle.hwp_law_served.specs.Rows.{notes_from}
+use Rattle.hwp_law_served.specs.Served.{CanStop, IsOneOf, IsOwnSpoil, IsOwnStop, IsRowServed, SawRunning}
+use Rattle.hwp_law_served.proofs.Handles.{number-last, numbers-more}
+use Rattle.hwp_law_served.proofs.lines.ScrubBank.{empty-free}
+use Rattle.hwp_cpu.proofs.causes.HandleNumbers.{tells-inside}
+use Rattle.hwp_cpu.proofs.causes.RowServed.{row-served}
 use Rattle.hwp_cpu.specs.Processors.{AreCommands, BeginsAt, at_number, left_of, told_local, with_guest}
 use Rattle.hwp_cpu.specs.Serving.{IsActedOn, Remembers, AreNumbered, FitsAt, HasAccount, HasStopped, HasStoppedIt, IsDone, IsListed, IsRunning, Serves, IsUnderWay, marked_beside, marked_so_far, GivesUp, GoesOn}
 use Rattle.hwp_cpu.proofs.ProcessorKeeps.{can}
@@ -69,9 +69,9 @@ use Rattle.hwp_cpu.proofs.Revivals.{revival-left}
 use Rattle.hwp_cpu.proofs.Rows.{IsRowActed, at_front, banks-acted, past-end, rows-more, stays-more, stop-more, stopped-was}
 use Rattle.std.specs.List.{list_any, cons_option}
 use Rattle.hwp_cpu_row.specs.hwp_law_commands.Watched.{told, watched_after, Watched}
-use Rattle.hwp_cpu_causes.specs.hwp_law_served.Offlinings.{watched_at, AreDue}
+use Rattle.hwp_law_served.specs.Offlinings.{watched_at, AreDue}
 use Rattle.hwp_cpu_row.specs.Locals.{IsWatching, collects}
-use Rattle.hwp_cpu_command_laws.specs.hwp_cpu_command.Done.{marked_beyond, HasCounted}
+use Rattle.hwp_cpu_command.specs.Done.{marked_beyond, HasCounted}
 use Rattle.hwp_cpu.specs.Courses.{BeginsCourse, part_of, row_of, local_after, local_left}
 use Rattle.hwp_cpu.proofs.Watching.{watched-more, room-stays, of-machine, has-watch, watching-ends, watch-starts, own-starts, due-more}
 use Rattle.hwp_cpu_row.specs.declared.Offlining.{Offlining}
@@ -82,9 +82,9 @@ use Rattle.hwp_cpu.specs.declared.course.Course.{Course}
 use Rattle.std.specs.Prelude.{IsSome}
 use Rattle.hwp_cpu_row.specs.hwp_claim_frame.Done.{Marking}
 use Rattle.hwp_cpu.proofs.Marks.{by_acts}
-use Rattle.hwp_cpu_command_laws.proofs.Beside.{marked-parts}
+use Rattle.hwp_cpu.proofs.commands.Beside.{marked-parts}
 use Rattle.hwp_cpu_row.specs.hwp_cpu_check.Done.{marked_in}
-use Rattle.hwp_cpu_command_laws.specs.hwp_cpu_command.hwp_soft.declared.Soft.{Soft}
+use Rattle.hwp_cpu_command.specs.hwp_soft.declared.Soft.{Soft}
 use Rattle.hwp_cpu.specs.Courses as courses
 use Rattle.hwp_cpu_row.specs.hwp_report_text.declared.GuestLine.{GuestLine}
 use Rattle.hwp_cpu_row.specs.GuestLists.{admission_in, line_in}

@@ -4,23 +4,23 @@ use Rattle.hwp_cpu_row.specs.hwp_geom.declared.Layout.{Layout}
 use Rattle.hwp_cpu_row.specs.hwp_page.History.{BodyValue}
 use Rattle.hwp_cpu_row.specs.hwp_page.declared.At.{At}
 use Rattle.hwp_cpu_row.specs.hwp_core_rule.declared.Turn.{Turn}
-use Rattle.hwp_cpu_command_laws.specs.hwp_cpu_command.hwp_cpu_access.declared.Instruction.{Instruction}
-use Rattle.hwp_cpu_command_laws.specs.hwp_cpu_command.hwp_cpu_access.declared.instruction.InstructionAt.{InstructionAt}
-use Rattle.hwp_cpu_command_laws.specs.hwp_cpu_command.hwp_cpu_access.declared.instruction.InstructionAt.TheVariants as instruction_at
-use Rattle.hwp_cpu_command_laws.specs.hwp_cpu_command.hwp_cpu_access.declared.InstructionAnswer.{InstructionAnswer}
-use Rattle.hwp_cpu_command_laws.specs.hwp_cpu_command.hwp_cpu_access.declared.InstructionAnswer.TheVariants as answers
-use Rattle.hwp_cpu_command_laws.specs.hwp_cpu_command.hwp_cpu_access.declared.instruction.Pause.{Pause}
-use Rattle.hwp_cpu_command_laws.specs.hwp_cpu_command.hwp_cpu_access.Instructions as instructions
-use Rattle.hwp_cpu_command_laws.specs.hwp_cpu_command.hwp_cpu_access.declared.Copying.{Copying}
-use Rattle.hwp_cpu_command_laws.specs.hwp_cpu_command.hwp_cpu_access.declared.copying.CopyingAt.{CopyingAt}
-use Rattle.hwp_cpu_command_laws.specs.hwp_cpu_command.hwp_cpu_access.declared.copying.CopyingAt.TheVariants as copying_at
-use Rattle.hwp_cpu_command_laws.specs.hwp_cpu_command.hwp_cpu_access.Copyings as copyings
-use Rattle.hwp_cpu_command_laws.specs.hwp_cpu_command.hwp_cpu_access.CopyCosts as copying_costs
-use Rattle.hwp_cpu_command_laws.specs.hwp_cpu_command.hwp_cpu_access.hwp_fork.declared.cow.Sub.{Sub}
-use Rattle.hwp_cpu_command_laws.specs.hwp_cpu_command.hwp_cpu_access.hwp_fork.declared.cow.Sub.TheVariants as subs
-use Rattle.hwp_cpu_command_laws.specs.hwp_cpu_command.hwp_cpu_access.hwp_fork.declared.cow.CowAt.{CowAt}
-use Rattle.hwp_cpu_command_laws.specs.hwp_cpu_command.hwp_cpu_access.hwp_fork.declared.cow.CowAt.TheVariants as cow_at
-use Rattle.hwp_cpu_command_laws.specs.hwp_cpu_command.hwp_cpu_access.hwp_fork.Cows as cows
+use Rattle.hwp_cpu_command.specs.hwp_cpu_access.declared.Instruction.{Instruction}
+use Rattle.hwp_cpu_command.specs.hwp_cpu_access.declared.instruction.InstructionAt.{InstructionAt}
+use Rattle.hwp_cpu_command.specs.hwp_cpu_access.declared.instruction.InstructionAt.TheVariants as instruction_at
+use Rattle.hwp_cpu_command.specs.hwp_cpu_access.declared.InstructionAnswer.{InstructionAnswer}
+use Rattle.hwp_cpu_command.specs.hwp_cpu_access.declared.InstructionAnswer.TheVariants as answers
+use Rattle.hwp_cpu_command.specs.hwp_cpu_access.declared.instruction.Pause.{Pause}
+use Rattle.hwp_cpu_command.specs.hwp_cpu_access.Instructions as instructions
+use Rattle.hwp_cpu_command.specs.hwp_cpu_access.declared.Copying.{Copying}
+use Rattle.hwp_cpu_command.specs.hwp_cpu_access.declared.copying.CopyingAt.{CopyingAt}
+use Rattle.hwp_cpu_command.specs.hwp_cpu_access.declared.copying.CopyingAt.TheVariants as copying_at
+use Rattle.hwp_cpu_command.specs.hwp_cpu_access.Copyings as copyings
+use Rattle.hwp_cpu_command.specs.hwp_cpu_access.CopyCosts as copying_costs
+use Rattle.hwp_cpu_command.specs.hwp_cpu_access.hwp_fork.declared.cow.Sub.{Sub}
+use Rattle.hwp_cpu_command.specs.hwp_cpu_access.hwp_fork.declared.cow.Sub.TheVariants as subs
+use Rattle.hwp_cpu_command.specs.hwp_cpu_access.hwp_fork.declared.cow.CowAt.{CowAt}
+use Rattle.hwp_cpu_command.specs.hwp_cpu_access.hwp_fork.declared.cow.CowAt.TheVariants as cow_at
+use Rattle.hwp_cpu_command.specs.hwp_cpu_access.hwp_fork.Cows as cows
 
 -- behind its pause
 pub copy-behind : (c : Copying) (p : Pause) → c.at ≡ copying_at.Access → c.instruction.at ≡ instruction_at.Paused p

@@ -4,25 +4,25 @@ use Rattle.std.proofs.Common.{Option, ap, true, arith, subst, length, None, refl
 use Rattle.hwp_cpu_row.specs.hwp_core_rule.declared.View.{View}
 use Rattle.hwp_cpu.specs.Courses.{IsOfMachine, begin, BeginsCourse, FitsOwn, HasPassed}
 use Rattle.hwp_cpu_row.specs.declared.Watching.{Watching}
-use Rattle.hwp_cpu_command_laws.proofs.CommandStops.{look-first, untold-at-start}
-use Rattle.hwp_cpu_command_laws.specs.hwp_cpu_command.declared.job.Job.{Job}
+use Rattle.hwp_cpu.proofs.commands.CommandStops.{look-first, untold-at-start}
+use Rattle.hwp_cpu_command.specs.declared.job.Job.{Job}
 use Rattle.hwp_cpu_row.specs.declared.Local.{Local}
 use Rattle.hwp_cpu.specs.declared.course.Course.{Course}
 use Rattle.std.proofs.lemmas.Option.{none-some}
 use Rattle.hwp_cpu_row.specs.Locals.{collects}
 use Rattle.hwp_cpu_row.specs.hwp_cpu_check.hwp_guest.declared.Admit.{Admit}
 use Rattle.hwp_cpu_row.specs.hwp_report_text.declared.Answer.{Answer}
-use Rattle.hwp_cpu_command_laws.proofs.of_hwp_cpu_command.JobEnds.{answered-over}
+use Rattle.hwp_cpu_command.proofs.JobEnds.{answered-over}
 use Rattle.hwp_cpu_row.specs.hwp_law_commands.Guests.{denial}
 use Rattle.hwp_cpu_row.specs.hwp_script_lines.declared.Command.{Command}
 use Rattle.hwp_cpu_row.specs.hwp_geom.declared.Who.{Who}
-use Rattle.hwp_cpu_command_laws.specs.hwp_cpu_command.Stays.{IsAtStop}
-use Rattle.hwp_cpu_command_laws.proofs.CommandRuns.{HasBegun, has-begun, IsTold}
+use Rattle.hwp_cpu_command.specs.Stays.{IsAtStop}
+use Rattle.hwp_cpu.proofs.commands.CommandRuns.{HasBegun, has-begun, IsTold}
 use Rattle.hwp_cpu_row.specs.hwp_geom.declared.Layout.{Layout}
-use Rattle.hwp_cpu_command_laws.specs.hwp_cpu_command.Jobs as jobs
+use Rattle.hwp_cpu_command.specs.Jobs as jobs
 use Rattle.hwp_cpu_row.specs.hwp_core_rule.declared.Step.TheVariants as steps
 use Rattle.hwp_cpu.specs.Courses as courses
-use Rattle.hwp_cpu_command_laws.specs.hwp_cpu_command.declared.job.Job.TheVariants as kinds
+use Rattle.hwp_cpu_command.specs.declared.job.Job.TheVariants as kinds
 use Rattle.hwp_cpu_row.specs.hwp_core_rule.declared.SharedWord.TheVariants as places
 
 -- a command that has yet to look whether the machine has stopped has no answer

@@ -22,30 +22,30 @@ use Rattle.hwp_cpu_row.specs.hwp_cpu_check.declared.EventOutcome.{EventOutcome}
 use Rattle.hwp_cpu_row.specs.declared.Watching.{Watching}
 use Rattle.hwp_cpu_row.specs.Acts.{told_notes}
 use Rattle.hwp_cpu_row.specs.Locals.{collects}
-use Rattle.hwp_cpu_command_laws.specs.hwp_cpu_command.declared.Job.{Job}
-use Rattle.hwp_cpu_command_laws.specs.hwp_cpu_command.declared.job.Job.TheVariants as kinds
-use Rattle.hwp_cpu_command_laws.specs.hwp_cpu_command.Jobs as jobs
-use Rattle.hwp_cpu_command_laws.specs.hwp_cpu_command.Runs.{collects_now}
-use Rattle.hwp_cpu_command_laws.proofs.of_hwp_cpu_command.JobEnds.{answered-over, soft-ended}
-use Rattle.hwp_cpu_command_laws.proofs.of_hwp_cpu_command.JobLaws as jobbing
-use Rattle.hwp_cpu_command_laws.proofs.CommandRuns.{goes-on}
-use Rattle.hwp_cpu_command_laws.proofs.ToldGrows.{told-longer}
-use Rattle.hwp_cpu_command_laws.specs.hwp_cpu_command.hwp_cpu_access.declared.Instruction.{Instruction}
-use Rattle.hwp_cpu_command_laws.specs.hwp_cpu_command.hwp_cpu_access.declared.instruction.Pause.{Pause}
-use Rattle.hwp_cpu_command_laws.specs.hwp_cpu_command.hwp_cpu_access.Fits.{checks_made}
-use Rattle.hwp_cpu_command_laws.specs.hwp_cpu_command.hwp_cpu_access.Instructions as instructions
-use Rattle.hwp_cpu_command_laws.proofs.of_hwp_cpu_command.of_hwp_cpu_access.Resting.{resting-stays}
-use Rattle.hwp_cpu_command_laws.specs.hwp_cpu_command.hwp_cpu_access.declared.Copying.{Copying}
-use Rattle.hwp_cpu_command_laws.specs.hwp_cpu_command.hwp_cpu_access.declared.copying.CopyingAt.{CopyingAt}
-use Rattle.hwp_cpu_command_laws.specs.hwp_cpu_command.hwp_cpu_access.declared.copying.CopyingAt.TheVariants as copying_at
-use Rattle.hwp_cpu_command_laws.specs.hwp_cpu_command.hwp_cpu_access.Copyings as copyings
-use Rattle.hwp_cpu_command_laws.proofs.of_hwp_cpu_command.of_hwp_cpu_access.CopyResting as copy-resting
-use Rattle.hwp_cpu_command_laws.specs.hwp_cpu_command.hwp_soft.declared.Soft.{Soft}
-use Rattle.hwp_cpu_command_laws.specs.hwp_cpu_command.hwp_soft.declared.SoftAnswer.{SoftAnswer}
-use Rattle.hwp_cpu_command_laws.specs.hwp_cpu_command.hwp_soft.declared.soft.SoftAt.{SoftAt}
-use Rattle.hwp_cpu_command_laws.specs.hwp_cpu_command.hwp_soft.declared.soft.SoftAt.TheVariants as soft_at
-use Rattle.hwp_cpu_command_laws.specs.hwp_cpu_command.hwp_soft.Offline as offline
-use Rattle.hwp_cpu_command_laws.specs.hwp_cpu_command.hwp_soft.Softs as softs
+use Rattle.hwp_cpu_command.specs.declared.Job.{Job}
+use Rattle.hwp_cpu_command.specs.declared.job.Job.TheVariants as kinds
+use Rattle.hwp_cpu_command.specs.Jobs as jobs
+use Rattle.hwp_cpu_command.specs.Runs.{collects_now}
+use Rattle.hwp_cpu_command.proofs.JobEnds.{answered-over, soft-ended}
+use Rattle.hwp_cpu_command.proofs.JobLaws as jobbing
+use Rattle.hwp_cpu.proofs.commands.CommandRuns.{goes-on}
+use Rattle.hwp_cpu.proofs.commands.ToldGrows.{told-longer}
+use Rattle.hwp_cpu_command.specs.hwp_cpu_access.declared.Instruction.{Instruction}
+use Rattle.hwp_cpu_command.specs.hwp_cpu_access.declared.instruction.Pause.{Pause}
+use Rattle.hwp_cpu_command.specs.hwp_cpu_access.Fits.{checks_made}
+use Rattle.hwp_cpu_command.specs.hwp_cpu_access.Instructions as instructions
+use Rattle.hwp_cpu_command.proofs.of_hwp_cpu_access.Resting.{resting-stays}
+use Rattle.hwp_cpu_command.specs.hwp_cpu_access.declared.Copying.{Copying}
+use Rattle.hwp_cpu_command.specs.hwp_cpu_access.declared.copying.CopyingAt.{CopyingAt}
+use Rattle.hwp_cpu_command.specs.hwp_cpu_access.declared.copying.CopyingAt.TheVariants as copying_at
+use Rattle.hwp_cpu_command.specs.hwp_cpu_access.Copyings as copyings
+use Rattle.hwp_cpu_command.proofs.of_hwp_cpu_access.CopyResting as copy-resting
+use Rattle.hwp_cpu_command.specs.hwp_soft.declared.Soft.{Soft}
+use Rattle.hwp_cpu_command.specs.hwp_soft.declared.SoftAnswer.{SoftAnswer}
+use Rattle.hwp_cpu_command.specs.hwp_soft.declared.soft.SoftAt.{SoftAt}
+use Rattle.hwp_cpu_command.specs.hwp_soft.declared.soft.SoftAt.TheVariants as soft_at
+use Rattle.hwp_cpu_command.specs.hwp_soft.Offline as offline
+use Rattle.hwp_cpu_command.specs.hwp_soft.Softs as softs
 use Rattle.hwp_cpu.specs.declared.course.Course.{Course}
 use Rattle.hwp_cpu.specs.Dues.{DueValue, HasCollected, next_due}
 use Rattle.hwp_cpu_row.specs.hwp_cec.Ages.{CecEvent, Note}

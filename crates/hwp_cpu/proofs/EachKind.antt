@@ -11,26 +11,26 @@ use Rattle.hwp_cpu_row.specs.hwp_script_lines.declared.Command.TheVariants as co
 use Rattle.hwp_cpu_row.specs.hwp_core_rule.declared.Spoiled.{Spoiled}
 use Rattle.hwp_cpu_row.specs.hwp_core_rule.declared.View.{View}
 use Rattle.hwp_cpu_row.specs.hwp_core_rule.Calls.{IsOnTurn}
-use Rattle.hwp_cpu_command_laws.specs.hwp_cpu_command.hwp_cpu_control.declared.Spoil.{Spoil}
-use Rattle.hwp_cpu_command_laws.specs.hwp_cpu_command.hwp_cpu_control.Spoils as spoils
+use Rattle.hwp_cpu_command.specs.hwp_cpu_control.declared.Spoil.{Spoil}
+use Rattle.hwp_cpu_command.specs.hwp_cpu_control.Spoils as spoils
 use Rattle.hwp_cpu_row.specs.hwp_cpu_check.Told.{halts}
-use Rattle.hwp_cpu_command_laws.specs.hwp_cpu_command.hwp_cpu_access.declared.Instruction.{Instruction}
-use Rattle.hwp_cpu_command_laws.specs.hwp_cpu_command.hwp_cpu_access.declared.Copying.{Copying}
-use Rattle.hwp_cpu_command_laws.specs.hwp_cpu_command.hwp_scrub.declared.Raise.{Raise}
-use Rattle.hwp_cpu_command_laws.specs.hwp_cpu_command.hwp_scrub.declared.Scrub.{Scrub}
-use Rattle.hwp_cpu_command_laws.specs.hwp_cpu_command.declared.job.Job.{Job}
-use Rattle.hwp_cpu_command_laws.specs.hwp_cpu_command.declared.job.Job.TheVariants as kinds
-use Rattle.hwp_cpu_command_laws.specs.hwp_cpu_command.Jobs as jobs
-use Rattle.hwp_cpu_command_laws.specs.hwp_cpu_command.Runs.{Runs, RunsAs, anew}
-use Rattle.hwp_cpu_command_laws.specs.hwp_cpu_command.Stays as stays
-use Rattle.hwp_cpu_command_laws.proofs.of_hwp_cpu_command.OfKind.{of-copying, of-evict, of-fork, of-fsync, of-inject, of-instruction, of-log, of-nested, of-prctl, of-raise, of-scrub, of-soft, of-spoil, of-unpoison}
-use Rattle.hwp_cpu_command_laws.proofs.CommandStops.{unrecovered}
-use Rattle.hwp_cpu_causes.specs.hwp_law_served.Served.{CanStop, spoiling}
-use Rattle.hwp_cpu_command_laws.specs.hwp_cpu_command.Done.{can_fail}
-use Rattle.hwp_cpu_causes.specs.Beside.{ArePrior, ArePriorWith}
+use Rattle.hwp_cpu_command.specs.hwp_cpu_access.declared.Instruction.{Instruction}
+use Rattle.hwp_cpu_command.specs.hwp_cpu_access.declared.Copying.{Copying}
+use Rattle.hwp_cpu_command.specs.hwp_scrub.declared.Raise.{Raise}
+use Rattle.hwp_cpu_command.specs.hwp_scrub.declared.Scrub.{Scrub}
+use Rattle.hwp_cpu_command.specs.declared.job.Job.{Job}
+use Rattle.hwp_cpu_command.specs.declared.job.Job.TheVariants as kinds
+use Rattle.hwp_cpu_command.specs.Jobs as jobs
+use Rattle.hwp_cpu_command.specs.Runs.{Runs, RunsAs, anew}
+use Rattle.hwp_cpu_command.specs.Stays as stays
+use Rattle.hwp_cpu_command.proofs.OfKind.{of-copying, of-evict, of-fork, of-fsync, of-inject, of-instruction, of-log, of-nested, of-prctl, of-raise, of-scrub, of-soft, of-spoil, of-unpoison}
+use Rattle.hwp_cpu.proofs.commands.CommandStops.{unrecovered}
+use Rattle.hwp_law_served.specs.Served.{CanStop, spoiling}
+use Rattle.hwp_cpu_command.specs.Done.{can_fail}
+use Rattle.hwp_cpu.specs.Beside.{ArePrior, ArePriorWith}
 use Rattle.hwp_cpu_row.specs.hwp_core_rule.declared.Made.{Made}
 use Rattle.std.proofs.lemmas.Bool.{both_ways}
-use Rattle.hwp_cpu_causes.proofs.DeniedCauses.{runs-kind}
+use Rattle.hwp_cpu.proofs.causes.DeniedCauses.{runs-kind}
 
 -- a command that fits is that of the turn
 pub on-turn : (base : List Made) (layout : Layout) (view : View) (j : Job) → jobs.FitsFrom base layout view j → IsOnTurn view (jobs.who j)

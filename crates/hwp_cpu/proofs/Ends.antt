@@ -19,7 +19,7 @@ use Rattle.hwp_cpu_row.proofs.of_hwp_core_rule.Lists.{at_map}
 use Rattle.hwp_cpu_row.proofs.of_hwp_core_rule.WordsOpen.{below-at, length-below}
 use Rattle.hwp_cpu_row.specs.hwp_core_rule.declared.Turn.{Turn}
 use Rattle.hwp_cpu_row.specs.hwp_core_rule.Boards.{AreSeated, view_of}
-use Rattle.hwp_cpu_causes.specs.hwp_law_served.Served.{HasServed}
+use Rattle.hwp_law_served.specs.Served.{HasServed}
 use Rattle.hwp_cpu.specs.declared.processor.Processor.{Processor}
 use Rattle.hwp_cpu.specs.Processors.{AreCommands, AtBeginning, Follows, Next, NextOf, bare, who}
 use Rattle.hwp_cpu.specs.Serving.{Fits, FitsAt, KeepsGuests}
@@ -27,7 +27,7 @@ use Rattle.hwp_cpu.proofs.ProcessorOpens.{begun}
 use Rattle.hwp_cpu.proofs.ProcessorServes.{served}
 use Rattle.hwp_cpu.proofs.ProcessorLaws.{own-cpu}
 use Rattle.hwp_cpu.specs.declared.course.Course.{Course}
-use Rattle.hwp_cpu_causes.specs.hwp_law_served.hwp_soft.declared.soft.SoftAt.TheVariants as at
+use Rattle.hwp_law_served.specs.hwp_soft.declared.soft.SoftAt.TheVariants as at
 use Rattle.hwp_cpu.specs.Courses as courses
 use Rattle.hwp_cpu_row.specs.hwp_geom.Layout.{IsSound}
 use Rattle.hwp_cpu.proofs.GuestsKept.{guests-begun}

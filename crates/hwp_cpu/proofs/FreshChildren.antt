@@ -1,6 +1,6 @@
 -- Where a fork begins, no thread of the child has set a policy, each is one of the processor, and none is the one that forks.
 use Rattle.std.specs.Prelude.{IsSomeAnd}
-use Rattle.hwp_cpu_command_laws.specs.hwp_cpu_command.hwp_kill.Prctl.{policy_set}
+use Rattle.hwp_cpu_command.specs.hwp_kill.Prctl.{policy_set}
 use Rattle.hwp_cpu_row.specs.hwp_law_commands.Settings.{arguments, last_policy, set_after, set_behind, setting_of, settings, unset}
 use Rattle.std.proofs.Common.{◌≡◌, ◌≢◌, ℕ, zero, suc, ◌+◌, ◌<◌, ◌≤◌, ◌==◌, ◌&&◌, ◌||◌, not, Bool, true, false, cond, true≢false, List, [], ◌∷◌, ◌++◌, Option, Some, None, length, map, slice_get, take, count_by, append-nil, refl, sym, ap, ◌∙◌, subst, arith}
 use Rattle.std.specs.List.{cons_option, list_any, zip}
@@ -15,7 +15,7 @@ use Rattle.hwp_cpu_row.specs.hwp_geom.declared.Proc.{Proc}
 use Rattle.hwp_cpu_row.specs.hwp_geom.declared.Thread.{Thread}
 use Rattle.hwp_cpu_row.specs.hwp_geom.declared.ThreadDecl.{ThreadDecl}
 use Rattle.hwp_cpu_row.specs.hwp_geom.declared.Who.{Who}
-use Rattle.hwp_cpu_command_laws.specs.hwp_cpu_command.hwp_kill.declared.Policy.{Policy}
+use Rattle.hwp_cpu_command.specs.hwp_kill.declared.Policy.{Policy}
 use Rattle.hwp_cpu_row.specs.hwp_script_lines.declared.Command.{Command}
 use Rattle.hwp_cpu_row.specs.hwp_script_lines.declared.Command.TheVariants as commands
 use Rattle.hwp_cpu_row.specs.hwp_script_read.Forks.{cannot_share, is_away, is_fork_of, is_thread_of, is_used_by, is_wrong_child}
@@ -27,9 +27,9 @@ use Rattle.hwp_cpu_row.specs.hwp_core_rule.declared.Setting.{Setting}
 use Rattle.hwp_cpu_row.specs.hwp_core_rule.declared.View.{View}
 use Rattle.hwp_cpu_row.specs.hwp_core_rule.parts.Policies.{settings_of}
 use Rattle.hwp_cpu_row.specs.declared.Row.{Row}
-use Rattle.hwp_cpu_command_laws.specs.hwp_cpu_command.Runs.{CanFork, IsFresh}
-use Rattle.hwp_cpu_command_laws.specs.hwp_cpu_command.Settings.{policies_in}
-use Rattle.hwp_cpu_causes.specs.hwp_law_served.Handles.{answers_by}
+use Rattle.hwp_cpu_command.specs.Runs.{CanFork, IsFresh}
+use Rattle.hwp_cpu_command.specs.Settings.{policies_in}
+use Rattle.hwp_law_served.specs.Handles.{answers_by}
 use Rattle.hwp_cpu.specs.Processors.{AreForkedOnce, at_number}
 
 -- ---- of lists

@@ -1,7 +1,7 @@
 -- What a command comes to where its own task rests: the next frame is taken out of use, or its own task goes on, or its answer is the
 -- command's.
-use Rattle.hwp_cpu_command_laws.specs.hwp_cpu_command.Runs.{Runs}
-use Rattle.hwp_cpu_causes.specs.Beside.{IsOwnServed}
+use Rattle.hwp_cpu_command.specs.Runs.{Runs}
+use Rattle.hwp_cpu.specs.Beside.{IsOwnServed}
 use Rattle.hwp_cpu_row.specs.hwp_geom.declared.VSlot.{VSlot}
 use Rattle.hwp_cpu.proofs.Rows.{past-end}
 use Rattle.std.proofs.Common.{arith, inl, subst, ◌≡◌, refl, true, length, ◌<◌, not, ◌≤◌, slice_get, ap, List, ◌⊎◌, false, is_some, ℕ, None, Some, inr, Option, sym, ◌∙◌, nat_lt}
@@ -10,29 +10,29 @@ use Rattle.hwp_cpu_row.specs.hwp_law_commands.Commands.{is_kernels}
 use Rattle.hwp_cpu.proofs.BesideTurns.{at_rest, own-behind, told-behind, begins-beside, HasNotedAll, goes-behind, way-behind, taken-few}
 use Rattle.hwp_cpu.proofs.Collecting.{collects-plain, collects-undenied, collect-fails, collect-left, collect-numbers, collect-halted}
 use Rattle.hwp_cpu.specs.Dues.{next_due}
-use Rattle.hwp_cpu_command_laws.specs.hwp_cpu_command.Jobs.{told_of}
+use Rattle.hwp_cpu_command.specs.Jobs.{told_of}
 use Rattle.hwp_cpu.proofs.OwnRests.{HoldsNone, answer-known, AnswerKnown}
 use Rattle.std.proofs.lemmas.List.{take_all, length-map}
 use Rattle.hwp_cpu.specs.Serving.{Pauses, KeepsWatch, noting, IsUnderWay, HasAnswered, noted_by, IsRunning, GivesUp, OwnGoesOn, Rests}
 use Rattle.hwp_cpu_row.specs.declared.Offlining.{Offlining}
-use Rattle.hwp_cpu_causes.specs.hwp_law_served.Offlinings.{watched_at, left_beside}
-use Rattle.hwp_cpu_causes.specs.hwp_law_served.Causes.{IsAnswerCaused}
-use Rattle.hwp_cpu_causes.specs.hwp_law_served.hwp_page.declared.At.{At}
+use Rattle.hwp_law_served.specs.Offlinings.{watched_at, left_beside}
+use Rattle.hwp_law_served.specs.Causes.{IsAnswerCaused}
+use Rattle.hwp_law_served.specs.hwp_page.declared.At.{At}
 use Rattle.hwp_cpu_row.specs.hwp_law_commands.Watched.{Watched, due}
 use Rattle.hwp_cpu_row.specs.hwp_law_commands.Notes.{is_for_pages}
 use Rattle.std.specs.List.{cons_option}
 use Rattle.hwp_cpu_row.specs.Locals.{collects, IsWatching}
 use Rattle.hwp_cpu_row.specs.declared.Local.{Local}
 use Rattle.hwp_cpu_row.specs.hwp_geom.declared.Frame.{Frame}
-use Rattle.hwp_cpu_causes.specs.hwp_law_served.Handles.{number_at, answers_by}
+use Rattle.hwp_law_served.specs.Handles.{number_at, answers_by}
 use Rattle.std.proofs.lemmas.Bool.{and_parts, ltb-true}
 use Rattle.hwp_cpu_row.specs.hwp_core_rule.Lists.{EachMember}
 use Rattle.hwp_cpu_row.specs.hwp_geom.declared.Layout.{Layout}
 use Rattle.hwp_cpu_row.specs.hwp_script_lines.declared.Command.{Command}
 use Rattle.hwp_cpu.proofs.Collected.{not-watched}
-use Rattle.hwp_cpu_command_laws.specs.hwp_cpu_command.declared.job.Job.{Job}
+use Rattle.hwp_cpu_command.specs.declared.job.Job.{Job}
 use Rattle.hwp_cpu_row.specs.Acts.{told_notes}
-use Rattle.hwp_cpu_command_laws.proofs.Beside.{answered-resumes}
+use Rattle.hwp_cpu.proofs.commands.Beside.{answered-resumes}
 use Rattle.hwp_cpu_row.specs.hwp_report_text.declared.Answer.{Answer}
 use Rattle.hwp_cpu_row.specs.hwp_geom.declared.Cpu.{Cpu}
 use Rattle.hwp_cpu.specs.Courses.{answer, IsGoingOn, going_on}
@@ -41,7 +41,7 @@ use Rattle.hwp_cpu_row.specs.hwp_core_rule.declared.Turn.{Turn}
 use Rattle.hwp_cpu_row.specs.declared.Row.{Row}
 use Rattle.hwp_cpu.specs.Processors.{at_number}
 use Rattle.hwp_cpu.specs.declared.course.Course.{Course}
-use Rattle.hwp_cpu_command_laws.specs.hwp_cpu_command.Jobs as jobs
+use Rattle.hwp_cpu_command.specs.Jobs as jobs
 
 -- all that the command noted is told to the collector
 pub record IsComplete (layout : Layout) (watched : Option Watched) (c : Course) : Type 0 where

@@ -25,19 +25,19 @@ use Rattle.hwp_cpu_row.specs.GuestLists as lists
 use Rattle.hwp_cpu_row.specs.GuestLists.{AreGuestsOf, MayTell, States, admission_in, first_guests, line_in}
 use Rattle.hwp_cpu_row.specs.Locals.{IsFirst, collects}
 use Rattle.hwp_cpu_row.proofs.GuestListLaws.{denied-known, first-are, first-known, may-take, may-tell, told-are, told-known}
-use Rattle.hwp_cpu_command_laws.specs.hwp_cpu_command.declared.job.Job.{Job}
-use Rattle.hwp_cpu_command_laws.specs.hwp_cpu_command.Jobs as jobs
-use Rattle.hwp_cpu_command_laws.specs.hwp_cpu_command.Jobs.{denial_of}
-use Rattle.hwp_cpu_command_laws.proofs.CommandRuns.{has-begun}
-use Rattle.hwp_cpu_command_laws.proofs.DeniedAnswers.{IsGone, says-denied, says-plain, unsignalled, untold-denied}
+use Rattle.hwp_cpu_command.specs.declared.job.Job.{Job}
+use Rattle.hwp_cpu_command.specs.Jobs as jobs
+use Rattle.hwp_cpu_command.specs.Jobs.{denial_of}
+use Rattle.hwp_cpu.proofs.commands.CommandRuns.{has-begun}
+use Rattle.hwp_cpu.proofs.commands.DeniedAnswers.{IsGone, says-denied, says-plain, unsignalled, untold-denied}
 use Rattle.hwp_cpu.specs.declared.course.Course.{Course}
 use Rattle.hwp_cpu.specs.Courses as courses
 use Rattle.hwp_cpu.specs.Courses.{answer_of, local_after, row_of}
-use Rattle.hwp_cpu_command_laws.specs.hwp_cpu_command.hwp_soft.declared.Soft.{Soft}
-use Rattle.hwp_cpu_causes.specs.hwp_law_served.Guests.{IsDeniedRow, IsGuestRow, KnowsGuests, SaysGone}
-use Rattle.hwp_cpu_causes.specs.hwp_law_served.Handles.{answers_by}
-use Rattle.hwp_cpu_causes.specs.hwp_law_served.Rows.{guest_at}
-use Rattle.hwp_cpu_causes.proofs.of_hwp_law_served.GuestRows.{guests-later, guests-more}
+use Rattle.hwp_cpu_command.specs.hwp_soft.declared.Soft.{Soft}
+use Rattle.hwp_law_served.specs.Guests.{IsDeniedRow, IsGuestRow, KnowsGuests, SaysGone}
+use Rattle.hwp_law_served.specs.Handles.{answers_by}
+use Rattle.hwp_law_served.specs.Rows.{guest_at}
+use Rattle.hwp_law_served.proofs.GuestRows.{guests-later, guests-more}
 use Rattle.hwp_cpu.specs.Processors.{AreCommands, BeginsAt, IsAdmitted, MayTellOf, at_number, left_of, told_local, with_guest}
 use Rattle.hwp_cpu.specs.Serving.{IsAsked, KeepsGuests}
 use Rattle.hwp_cpu.proofs.ActingFits.{at-least}

@@ -12,17 +12,17 @@ use Rattle.hwp_cpu_row.specs.hwp_script_lines.declared.Command.{Command}
 use Rattle.hwp_cpu_row.specs.hwp_script_lines.declared.Command.TheVariants as commands
 use Rattle.hwp_cpu_row.specs.hwp_report_text.declared.Answer.{Answer}
 use Rattle.hwp_cpu_row.specs.hwp_report_text.declared.Answer.TheVariants as answers
-use Rattle.hwp_cpu_causes.specs.hwp_law.Losses.{number_by, tells_number}
+use Rattle.hwp_law_served.specs.hwp_law.Losses.{number_by, tells_number}
 use Rattle.hwp_cpu_row.specs.hwp_core_rule.declared.SharedWord.TheVariants as places
 use Rattle.hwp_cpu_row.specs.hwp_core_rule.declared.View.{View}
 use Rattle.hwp_cpu_row.specs.hwp_core_rule.Known.{HasSeenLoss, Saw}
-use Rattle.hwp_cpu_command_laws.specs.hwp_cpu_command.hwp_evict.Fsyncs as fsyncs
+use Rattle.hwp_cpu_command.specs.hwp_evict.Fsyncs as fsyncs
 use Rattle.hwp_cpu_row.specs.declared.Row.{Row}
-use Rattle.hwp_cpu_command_laws.specs.hwp_cpu_command.declared.job.Job.{Job}
-use Rattle.hwp_cpu_command_laws.specs.hwp_cpu_command.declared.job.Job.TheVariants as jobs
-use Rattle.hwp_cpu_command_laws.specs.hwp_cpu_command.FileHandles.{HasHandle, KnowsHandle, handles_after}
-use Rattle.hwp_cpu_causes.specs.hwp_law_served.Handles.{KnowsNumbers, number_at}
-use Rattle.hwp_cpu_causes.proofs.of_hwp_law_served.Handles.{number-next}
+use Rattle.hwp_cpu_command.specs.declared.job.Job.{Job}
+use Rattle.hwp_cpu_command.specs.declared.job.Job.TheVariants as jobs
+use Rattle.hwp_cpu_command.specs.FileHandles.{HasHandle, KnowsHandle, handles_after}
+use Rattle.hwp_law_served.specs.Handles.{KnowsNumbers, number_at}
+use Rattle.hwp_law_served.proofs.Handles.{number-next}
 use Rattle.hwp_cpu.specs.Serving.{AreNumbered}
 use Rattle.hwp_cpu.proofs.Rows.{past-end}
 

@@ -11,8 +11,8 @@ use Rattle.hwp_cpu_row.specs.hwp_geom.declared.Proc.{Proc}
 use Rattle.hwp_cpu_row.specs.hwp_geom.declared.Thread.{Thread}
 use Rattle.hwp_cpu_row.specs.hwp_geom.declared.ThreadDecl.{ThreadDecl}
 use Rattle.hwp_cpu_row.specs.hwp_geom.Limits.{command_limit}
-use Rattle.hwp_cpu_command_laws.specs.hwp_cpu_command.hwp_kill.declared.Policy.{Policy}
-use Rattle.hwp_cpu_command_laws.specs.hwp_cpu_command.hwp_kill.Prctl.{policy_set}
+use Rattle.hwp_cpu_command.specs.hwp_kill.declared.Policy.{Policy}
+use Rattle.hwp_cpu_command.specs.hwp_kill.Prctl.{policy_set}
 use Rattle.hwp_cpu_row.specs.hwp_script_lines.declared.Command.{Command}
 use Rattle.hwp_cpu_row.specs.hwp_script_lines.declared.Command.TheVariants as commands
 use Rattle.hwp_cpu_row.specs.hwp_report_text.declared.Answer.{Answer}
@@ -26,15 +26,15 @@ use Rattle.hwp_cpu_row.specs.hwp_core_rule.declared.View.{View}
 use Rattle.hwp_cpu_row.specs.hwp_core_rule.parts.Policies.{settings_of}
 use Rattle.hwp_cpu_row.specs.hwp_claim_frame.Done.{Grows}
 use Rattle.hwp_cpu_row.specs.declared.Row.{Row}
-use Rattle.hwp_cpu_command_laws.specs.hwp_cpu_command.hwp_cpu_control.Forks.{threads_of}
-use Rattle.hwp_cpu_command_laws.specs.hwp_cpu_command.hwp_cpu_control.Prctls.{HasSettingLeft}
-use Rattle.hwp_cpu_command_laws.specs.hwp_cpu_command.declared.job.Job.{Job}
-use Rattle.hwp_cpu_command_laws.specs.hwp_cpu_command.Jobs.{who}
-use Rattle.hwp_cpu_command_laws.specs.hwp_cpu_command.Settings.{AreCounted, of_thread, policies_in, policies_now, set_now}
-use Rattle.hwp_cpu_command_laws.specs.hwp_cpu_command.Stays.{IsAtStop, Stepped}
-use Rattle.hwp_cpu_command_laws.proofs.CommandDeeds.{done, unset-policies-at-start}
-use Rattle.hwp_cpu_causes.specs.hwp_law_served.Accounts.{set_by, set_for}
-use Rattle.hwp_cpu_causes.specs.hwp_law_served.Handles.{answers_by}
+use Rattle.hwp_cpu_command.specs.hwp_cpu_control.Forks.{threads_of}
+use Rattle.hwp_cpu_command.specs.hwp_cpu_control.Prctls.{HasSettingLeft}
+use Rattle.hwp_cpu_command.specs.declared.job.Job.{Job}
+use Rattle.hwp_cpu_command.specs.Jobs.{who}
+use Rattle.hwp_cpu_command.specs.Settings.{AreCounted, of_thread, policies_in, policies_now, set_now}
+use Rattle.hwp_cpu_command.specs.Stays.{IsAtStop, Stepped}
+use Rattle.hwp_cpu.proofs.commands.CommandDeeds.{done, unset-policies-at-start}
+use Rattle.hwp_law_served.specs.Accounts.{set_by, set_for}
+use Rattle.hwp_law_served.specs.Handles.{answers_by}
 
 -- ---- over a step
 

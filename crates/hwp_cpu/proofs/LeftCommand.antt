@@ -1,31 +1,31 @@
 -- The entry by which a page left its frame, of a command that is answered: that of the command `soft` itself, beside those before.
-use Rattle.hwp_cpu_causes.proofs.LeftBeside.{IsNoSoft, left-answered, left-moved, moved_at}
+use Rattle.hwp_cpu.proofs.causes.LeftBeside.{IsNoSoft, left-answered, left-moved, moved_at}
 use Rattle.hwp_cpu_row.specs.hwp_geom.declared.Who.{Who}
-use Rattle.hwp_cpu_command_laws.specs.hwp_cpu_command.declared.job.Job.{Job}
+use Rattle.hwp_cpu_command.specs.declared.job.Job.{Job}
 use Rattle.hwp_cpu_row.specs.hwp_core_rule.declared.View.{View}
-use Rattle.hwp_cpu_causes.specs.hwp_law_served.hwp_page.declared.At.{At}
+use Rattle.hwp_law_served.specs.hwp_page.declared.At.{At}
 use Rattle.std.proofs.Common.{refl, ◌≡◌, Option, None, ap, ◌++◌, subst, sym, Some, List, ◌∙◌, [], inl, inr}
-use Rattle.hwp_cpu_command_laws.proofs.of_hwp_cpu_command.OfKind.{of-evict, of-fork, of-scrub, of-instruction, of-soft, of-fsync, of-raise, of-spoil, of-unpoison, of-prctl, of-inject, of-nested, of-log}
-use Rattle.hwp_cpu_causes.specs.Beside.{ArePrior}
+use Rattle.hwp_cpu_command.proofs.OfKind.{of-evict, of-fork, of-scrub, of-instruction, of-soft, of-fsync, of-raise, of-spoil, of-unpoison, of-prctl, of-inject, of-nested, of-log}
+use Rattle.hwp_cpu.specs.Beside.{ArePrior}
 use Rattle.hwp_cpu_row.specs.hwp_geom.declared.Layout.{Layout}
 use Rattle.hwp_cpu_row.specs.hwp_core_rule.declared.Made.{Made}
 use Rattle.std.specs.List.{cons_option}
 use Rattle.hwp_cpu_row.specs.hwp_geom.declared.Frame.{Frame}
-use Rattle.hwp_cpu_command_laws.specs.hwp_cpu_command.hwp_soft.declared.SoftAnswer.{SoftAnswer}
-use Rattle.hwp_cpu_causes.specs.hwp_law_served.Offlinings.{left_among, left_by, left_itself}
-use Rattle.hwp_cpu_command_laws.proofs.CommandRuns.{runs-who}
+use Rattle.hwp_cpu_command.specs.hwp_soft.declared.SoftAnswer.{SoftAnswer}
+use Rattle.hwp_law_served.specs.Offlinings.{left_among, left_by, left_itself}
+use Rattle.hwp_cpu.proofs.commands.CommandRuns.{runs-who}
 use Rattle.hwp_cpu_row.specs.hwp_script_lines.declared.Command.{Command}
-use Rattle.hwp_cpu_command_laws.specs.hwp_cpu_command.Answers.{soft_answer}
+use Rattle.hwp_cpu_command.specs.Answers.{soft_answer}
 use Rattle.hwp_cpu_row.specs.hwp_report_text.declared.Answer.{Answer}
-use Rattle.hwp_cpu_command_laws.proofs.of_hwp_cpu_command.JobEnds.{mapped}
-use Rattle.hwp_cpu_command_laws.specs.hwp_cpu_command.hwp_soft.declared.Soft.{Soft}
-use Rattle.hwp_cpu_command_laws.specs.hwp_cpu_command.Runs.{RunsAs, RunsDenied}
-use Rattle.hwp_cpu_command_laws.specs.hwp_cpu_command.Jobs as jobs
-use Rattle.hwp_cpu_command_laws.specs.hwp_cpu_command.hwp_soft.Softs as softs
-use Rattle.hwp_cpu_command_laws.specs.hwp_cpu_command.declared.job.Job.TheVariants as kinds
+use Rattle.hwp_cpu_command.proofs.JobEnds.{mapped}
+use Rattle.hwp_cpu_command.specs.hwp_soft.declared.Soft.{Soft}
+use Rattle.hwp_cpu_command.specs.Runs.{RunsAs, RunsDenied}
+use Rattle.hwp_cpu_command.specs.Jobs as jobs
+use Rattle.hwp_cpu_command.specs.hwp_soft.Softs as softs
+use Rattle.hwp_cpu_command.specs.declared.job.Job.TheVariants as kinds
 use Rattle.hwp_cpu_row.specs.hwp_script_lines.declared.Command.TheVariants as commands
-use Rattle.hwp_cpu_command_laws.specs.hwp_cpu_command.hwp_soft.declared.SoftAnswer.TheVariants as soft_answers
-use Rattle.hwp_cpu_causes.proofs.DeniedCauses.{access-by, runs-kind}
+use Rattle.hwp_cpu_command.specs.hwp_soft.declared.SoftAnswer.TheVariants as soft_answers
+use Rattle.hwp_cpu.proofs.causes.DeniedCauses.{access-by, runs-kind}
 use Rattle.hwp_cpu_row.specs.hwp_geom.declared.VSlot.{VSlot}
 
 module _ (layout : Layout) (view : View) (who : Who) (j : Job) (a : Answer) (base : List Made) (fits : jobs.FitsFrom base layout view j) (has : jobs.answer j ≡ Some a) where

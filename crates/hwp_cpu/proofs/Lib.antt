@@ -1,3 +1,5 @@
+pub mod commands
+pub mod causes
 pub mod DueLaws
 pub mod SoftMade
 pub mod CopyRests
@@ -37,5 +39,5 @@ pub mod ProcessorTells
 pub mod ProcessorOpens
 pub mod ProcessorServes
 pub mod Ends
-pub use Rattle.hwp_cpu_causes.proofs.of_hwp_law_served as of_hwp_law_served
-pub use Rattle.hwp_cpu_causes.proofs.of_hwp_law_run as of_hwp_law_run
+pub use Rattle.hwp_law_served.proofs as of_hwp_law_served
+pub use Rattle.hwp_law_served.proofs.of_hwp_law_run as of_hwp_law_run

@@ -15,22 +15,22 @@ use Rattle.hwp_cpu_row.specs.hwp_cpu_check.Done.{marked_in}
 use Rattle.hwp_cpu_row.specs.declared.Offlining.{Offlining}
 use Rattle.hwp_cpu_row.specs.Acts.{AreInTime, Offlined, Told, acts}
 use Rattle.hwp_cpu_row.proofs.Acts.{acts-offlined, acts-told}
-use Rattle.hwp_cpu_command_laws.specs.hwp_cpu_command.declared.Job.{Job}
-use Rattle.hwp_cpu_command_laws.specs.hwp_cpu_command.declared.job.Job.TheVariants as kinds
-use Rattle.hwp_cpu_command_laws.specs.hwp_cpu_command.Done.{marked_beyond, marked_now}
-use Rattle.hwp_cpu_command_laws.specs.hwp_cpu_command.Jobs.{Next, bare, offlined_by, told_of}
-use Rattle.hwp_cpu_command_laws.specs.hwp_cpu_command.hwp_soft.declared.Soft.{Soft}
-use Rattle.hwp_cpu_command_laws.specs.hwp_cpu_command.hwp_soft.declared.SoftAnswer.{SoftAnswer}
-use Rattle.hwp_cpu_command_laws.specs.hwp_cpu_command.hwp_soft.declared.SoftAnswer.TheVariants as soft_answers
-use Rattle.hwp_cpu_command_laws.specs.hwp_cpu_command.hwp_soft.declared.soft.SoftAt.TheVariants as soft_at
-use Rattle.hwp_cpu_command_laws.specs.hwp_cpu_command.hwp_soft.Done as soft_done
-use Rattle.hwp_cpu_command_laws.specs.hwp_cpu_command.hwp_soft.Softs as softs
-use Rattle.hwp_cpu_command_laws.proofs.of_hwp_cpu_command.JobEnds.{soft-over}
-use Rattle.hwp_cpu_command_laws.proofs.Beside.{marked-parts}
-use Rattle.hwp_cpu_command_laws.proofs.ToldGrows.{told-longer}
+use Rattle.hwp_cpu_command.specs.declared.Job.{Job}
+use Rattle.hwp_cpu_command.specs.declared.job.Job.TheVariants as kinds
+use Rattle.hwp_cpu_command.specs.Done.{marked_beyond, marked_now}
+use Rattle.hwp_cpu_command.specs.Jobs.{Next, bare, offlined_by, told_of}
+use Rattle.hwp_cpu_command.specs.hwp_soft.declared.Soft.{Soft}
+use Rattle.hwp_cpu_command.specs.hwp_soft.declared.SoftAnswer.{SoftAnswer}
+use Rattle.hwp_cpu_command.specs.hwp_soft.declared.SoftAnswer.TheVariants as soft_answers
+use Rattle.hwp_cpu_command.specs.hwp_soft.declared.soft.SoftAt.TheVariants as soft_at
+use Rattle.hwp_cpu_command.specs.hwp_soft.Done as soft_done
+use Rattle.hwp_cpu_command.specs.hwp_soft.Softs as softs
+use Rattle.hwp_cpu_command.proofs.JobEnds.{soft-over}
+use Rattle.hwp_cpu.proofs.commands.Beside.{marked-parts}
+use Rattle.hwp_cpu.proofs.commands.ToldGrows.{told-longer}
 use Rattle.hwp_cpu.specs.declared.course.Course.{Course}
 use Rattle.hwp_cpu.specs.Courses.{offlining, with_result}
-use Rattle.hwp_cpu_causes.specs.hwp_law_served.Accounts.{act_marking, own_marking}
+use Rattle.hwp_law_served.specs.Accounts.{act_marking, own_marking}
 use Rattle.hwp_cpu.specs.Serving.{marked_beside, marked_so_far}
 
 -- ---- by acts

@@ -1,33 +1,33 @@
 -- What a step of a command's own task tells of events, and what those note.
-use Rattle.hwp_cpu_command_laws.specs.hwp_cpu_command.hwp_cpu_access.declared.Copying.{Copying}
-use Rattle.hwp_cpu_command_laws.specs.hwp_cpu_command.hwp_cpu_access.declared.copying.CopyingAt.{CopyingAt}
-use Rattle.hwp_cpu_command_laws.specs.hwp_cpu_command.hwp_cpu_access.declared.copying.CopyingAt.TheVariants as copying_at
-use Rattle.hwp_cpu_command_laws.specs.hwp_cpu_command.hwp_cpu_access.Copyings as copyings
-use Rattle.hwp_cpu_command_laws.specs.hwp_cpu_command.hwp_cpu_access.CopyFits as copying_fits
-use Rattle.hwp_cpu_command_laws.specs.hwp_cpu_command.hwp_cpu_access.Runs.{checks_by}
-use Rattle.hwp_cpu_command_laws.specs.hwp_cpu_command.hwp_cpu_access.hwp_fork.declared.cow.Sub.{Sub}
-use Rattle.hwp_cpu_command_laws.specs.hwp_cpu_command.hwp_cpu_access.hwp_fork.declared.cow.Sub.TheVariants as subs
-use Rattle.hwp_cpu_command_laws.specs.hwp_cpu_command.hwp_cpu_access.hwp_fork.Cows as cows
-use Rattle.hwp_cpu_command_laws.specs.hwp_cpu_command.hwp_evict.declared.Evict.{Evict}
-use Rattle.hwp_cpu_command_laws.specs.hwp_cpu_command.hwp_evict.declared.EvictAnswer.{EvictAnswer}
-use Rattle.hwp_cpu_command_laws.specs.hwp_cpu_command.hwp_evict.declared.EvictAnswer.TheVariants as evict_answers
-use Rattle.hwp_cpu_command_laws.specs.hwp_cpu_command.hwp_evict.Evicts as evicts
-use Rattle.hwp_cpu_command_laws.specs.hwp_cpu_command.hwp_cpu_access.declared.InstructionAnswer.{InstructionAnswer}
-use Rattle.hwp_cpu_command_laws.specs.hwp_cpu_command.hwp_cpu_access.declared.InstructionAnswer.TheVariants as access_answers
-use Rattle.hwp_cpu_command_laws.specs.hwp_cpu_command.hwp_cpu_access.declared.instruction.InstructionAt.TheVariants as instruction_at
-use Rattle.hwp_cpu_command_laws.proofs.of_hwp_cpu_command.of_hwp_cpu_access.CowSteps.{request-who}
+use Rattle.hwp_cpu_command.specs.hwp_cpu_access.declared.Copying.{Copying}
+use Rattle.hwp_cpu_command.specs.hwp_cpu_access.declared.copying.CopyingAt.{CopyingAt}
+use Rattle.hwp_cpu_command.specs.hwp_cpu_access.declared.copying.CopyingAt.TheVariants as copying_at
+use Rattle.hwp_cpu_command.specs.hwp_cpu_access.Copyings as copyings
+use Rattle.hwp_cpu_command.specs.hwp_cpu_access.CopyFits as copying_fits
+use Rattle.hwp_cpu_command.specs.hwp_cpu_access.Runs.{checks_by}
+use Rattle.hwp_cpu_command.specs.hwp_cpu_access.hwp_fork.declared.cow.Sub.{Sub}
+use Rattle.hwp_cpu_command.specs.hwp_cpu_access.hwp_fork.declared.cow.Sub.TheVariants as subs
+use Rattle.hwp_cpu_command.specs.hwp_cpu_access.hwp_fork.Cows as cows
+use Rattle.hwp_cpu_command.specs.hwp_evict.declared.Evict.{Evict}
+use Rattle.hwp_cpu_command.specs.hwp_evict.declared.EvictAnswer.{EvictAnswer}
+use Rattle.hwp_cpu_command.specs.hwp_evict.declared.EvictAnswer.TheVariants as evict_answers
+use Rattle.hwp_cpu_command.specs.hwp_evict.Evicts as evicts
+use Rattle.hwp_cpu_command.specs.hwp_cpu_access.declared.InstructionAnswer.{InstructionAnswer}
+use Rattle.hwp_cpu_command.specs.hwp_cpu_access.declared.InstructionAnswer.TheVariants as access_answers
+use Rattle.hwp_cpu_command.specs.hwp_cpu_access.declared.instruction.InstructionAt.TheVariants as instruction_at
+use Rattle.hwp_cpu_command.proofs.of_hwp_cpu_access.CowSteps.{request-who}
 use Rattle.hwp_cpu_row.specs.hwp_page.declared.At.{At}
 use Rattle.hwp_cpu_row.specs.hwp_geom.declared.Who.{Who}
 use Rattle.hwp_cpu_row.specs.hwp_core_rule.Calls.{Steps, logs}
 use Rattle.std.proofs.lemmas.Option.{none-some}
 use Rattle.hwp_cpu_row.specs.hwp_cpu_check.Told.{halts, has_kept}
-use Rattle.hwp_cpu_causes.proofs.NotedLines.{answered-unnoted, notes-behind, notes-more}
-use Rattle.hwp_cpu_command_laws.proofs.of_hwp_cpu_command.of_hwp_cpu_access.ToldMore.{Tells, told-more}
-use Rattle.hwp_cpu_command_laws.specs.hwp_cpu_command.Jobs.{told_of}
+use Rattle.hwp_cpu.proofs.causes.NotedLines.{answered-unnoted, notes-behind, notes-more}
+use Rattle.hwp_cpu_command.proofs.of_hwp_cpu_access.ToldMore.{Tells, told-more}
+use Rattle.hwp_cpu_command.specs.Jobs.{told_of}
 use Rattle.std.proofs.Common.{Bool, true, ◌≡◌, ◌⊎◌, is_some, subst, false, sym, drop, length, append-nil, inl, true≢false, ◌++◌, refl, List, ◌&&◌, Option, arith, ap, ℕ, inr, ◌∙◌, [], None, Some}
-use Rattle.hwp_cpu_command_laws.specs.hwp_cpu_command.hwp_cpu_access.declared.Instruction.{Instruction}
+use Rattle.hwp_cpu_command.specs.hwp_cpu_access.declared.Instruction.{Instruction}
 use Rattle.hwp_cpu_row.specs.hwp_cpu_check.declared.EventOutcome.{EventOutcome}
-use Rattle.hwp_cpu_command_laws.specs.hwp_cpu_command.declared.job.Job.{Job}
+use Rattle.hwp_cpu_command.specs.declared.job.Job.{Job}
 use Rattle.hwp_cpu_row.specs.Locals.{collects}
 use Rattle.hwp_cpu.specs.Serving.{HasToldAll}
 use Rattle.hwp_cpu_row.specs.hwp_core_rule.declared.View.{View}
@@ -36,16 +36,16 @@ use Rattle.hwp_cpu_row.specs.Acts.{told_notes}
 use Rattle.hwp_cpu_row.specs.hwp_core_rule.declared.Made.{Made}
 use Rattle.hwp_cpu_row.specs.hwp_geom.declared.Frame.{Frame}
 use Rattle.hwp_cpu_row.specs.declared.Watching.{Watching}
-use Rattle.hwp_cpu_command_laws.specs.hwp_cpu_command.Stays.{Stepped, HasGivenUp}
+use Rattle.hwp_cpu_command.specs.Stays.{Stepped, HasGivenUp}
 use Rattle.hwp_cpu_row.specs.hwp_geom.declared.Layout.{Layout}
-use Rattle.hwp_cpu_command_laws.specs.hwp_cpu_command.hwp_cpu_access.Instructions as instructions
-use Rattle.hwp_cpu_command_laws.specs.hwp_cpu_command.declared.job.Job.TheVariants as kinds
-use Rattle.hwp_cpu_command_laws.specs.hwp_cpu_command.Jobs as jobs
-use Rattle.hwp_cpu_command_laws.proofs.Beside.{given-up-rests}
-use Rattle.hwp_cpu_command_laws.proofs.ToldGrows.{told-longer}
-use Rattle.hwp_cpu_command_laws.specs.hwp_cpu_command.hwp_cpu_access.declared.instruction.InstructionAt.{InstructionAt}
+use Rattle.hwp_cpu_command.specs.hwp_cpu_access.Instructions as instructions
+use Rattle.hwp_cpu_command.specs.declared.job.Job.TheVariants as kinds
+use Rattle.hwp_cpu_command.specs.Jobs as jobs
+use Rattle.hwp_cpu.proofs.commands.Beside.{given-up-rests}
+use Rattle.hwp_cpu.proofs.commands.ToldGrows.{told-longer}
+use Rattle.hwp_cpu_command.specs.hwp_cpu_access.declared.instruction.InstructionAt.{InstructionAt}
 use Rattle.std.specs.Prelude.{take}
-use Rattle.hwp_cpu_command_laws.specs.hwp_cpu_command.hwp_cpu_access.declared.instruction.Pause.{Pause}
+use Rattle.hwp_cpu_command.specs.hwp_cpu_access.declared.instruction.Pause.{Pause}
 use Rattle.hwp_cpu_row.specs.hwp_report_text.declared.Answer.{Answer}
 use Rattle.hwp_cpu.specs.Courses.{passed, HasPassed, rests}
 

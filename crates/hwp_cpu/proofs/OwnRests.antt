@@ -1,67 +1,67 @@
 -- The command's own task goes on, pauses behind a machine check, or has its answer.
-use Rattle.hwp_cpu_command_laws.specs.hwp_cpu_command.hwp_cpu_access.declared.Copying.{Copying}
-use Rattle.hwp_cpu_command_laws.specs.hwp_cpu_command.hwp_fault.declared.Request.{Request}
-use Rattle.hwp_cpu_command_laws.proofs.of_hwp_cpu_command.of_hwp_cpu_access.CopyLaws.{own-after}
+use Rattle.hwp_cpu_command.specs.hwp_cpu_access.declared.Copying.{Copying}
+use Rattle.hwp_cpu_command.specs.hwp_fault.declared.Request.{Request}
+use Rattle.hwp_cpu_command.proofs.of_hwp_cpu_access.CopyLaws.{own-after}
 use Rattle.hwp_cpu.proofs.Collecting.{access-plain, copy-kind, copy-leaves-none, left-denied, left-plain}
 use Rattle.hwp_cpu_row.specs.hwp_page.declared.At.{At}
 use Rattle.hwp_cpu_row.specs.hwp_geom.declared.VSlot.{VSlot}
-use Rattle.hwp_cpu_command_laws.proofs.of_hwp_cpu_command.JobEnds.{ends}
-use Rattle.hwp_cpu_causes.proofs.RowServed.{own-does, own-served}
-use Rattle.hwp_cpu_causes.proofs.LeftBeside.{left-paused}
-use Rattle.hwp_cpu_causes.proofs.OnTheWay.{on-the-way, runs-access}
-use Rattle.hwp_cpu_command_laws.proofs.of_hwp_cpu_command.of_hwp_cpu_access.InstructionLaws.{paused}
-use Rattle.hwp_cpu_command_laws.proofs.of_hwp_cpu_command.of_hwp_cpu_access.Resting.{rests}
+use Rattle.hwp_cpu_command.proofs.JobEnds.{ends}
+use Rattle.hwp_cpu.proofs.causes.RowServed.{own-does, own-served}
+use Rattle.hwp_cpu.proofs.causes.LeftBeside.{left-paused}
+use Rattle.hwp_cpu.proofs.causes.OnTheWay.{on-the-way, runs-access}
+use Rattle.hwp_cpu_command.proofs.of_hwp_cpu_access.InstructionLaws.{paused}
+use Rattle.hwp_cpu_command.proofs.of_hwp_cpu_access.Resting.{rests}
 use Rattle.hwp_cpu.specs.Serving.{HasCopyPaused, left_so_far, IsUnderWay, HasToldAll, IsPaused, OwnGoesOn}
 use Rattle.hwp_cpu_row.specs.declared.Local.{Local}
 use Rattle.std.proofs.Common.{Option, None, inl, inr, refl, ◌<◌, length, is_some, Some, subst, sym, true, ap, ◌≡◌, List, ◌∙◌, [], ℕ, false, map}
-use Rattle.hwp_cpu_command_laws.specs.hwp_cpu_command.hwp_cpu_access.declared.Instruction.{Instruction}
-use Rattle.hwp_cpu_command_laws.specs.hwp_cpu_command.FileHandles.{handles_after}
-use Rattle.hwp_cpu_causes.specs.Beside.{IsOwnServed, ArePriorWith, DoesSo}
-use Rattle.hwp_cpu_command_laws.specs.hwp_cpu_command.Stays.{IsHalted, Stepped}
-use Rattle.hwp_cpu_causes.proofs.HandleNumbers.{IsNumbered, numbered}
-use Rattle.hwp_cpu_causes.specs.hwp_law_served.Accounts.{failures}
+use Rattle.hwp_cpu_command.specs.hwp_cpu_access.declared.Instruction.{Instruction}
+use Rattle.hwp_cpu_command.specs.FileHandles.{handles_after}
+use Rattle.hwp_cpu.specs.Beside.{IsOwnServed, ArePriorWith, DoesSo}
+use Rattle.hwp_cpu_command.specs.Stays.{IsHalted, Stepped}
+use Rattle.hwp_cpu.proofs.causes.HandleNumbers.{IsNumbered, numbered}
+use Rattle.hwp_law_served.specs.Accounts.{failures}
 use Rattle.hwp_cpu_row.specs.hwp_report_text.declared.Answer.{Answer}
 use Rattle.hwp_cpu_row.specs.hwp_script_lines.declared.Command.{Command}
 use Rattle.hwp_cpu_row.specs.hwp_core_rule.Calls.{IsOnTurn}
-use Rattle.hwp_cpu_command_laws.proofs.CommandRuns.{runs-who}
+use Rattle.hwp_cpu.proofs.commands.CommandRuns.{runs-who}
 use Rattle.hwp_cpu_row.specs.declared.Row.{Row}
 use Rattle.hwp_cpu_row.specs.hwp_geom.declared.Layout.{Layout}
 use Rattle.hwp_cpu.specs.Processors.{at_number}
-use Rattle.hwp_cpu_command_laws.specs.hwp_cpu_command.Done.{failed_now, owed_now, marked_beyond}
+use Rattle.hwp_cpu_command.specs.Done.{failed_now, owed_now, marked_beyond}
 use Rattle.hwp_cpu_row.specs.hwp_geom.declared.Cpu.{Cpu}
 use Rattle.hwp_cpu_row.specs.hwp_geom.declared.FileNo.{FileNo}
-use Rattle.hwp_cpu_causes.specs.hwp_law_served.Handles.{answers_by, number_at}
+use Rattle.hwp_law_served.specs.Handles.{answers_by, number_at}
 use Rattle.hwp_cpu.proofs.ProcessorNotes.{no-loss, failed-end}
 use Rattle.hwp_cpu.proofs.EachKind.{on-turn}
-use Rattle.hwp_cpu_command_laws.specs.hwp_cpu_command.declared.job.Job.{Job}
-use Rattle.hwp_cpu_causes.specs.hwp_law_served.Offlinings.{left_beside, left_by, left_itself, place_of}
-use Rattle.hwp_cpu_command_laws.specs.hwp_cpu_command.hwp_cpu_access.declared.instruction.Pause.{Pause}
+use Rattle.hwp_cpu_command.specs.declared.job.Job.{Job}
+use Rattle.hwp_law_served.specs.Offlinings.{left_beside, left_by, left_itself, place_of}
+use Rattle.hwp_cpu_command.specs.hwp_cpu_access.declared.instruction.Pause.{Pause}
 use Rattle.hwp_cpu_row.specs.hwp_geom.declared.Who.{Who}
 use Rattle.hwp_cpu_row.specs.hwp_core_rule.declared.Made.{Made}
 use Rattle.std.specs.List.{cons_option}
 use Rattle.hwp_cpu.proofs.LeftCommand.{left-by-denied, left-command}
 use Rattle.hwp_cpu_row.specs.hwp_core_rule.declared.View.{View}
-use Rattle.hwp_cpu_command_laws.proofs.CommandStops.{stopped-halts}
+use Rattle.hwp_cpu.proofs.commands.CommandStops.{stopped-halts}
 use Rattle.hwp_cpu.specs.declared.course.Course.{Course}
-use Rattle.hwp_cpu_command_laws.proofs.Beside.{IsAtPause, job-at-pause, paused-unmarked, paused-unowed}
+use Rattle.hwp_cpu.proofs.commands.Beside.{IsAtPause, job-at-pause, paused-unmarked, paused-unowed}
 use Rattle.hwp_cpu_row.specs.hwp_core_rule.Hands.{hand_of, empty}
-use Rattle.hwp_cpu_command_laws.proofs.CommandDeeds.{unowed-at-end}
-use Rattle.hwp_cpu_command_laws.specs.hwp_cpu_command.Runs.{Runs}
-use Rattle.hwp_cpu_command_laws.proofs.DeniedAnswers.{unmade-denied}
+use Rattle.hwp_cpu.proofs.commands.CommandDeeds.{unowed-at-end}
+use Rattle.hwp_cpu_command.specs.Runs.{Runs}
+use Rattle.hwp_cpu.proofs.commands.DeniedAnswers.{unmade-denied}
 use Rattle.hwp_cpu_row.specs.hwp_core_rule.Known.{HasMadeNone, is_failure}
 use Rattle.std.proofs.lemmas.Bool.{both_ways}
 use Rattle.hwp_cpu_row.specs.hwp_page.declared.What.{What}
-use Rattle.hwp_cpu_command_laws.proofs.of_hwp_cpu_command.of_hwp_cpu_access.CopyLists.{IsApart, copy-lists}
-use Rattle.hwp_cpu_causes.specs.hwp_law.Pairings.{is_soft}
-use Rattle.hwp_cpu_command_laws.specs.hwp_cpu_command.hwp_cpu_access.Copyings as copyings
-use Rattle.hwp_cpu_command_laws.specs.hwp_cpu_command.hwp_cpu_access.CopyFits as copying_fits
-use Rattle.hwp_cpu_command_laws.proofs.of_hwp_cpu_command.of_hwp_cpu_access.CopyResting as copy-resting
-use Rattle.hwp_cpu_command_laws.proofs.of_hwp_cpu_command.JobLaws as jobbing
-use Rattle.hwp_cpu_command_laws.specs.hwp_cpu_command.declared.job.Job.TheVariants as kinds
+use Rattle.hwp_cpu_command.proofs.of_hwp_cpu_access.CopyLists.{IsApart, copy-lists}
+use Rattle.hwp_law_served.specs.hwp_law.Pairings.{is_soft}
+use Rattle.hwp_cpu_command.specs.hwp_cpu_access.Copyings as copyings
+use Rattle.hwp_cpu_command.specs.hwp_cpu_access.CopyFits as copying_fits
+use Rattle.hwp_cpu_command.proofs.of_hwp_cpu_access.CopyResting as copy-resting
+use Rattle.hwp_cpu_command.proofs.JobLaws as jobbing
+use Rattle.hwp_cpu_command.specs.declared.job.Job.TheVariants as kinds
 use Rattle.hwp_cpu_row.specs.hwp_report_text.declared.Answer.TheVariants as answers
-use Rattle.hwp_cpu_command_laws.specs.hwp_cpu_command.Jobs as jobs
-use Rattle.hwp_cpu_command_laws.specs.hwp_cpu_command.hwp_cpu_access.Instructions as instructions
-use Rattle.hwp_cpu_command_laws.specs.hwp_cpu_command.hwp_cpu_access.Fits as instruction_fits
+use Rattle.hwp_cpu_command.specs.Jobs as jobs
+use Rattle.hwp_cpu_command.specs.hwp_cpu_access.Instructions as instructions
+use Rattle.hwp_cpu_command.specs.hwp_cpu_access.Fits as instruction_fits
 use Rattle.hwp_cpu_row.specs.hwp_page.declared.What.TheVariants as entries
 
 no-failure : (what : What) → is_failure what ≡ true → is_soft what ≡ false

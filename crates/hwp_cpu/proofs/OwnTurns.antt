@@ -1,6 +1,6 @@
 -- A turn of a command's own task.
-use Rattle.hwp_cpu_command_laws.specs.hwp_cpu_command.hwp_cpu_access.declared.Copying.{Copying}
-use Rattle.hwp_cpu_command_laws.specs.hwp_cpu_command.Runs.{Runs}
+use Rattle.hwp_cpu_command.specs.hwp_cpu_access.declared.Copying.{Copying}
+use Rattle.hwp_cpu_command.specs.Runs.{Runs}
 use Rattle.hwp_cpu_row.specs.hwp_core_rule.declared.Made.{Made}
 use Rattle.hwp_cpu_row.specs.hwp_geom.declared.VSlot.{VSlot}
 use Rattle.std.proofs.Common.{zero, ◌++◌, ◌<◌, Some, ◌≡◌, refl, length, ◌≤◌, sym, arith, true≢false, subst, ◌≢◌, ◌==◌, None, inl, ◌&&◌, Option, List, suc, append-nil, ◌⊎◌, inr, true, ℕ, drop, Bool, false, ap, filter_map, ◌∙◌, [], nat_lt}
@@ -8,8 +8,8 @@ use Rattle.hwp_cpu_row.specs.hwp_core_rule.Lists.{EachMember}
 use Rattle.hwp_cpu.specs.Serving.{left_so_far, noted_by, GoesOn, task, marked_so_far, IsUnderWay, marked_beside, KeepsWatch, OwnGoesOn, HasToldAll}
 use Rattle.hwp_cpu.proofs.OwnRests.{copy-holds, copy-known, left-still, pause-holds, answer-known, own-on, HoldsNone, AnswerKnown, pause-known, fits-still}
 use Rattle.hwp_cpu.specs.Courses.{going_on, answer, part_of, IsGoingOn, told_since, AfterCollecting, AfterCollectingBy, AfterRest, AfterRestBy, FitsOf, FitsOwn, HasRefused, IsGoing, answer_of, has_more, rests, AfterOwnIf, AfterOwnBy, AfterOwn, passed}
-use Rattle.hwp_cpu_causes.specs.hwp_law_served.Handles.{answers_by}
-use Rattle.hwp_cpu_causes.specs.Beside.{ArePriorWith, CanCollect, IsOwnServed}
+use Rattle.hwp_law_served.specs.Handles.{answers_by}
+use Rattle.hwp_cpu.specs.Beside.{ArePriorWith, CanCollect, IsOwnServed}
 use Rattle.hwp_cpu_row.specs.Locals.{collects}
 use Rattle.std.specs.List.{cons_option}
 use Rattle.hwp_cpu_row.specs.hwp_core_rule.declared.View.{View}
@@ -19,41 +19,41 @@ use Rattle.hwp_cpu_row.specs.hwp_law_commands.Notes.{is_for_pages}
 use Rattle.hwp_cpu.specs.Dues.{DueValue, next_due}
 use Rattle.hwp_cpu.proofs.GoingOn.{Turned, ends-now, complete-off, go-on, complete-by, IsComplete}
 use Rattle.hwp_cpu.proofs.ProcessorKeeps.{way-own}
-use Rattle.hwp_cpu_command_laws.specs.hwp_cpu_command.hwp_cpu_access.declared.Instruction.{Instruction}
+use Rattle.hwp_cpu_command.specs.hwp_cpu_access.declared.Instruction.{Instruction}
 use Rattle.hwp_cpu_row.specs.declared.Row.{Row}
-use Rattle.hwp_cpu_command_laws.specs.hwp_cpu_command.Jobs.{told_of}
+use Rattle.hwp_cpu_command.specs.Jobs.{told_of}
 use Rattle.hwp_cpu.specs.declared.course.Course.{Course}
 use Rattle.hwp_cpu_row.specs.Acts.{acts, told_notes}
-use Rattle.hwp_cpu_command_laws.specs.hwp_cpu_command.Done.{HasCounted, marked_beyond}
-use Rattle.hwp_cpu_command_laws.specs.hwp_cpu_command.declared.job.Job.{Job}
+use Rattle.hwp_cpu_command.specs.Done.{HasCounted, marked_beyond}
+use Rattle.hwp_cpu_command.specs.declared.job.Job.{Job}
 use Rattle.hwp_cpu.proofs.OwnLines.{HasPause, none-told, is_access, own-notes, rests-so, goes-so, own-unnoted}
-use Rattle.hwp_cpu_causes.specs.hwp_law_served.hwp_page.declared.At.{At}
+use Rattle.hwp_law_served.specs.hwp_page.declared.At.{At}
 use Rattle.hwp_cpu_row.specs.hwp_geom.declared.Layout.{Layout}
 use Rattle.std.proofs.lemmas.List.{nil_from_length, take_all}
 use Rattle.hwp_cpu.proofs.Collecting.{IsAccess, collects-plain, plain-copies, collect-left, tells-kind}
 use Rattle.hwp_cpu.proofs.Collected.{keeps-same, by-collector, keeps-noted}
 use Rattle.hwp_cpu_row.specs.hwp_geom.declared.Who.{Who}
-use Rattle.hwp_cpu_command_laws.proofs.of_hwp_cpu_command.JobEnds.{answered-over}
-use Rattle.hwp_cpu_causes.specs.hwp_law_served.Offlinings.{left_beside, watched_at}
+use Rattle.hwp_cpu_command.proofs.JobEnds.{answered-over}
+use Rattle.hwp_law_served.specs.Offlinings.{left_beside, watched_at}
 use Rattle.hwp_cpu_row.specs.hwp_report_text.declared.Answer.{Answer}
-use Rattle.hwp_cpu_command_laws.proofs.Beside.{give-up-goes, answered-unmarked, gives-up, given-up-unanswered}
+use Rattle.hwp_cpu.proofs.commands.Beside.{give-up-goes, answered-unmarked, gives-up, given-up-unanswered}
 use Rattle.hwp_cpu_row.specs.hwp_geom.declared.Frame.{Frame}
 use Rattle.hwp_cpu.specs.Processors.{at_number}
-use Rattle.hwp_cpu_command_laws.proofs.CommandRuns.{runs-alike}
-use Rattle.hwp_cpu_command_laws.specs.hwp_cpu_command.Stays.{Stepped, HasGivenUp}
+use Rattle.hwp_cpu.proofs.commands.CommandRuns.{runs-alike}
+use Rattle.hwp_cpu_command.specs.Stays.{Stepped, HasGivenUp}
 use Rattle.hwp_cpu.proofs.BesideTurns.{at_rest, way-with}
 use Rattle.std.proofs.lemmas.Option.{slice_get_within, none-some}
 use Rattle.hwp_cpu_row.specs.declared.Local.{Local}
 use Rattle.hwp_cpu_row.specs.hwp_cpu_check.declared.EventOutcome.{EventOutcome}
-use Rattle.hwp_cpu_command_laws.specs.hwp_cpu_command.hwp_soft.declared.Soft.{Soft}
+use Rattle.hwp_cpu_command.specs.hwp_soft.declared.Soft.{Soft}
 use Rattle.std.proofs.lemmas.Bool.{eq-eqb, ltb-false, ltb-true}
 use Rattle.hwp_cpu_row.specs.hwp_geom.declared.Cpu.{Cpu}
 use Rattle.hwp_cpu_row.specs.declared.Watching.{Watching}
 use Rattle.hwp_cpu_row.specs.hwp_law_commands.Watched.{Watched}
-use Rattle.hwp_cpu_causes.specs.hwp_law_served.Accounts.{act_marking}
+use Rattle.hwp_law_served.specs.Accounts.{act_marking}
 use Rattle.hwp_cpu.specs.Courses as courses
-use Rattle.hwp_cpu_command_laws.specs.hwp_cpu_command.Jobs as jobs
-use Rattle.hwp_cpu_command_laws.specs.hwp_cpu_command.declared.job.Job.TheVariants as kinds
+use Rattle.hwp_cpu_command.specs.Jobs as jobs
+use Rattle.hwp_cpu_command.specs.declared.job.Job.TheVariants as kinds
 
 abbrev no_lines : List EventOutcome
 no_lines = []

@@ -1,7 +1,7 @@
 -- A step of the command that runs leaves what the processor keeps.
 use Rattle.hwp_cpu_row.specs.hwp_law_commands.Cows.{Cow}
 use Rattle.hwp_cpu_row.specs.hwp_geom.declared.VSlot.{VSlot}
-use Rattle.hwp_cpu_causes.proofs.BesideKeeps.{offlinings-stay}
+use Rattle.hwp_cpu.proofs.causes.BesideKeeps.{offlinings-stay}
 use Rattle.std.proofs.Common.{◌≡◌, ◌≢◌, ℕ, ◌⊎◌, inl, inr, false, List, [], Some, length, slice_get, refl, subst, sym, ap, ◌∙◌, arith, None, ◌<◌, map, Option, append-nil}
 use Rattle.std.proofs.lemmas.Option.{none-some}
 use Rattle.hwp_cpu_row.specs.hwp_geom.declared.Cpu.{Cpu}
@@ -20,43 +20,43 @@ use Rattle.hwp_cpu_row.specs.hwp_core_rule.Known.{Saw, HasMadeNone}
 use Rattle.hwp_cpu_row.specs.declared.Row.{Row}
 use Rattle.hwp_cpu_row.specs.declared.Local.{Local}
 use Rattle.hwp_cpu_row.specs.hwp_banks.Banks.{empty_banks, Banks}
-use Rattle.hwp_cpu_command_laws.specs.hwp_cpu_command.hwp_words.Stops.{is_stopped}
-use Rattle.hwp_cpu_command_laws.specs.hwp_cpu_command.declared.job.Job.{Job}
-use Rattle.hwp_cpu_command_laws.specs.hwp_cpu_command.Jobs as jobs
-use Rattle.hwp_cpu_command_laws.specs.hwp_cpu_command.Jobs.{banks_before, told_of, row}
-use Rattle.hwp_cpu_command_laws.specs.hwp_cpu_command.Runs.{Runs}
-use Rattle.hwp_cpu_command_laws.specs.hwp_cpu_command.Stays.{EndsStopped, Stepped, StopsItself, IsHalted, EndsAtOnce}
-use Rattle.hwp_cpu_command_laws.proofs.of_hwp_cpu_command.JobLaws as jobbing
-use Rattle.hwp_cpu_command_laws.proofs.of_hwp_cpu_command.JobEnds.{answered-over, ends}
-use Rattle.hwp_cpu_command_laws.proofs.CommandRuns.{before-stays, runs-on, runs-who}
-use Rattle.hwp_cpu_command_laws.proofs.HandleKeeps.{handle-stays}
-use Rattle.hwp_cpu_command_laws.proofs.CommandStops.{halted-stays, has-stopped, looks-first, no-own-stop, stops-after, still-halted}
-use Rattle.hwp_cpu_causes.specs.hwp_law_served.Handles.{answers_by}
-use Rattle.hwp_cpu_causes.specs.hwp_law_served.Served.{IsOwnStop, SawRunning}
-use Rattle.hwp_cpu_causes.proofs.of_hwp_law_served.CommandKeeps.{row-stays, saw-running-stays, made-none-later}
-use Rattle.hwp_cpu_causes.proofs.of_hwp_law_served.Handles.{numbers-stay}
+use Rattle.hwp_cpu_command.specs.hwp_words.Stops.{is_stopped}
+use Rattle.hwp_cpu_command.specs.declared.job.Job.{Job}
+use Rattle.hwp_cpu_command.specs.Jobs as jobs
+use Rattle.hwp_cpu_command.specs.Jobs.{banks_before, told_of, row}
+use Rattle.hwp_cpu_command.specs.Runs.{Runs}
+use Rattle.hwp_cpu_command.specs.Stays.{EndsStopped, Stepped, StopsItself, IsHalted, EndsAtOnce}
+use Rattle.hwp_cpu_command.proofs.JobLaws as jobbing
+use Rattle.hwp_cpu_command.proofs.JobEnds.{answered-over, ends}
+use Rattle.hwp_cpu.proofs.commands.CommandRuns.{before-stays, runs-on, runs-who}
+use Rattle.hwp_cpu.proofs.commands.HandleKeeps.{handle-stays}
+use Rattle.hwp_cpu.proofs.commands.CommandStops.{halted-stays, has-stopped, looks-first, no-own-stop, stops-after, still-halted}
+use Rattle.hwp_law_served.specs.Handles.{answers_by}
+use Rattle.hwp_law_served.specs.Served.{IsOwnStop, SawRunning}
+use Rattle.hwp_law_served.proofs.CommandKeeps.{row-stays, saw-running-stays, made-none-later}
+use Rattle.hwp_law_served.proofs.Handles.{numbers-stay}
 use Rattle.hwp_cpu.specs.Processors.{at_number}
 use Rattle.hwp_cpu.specs.Serving.{HasStoppedIt, Serves, IsUnderWay, marked_so_far, HasStopped, KeepsWatch}
 use Rattle.hwp_cpu.proofs.KnownPolicies.{counted-on}
 use Rattle.hwp_cpu.proofs.ProcessorNotes.{listed-on, noted-on, spoils-on, account-beside, account-own}
 use Rattle.hwp_cpu.proofs.Rows.{rows-stay}
 use Rattle.hwp_cpu_row.specs.hwp_law_commands.Watched.{told, due, Watched}
-use Rattle.hwp_cpu_command_laws.proofs.TaskLeaves.{soft-leaves, Left}
+use Rattle.hwp_cpu.proofs.commands.TaskLeaves.{soft-leaves, Left}
 use Rattle.hwp_cpu_row.proofs.of_hwp_core_rule.MadeEntries.{made-none}
-use Rattle.hwp_cpu_command_laws.proofs.ToldGrows.{told-longer}
+use Rattle.hwp_cpu.proofs.commands.ToldGrows.{told-longer}
 use Rattle.hwp_cpu.specs.declared.course.Course.{Course}
 use Rattle.hwp_cpu.proofs.Marks.{GrowAlike, own-alike, beside-alike}
-use Rattle.hwp_cpu_command_laws.specs.hwp_cpu_command.hwp_soft.declared.Soft.{Soft}
+use Rattle.hwp_cpu_command.specs.hwp_soft.declared.Soft.{Soft}
 use Rattle.hwp_cpu_row.specs.hwp_core_rule.declared.Setting.{Setting}
-use Rattle.hwp_cpu_causes.specs.hwp_law_served.Offlinings.{watched_at}
-use Rattle.hwp_cpu_causes.specs.Beside.{AddsBeside}
-use Rattle.hwp_cpu_command_laws.specs.hwp_cpu_command.Settings.{AreCounted}
+use Rattle.hwp_law_served.specs.Offlinings.{watched_at}
+use Rattle.hwp_cpu.specs.Beside.{AddsBeside}
+use Rattle.hwp_cpu_command.specs.Settings.{AreCounted}
 use Rattle.hwp_cpu_row.specs.hwp_core_rule.declared.Spoiled.{Spoiled}
-use Rattle.hwp_cpu_command_laws.specs.hwp_cpu_command.Done.{marked_now}
+use Rattle.hwp_cpu_command.specs.Done.{marked_now}
 use Rattle.hwp_cpu_row.specs.hwp_core_rule.parts.Policies.{settings_of}
 use Rattle.hwp_cpu.proofs.EachKind.{on-turn, can-stop}
-use Rattle.hwp_cpu_command_laws.specs.hwp_cpu_command.declared.job.Job.TheVariants as kinds
-use Rattle.hwp_cpu_command_laws.specs.hwp_cpu_command.hwp_soft.Softs as softs
+use Rattle.hwp_cpu_command.specs.declared.job.Job.TheVariants as kinds
+use Rattle.hwp_cpu_command.specs.hwp_soft.Softs as softs
 use Rattle.hwp_cpu.proofs.Collected.{keeps-longer}
 
 -- a command that has stopped the machine makes no step

@@ -15,11 +15,11 @@ use Rattle.hwp_cpu_row.specs.hwp_core_rule.declared.Step.{Step}
 use Rattle.hwp_cpu_row.specs.hwp_core_rule.declared.View.{View}
 use Rattle.hwp_cpu_row.specs.hwp_core_rule.declared.Turn.{Turn}
 use Rattle.hwp_cpu_row.specs.hwp_core_rule.Calls.{CanMake, Steps, logs}
-use Rattle.hwp_cpu_command_laws.specs.hwp_cpu_command.declared.job.Job.{Job}
-use Rattle.hwp_cpu_command_laws.specs.hwp_cpu_command.Jobs as jobs
-use Rattle.hwp_cpu_command_laws.specs.hwp_cpu_command.FileHandles.{HasChangeWithin}
-use Rattle.hwp_cpu_command_laws.specs.hwp_cpu_command.Stays.{Stepped, HasGivenUp}
-use Rattle.hwp_cpu_command_laws.proofs.CommandRuns.{runs-who, runs-on, runs-within}
+use Rattle.hwp_cpu_command.specs.declared.job.Job.{Job}
+use Rattle.hwp_cpu_command.specs.Jobs as jobs
+use Rattle.hwp_cpu_command.specs.FileHandles.{HasChangeWithin}
+use Rattle.hwp_cpu_command.specs.Stays.{Stepped, HasGivenUp}
+use Rattle.hwp_cpu.proofs.commands.CommandRuns.{runs-who, runs-on, runs-within}
 use Rattle.hwp_cpu_row.specs.declared.Row.{Row}
 use Rattle.hwp_cpu_row.specs.declared.Local.{Local}
 use Rattle.hwp_cpu.specs.declared.processor.Processor.{Processor}
@@ -30,22 +30,22 @@ use Rattle.hwp_cpu.proofs.ProcessorKeeps.{later-none}
 use Rattle.hwp_cpu.specs.Courses.{local_after, FitsOf, IsGoing, rests, row_of, AfterOwn, AfterOwnIf, FitsOwn, AfterSoft, bare_of, AfterOwnBy, answer_of, part, with_result, part_of, answer, passed}
 use Rattle.hwp_cpu.proofs.BesideEnds.{beside-on, rests-on, holds-done, way-done}
 use Rattle.hwp_cpu_row.specs.Locals.{collects}
-use Rattle.hwp_cpu_command_laws.proofs.Beside.{given-up-unanswered, given-up-stays}
+use Rattle.hwp_cpu.proofs.commands.Beside.{given-up-unanswered, given-up-stays}
 use Rattle.hwp_cpu.proofs.GoingOn.{IsEnding, go-on, Turned}
 use Rattle.hwp_cpu.proofs.OwnLines.{given-up-goes}
 use Rattle.hwp_cpu.proofs.OwnTurns.{own-turn}
 use Rattle.hwp_cpu.specs.declared.course.Course.{Course}
-use Rattle.hwp_cpu_command_laws.specs.hwp_cpu_command.hwp_soft.declared.Soft.{Soft}
+use Rattle.hwp_cpu_command.specs.hwp_soft.declared.Soft.{Soft}
 use Rattle.hwp_cpu_row.specs.hwp_law_commands.Notes.{is_for_pages}
-use Rattle.hwp_cpu_command_laws.specs.hwp_cpu_command.hwp_soft.declared.SoftAnswer.{SoftAnswer}
-use Rattle.hwp_cpu_command_laws.specs.hwp_cpu_command.Runs.{Runs}
+use Rattle.hwp_cpu_command.specs.hwp_soft.declared.SoftAnswer.{SoftAnswer}
+use Rattle.hwp_cpu_command.specs.Runs.{Runs}
 use Rattle.hwp_cpu_row.specs.hwp_core_rule.Known.{HasMadeNone}
 use Rattle.hwp_cpu_row.specs.hwp_geom.declared.Frame.{Frame}
-use Rattle.hwp_cpu_command_laws.specs.hwp_cpu_command.declared.job.Job.TheVariants as kinds
+use Rattle.hwp_cpu_command.specs.declared.job.Job.TheVariants as kinds
 use Rattle.hwp_cpu.specs.Courses as courses
-use Rattle.hwp_cpu_command_laws.specs.hwp_cpu_command.hwp_soft.Softs as softs
+use Rattle.hwp_cpu_command.specs.hwp_soft.Softs as softs
 use Rattle.hwp_cpu_row.specs.GuestLists.{line_in}
-use Rattle.hwp_cpu_causes.proofs.of_hwp_law_served.CommandKeeps.{made-none-later}
+use Rattle.hwp_law_served.proofs.CommandKeeps.{made-none-later}
 use Rattle.hwp_cpu.proofs.GuestsKept.{admitted-now, guests-answered, guests-turn}
 use Rattle.hwp_cpu.proofs.Within.{bare-denial, course-denial}
 

@@ -1,6 +1,6 @@
 -- What a processor's view lists of its commands beside entries, and its notes: over a step, when a command is answered, and when the
 -- next one begins.
-use Rattle.hwp_cpu_causes.specs.hwp_law_served.Causes.{IsBeside}
+use Rattle.hwp_law_served.specs.Causes.{IsBeside}
 use Rattle.std.proofs.Common.{◌≡◌, ◌⊎◌, inl, inr, ℕ, suc, ◌+◌, ◌≤◌, Bool, true, false, List, [], ◌∷◌, ◌++◌, Option, Some, None, drop, filter, filter_map, length, map, slice_get, append_assoc, append-nil, refl, sym, ap, ◌∙◌, subst, arith, true≢false}
 use Rattle.std.specs.List.{cons_option}
 use Rattle.std.specs.Int.{from_bool}
@@ -17,7 +17,7 @@ use Rattle.hwp_cpu_row.specs.hwp_geom.declared.Layout.{Layout}
 use Rattle.hwp_cpu_row.specs.hwp_geom.declared.VSlot.{VSlot}
 use Rattle.hwp_cpu_row.specs.hwp_script_lines.declared.Command.TheVariants as commands
 use Rattle.hwp_cpu_row.specs.hwp_law_commands.Cows.{acting}
-use Rattle.hwp_cpu_causes.specs.hwp_law_served.Handles.{answers_by}
+use Rattle.hwp_law_served.specs.Handles.{answers_by}
 use Rattle.hwp_cpu_row.specs.hwp_geom.declared.Page.{Page}
 use Rattle.hwp_cpu_row.specs.hwp_geom.declared.Who.{Who}
 use Rattle.hwp_cpu_row.specs.hwp_geom.Pairs.{Pairs}
@@ -56,35 +56,35 @@ use Rattle.hwp_cpu_row.specs.Acts.{Act, Offlined, Told, acts}
 use Rattle.hwp_cpu_row.specs.hwp_cpu_check.declared.EventOutcome.{EventOutcome}
 use Rattle.hwp_cpu_row.specs.hwp_cpu_check.Done.{marked_in}
 use Rattle.hwp_cpu_row.specs.hwp_cpu_check.Told.{frame_of}
-use Rattle.hwp_cpu_command_laws.specs.hwp_cpu_command.hwp_cpu_access.Done.{FailuresGrow}
-use Rattle.hwp_cpu_command_laws.specs.hwp_cpu_command.declared.Job.{Job}
-use Rattle.hwp_cpu_command_laws.specs.hwp_cpu_command.declared.job.Job.TheVariants as kinds
-use Rattle.hwp_cpu_command_laws.specs.hwp_cpu_command.hwp_soft.declared.Soft.{Soft}
-use Rattle.hwp_cpu_command_laws.specs.hwp_cpu_command.hwp_soft.Softs as softs
-use Rattle.hwp_cpu_command_laws.specs.hwp_cpu_command.Done.{HasCounted, HasDone, can_fail, failed_now, marked_beyond, marked_now}
-use Rattle.hwp_cpu_command_laws.specs.hwp_cpu_command.Settings.{policies_now}
-use Rattle.hwp_cpu_command_laws.specs.hwp_cpu_command.Jobs as jobs
-use Rattle.hwp_cpu_command_laws.specs.hwp_cpu_command.Runs.{Runs}
-use Rattle.hwp_cpu_command_laws.specs.hwp_cpu_command.Stays.{HasSpoiled, IsAtStop, Stepped}
-use Rattle.hwp_cpu_command_laws.proofs.of_hwp_cpu_command.JobEnds.{answered-over, paid-at-end}
-use Rattle.hwp_cpu_command_laws.proofs.CommandDeeds.{done, failures-at-end, grown, none-listed, unfailed-at-start, unmarked-at-start, unowed-at-start, unset-policies-at-start}
-use Rattle.hwp_cpu_command_laws.proofs.CommandRuns.{can-fail-stays, runs-who}
-use Rattle.hwp_cpu_command_laws.proofs.Beside.{marked-parts}
-use Rattle.hwp_cpu_command_laws.proofs.CommandStops.{has-spoiled, spoils-after, untold-at-start}
-use Rattle.hwp_cpu_command_laws.proofs.TaskLeaves.{soft-leaves}
+use Rattle.hwp_cpu_command.specs.hwp_cpu_access.Done.{FailuresGrow}
+use Rattle.hwp_cpu_command.specs.declared.Job.{Job}
+use Rattle.hwp_cpu_command.specs.declared.job.Job.TheVariants as kinds
+use Rattle.hwp_cpu_command.specs.hwp_soft.declared.Soft.{Soft}
+use Rattle.hwp_cpu_command.specs.hwp_soft.Softs as softs
+use Rattle.hwp_cpu_command.specs.Done.{HasCounted, HasDone, can_fail, failed_now, marked_beyond, marked_now}
+use Rattle.hwp_cpu_command.specs.Settings.{policies_now}
+use Rattle.hwp_cpu_command.specs.Jobs as jobs
+use Rattle.hwp_cpu_command.specs.Runs.{Runs}
+use Rattle.hwp_cpu_command.specs.Stays.{HasSpoiled, IsAtStop, Stepped}
+use Rattle.hwp_cpu_command.proofs.JobEnds.{answered-over, paid-at-end}
+use Rattle.hwp_cpu.proofs.commands.CommandDeeds.{done, failures-at-end, grown, none-listed, unfailed-at-start, unmarked-at-start, unowed-at-start, unset-policies-at-start}
+use Rattle.hwp_cpu.proofs.commands.CommandRuns.{can-fail-stays, runs-who}
+use Rattle.hwp_cpu.proofs.commands.Beside.{marked-parts}
+use Rattle.hwp_cpu.proofs.commands.CommandStops.{has-spoiled, spoils-after, untold-at-start}
+use Rattle.hwp_cpu.proofs.commands.TaskLeaves.{soft-leaves}
 use Rattle.hwp_cpu.specs.declared.course.Course.{Course}
 use Rattle.hwp_cpu.specs.Courses.{begin, part_of}
-use Rattle.hwp_cpu_causes.specs.Beside.{AddsBeside, ArePriorWith}
-use Rattle.hwp_cpu_causes.specs.hwp_law.Pairings.{is_soft}
-use Rattle.hwp_cpu_causes.specs.hwp_law_served.Accounts.{IsHow, IsNote, act_marking, failures, is_same, marking_by, markings, markings_in, own_marking}
-use Rattle.hwp_cpu_causes.specs.hwp_law_served.Owed.{OwesOwn, loss_of, losses_by}
-use Rattle.hwp_cpu_causes.specs.hwp_law_served.Rows.{Note, act_note, note_by, note_of, notes_from, own_note, row_notes, told_note}
-use Rattle.hwp_cpu_causes.specs.hwp_law_served.Served.{IsOneOf, IsOwnSpoil, spoiling}
-use Rattle.hwp_cpu_causes.proofs.of_hwp_law_served.AccountKeeps.{marks-own, settings-own}
-use Rattle.hwp_cpu_causes.proofs.of_hwp_law_served.PoisonMarks.{same-who}
-use Rattle.hwp_cpu_causes.proofs.of_hwp_law_served.Picked.{picked-has}
-use Rattle.hwp_cpu_causes.proofs.of_hwp_law_served.losses.LossesOwed.{owes-own}
-use Rattle.hwp_cpu_causes.proofs.of_hwp_law_served.marks.Marked.{same-self}
+use Rattle.hwp_cpu.specs.Beside.{AddsBeside, ArePriorWith}
+use Rattle.hwp_law_served.specs.hwp_law.Pairings.{is_soft}
+use Rattle.hwp_law_served.specs.Accounts.{IsHow, IsNote, act_marking, failures, is_same, marking_by, markings, markings_in, own_marking}
+use Rattle.hwp_law_served.specs.Owed.{OwesOwn, loss_of, losses_by}
+use Rattle.hwp_law_served.specs.Rows.{Note, act_note, note_by, note_of, notes_from, own_note, row_notes, told_note}
+use Rattle.hwp_law_served.specs.Served.{IsOneOf, IsOwnSpoil, spoiling}
+use Rattle.hwp_law_served.proofs.AccountKeeps.{marks-own, settings-own}
+use Rattle.hwp_law_served.proofs.PoisonMarks.{same-who}
+use Rattle.hwp_law_served.proofs.Picked.{picked-has}
+use Rattle.hwp_law_served.proofs.losses.LossesOwed.{owes-own}
+use Rattle.hwp_law_served.proofs.marks.Marked.{same-self}
 use Rattle.hwp_cpu.specs.Processors.{at_number, with_guest}
 use Rattle.hwp_cpu.specs.Serving.{AreNoted, HasAccount, IsListed, marked_so_far}
 use Rattle.hwp_cpu.proofs.Marks.{GrowAlike, beside-alike, regrown}

@@ -3,7 +3,7 @@ use Rattle.hwp_cpu_row.specs.hwp_script_read.Valid.{IsCommandOf}
 use Rattle.hwp_cpu_row.specs.hwp_geom.declared.VSlot.{VSlot}
 use Rattle.hwp_cpu_row.specs.CowLists.{KnowsCows, acting_in, copied_in, first_cows}
 use Rattle.hwp_cpu_row.proofs.CowListLaws.{acting-known, copied-known, first-are, first-known}
-use Rattle.hwp_cpu_command_laws.specs.hwp_cpu_command.Runs.{CanFork}
+use Rattle.hwp_cpu_command.specs.Runs.{CanFork}
 use Rattle.hwp_cpu_row.specs.hwp_cpu_check.hwp_guest.declared.Admit.{Admit}
 use Rattle.hwp_cpu_row.specs.hwp_report_text.declared.Answer.{Answer}
 use Rattle.hwp_cpu.proofs.ActingFits.{at-least, fork-acted}
@@ -18,19 +18,19 @@ use Rattle.hwp_cpu_row.specs.hwp_core_rule.declared.Part.{Part}
 use Rattle.hwp_cpu_row.specs.hwp_core_rule.declared.View.{View}
 use Rattle.hwp_cpu_row.specs.hwp_core_rule.Opening.{opening_view}
 use Rattle.hwp_cpu_row.specs.hwp_core_rule.Calls.{IsOnTurn}
-use Rattle.hwp_cpu_command_laws.specs.hwp_cpu_command.Jobs.{banks_before, left_in}
-use Rattle.hwp_cpu_command_laws.specs.hwp_cpu_command.Settings.{policies_in}
-use Rattle.hwp_cpu_command_laws.specs.hwp_cpu_command.Stays.{IsAtStop}
-use Rattle.hwp_cpu_command_laws.proofs.CommandRuns.{before-begins, begins-fits, begins-runs}
-use Rattle.hwp_cpu_command_laws.proofs.CommandStops.{begins-stop, untold-at-start}
+use Rattle.hwp_cpu_command.specs.Jobs.{banks_before, left_in}
+use Rattle.hwp_cpu_command.specs.Settings.{policies_in}
+use Rattle.hwp_cpu_command.specs.Stays.{IsAtStop}
+use Rattle.hwp_cpu.proofs.commands.CommandRuns.{before-begins, begins-fits, begins-runs}
+use Rattle.hwp_cpu.proofs.commands.CommandStops.{begins-stop, untold-at-start}
 use Rattle.hwp_cpu_row.specs.hwp_banks.Banks.{Banks, empty_banks}
 use Rattle.hwp_cpu_row.specs.declared.Local.{Local}
 use Rattle.hwp_cpu_row.specs.Locals.{IsWatching, IsFirst, collects, HasRoom}
 use Rattle.hwp_cpu_row.specs.hwp_law_commands.Settings.{settings}
-use Rattle.hwp_cpu_causes.specs.hwp_law_served.Handles.{answers_by}
-use Rattle.hwp_cpu_causes.specs.hwp_law_served.Served.{AreRowsActed}
-use Rattle.hwp_cpu_causes.proofs.of_hwp_law_served.Handles.{numbers-begin}
-use Rattle.hwp_cpu_causes.proofs.of_hwp_law_served.lines.ScrubBank.{empty-free}
+use Rattle.hwp_law_served.specs.Handles.{answers_by}
+use Rattle.hwp_law_served.specs.Served.{AreRowsActed}
+use Rattle.hwp_law_served.proofs.Handles.{numbers-begin}
+use Rattle.hwp_law_served.proofs.lines.ScrubBank.{empty-free}
 use Rattle.hwp_cpu.specs.Processors.{AreCommands, BeginsAt, at_number, left_of}
 use Rattle.hwp_cpu.specs.Serving.{FitsAt, IsActedOn, IsDone, IsListed, Remembers, Serves, AreNumbered, GoesOn, IsUnderWay}
 use Rattle.hwp_cpu.proofs.KnownHandles.{handle-known, numbers-first}
@@ -43,13 +43,13 @@ use Rattle.hwp_cpu.specs.Courses.{local_left, BeginsCourse}
 use Rattle.std.specs.List.{list_any}
 use Rattle.hwp_cpu_row.specs.declared.Watching.{Watching}
 use Rattle.hwp_cpu_row.specs.hwp_law_commands.Watched.{Watched}
-use Rattle.hwp_cpu_causes.specs.hwp_law_served.Offlinings.{watched_at}
+use Rattle.hwp_law_served.specs.Offlinings.{watched_at}
 use Rattle.hwp_cpu.proofs.CourseBegins.{course-begins}
 use Rattle.std.specs.Prelude.{IsSome}
 use Rattle.hwp_cpu_row.specs.hwp_law_commands.Commands.{is_watch}
-use Rattle.hwp_cpu_command_laws.specs.hwp_cpu_command.hwp_scrub.Visits.{AreBanks}
+use Rattle.hwp_cpu_command.specs.hwp_scrub.Visits.{AreBanks}
 use Rattle.hwp_cpu.specs.declared.course.Course.{Course}
-use Rattle.hwp_cpu_command_laws.specs.hwp_cpu_command.Jobs as jobs
+use Rattle.hwp_cpu_command.specs.Jobs as jobs
 use Rattle.hwp_cpu_row.specs.GuestLists.{admission_in}
 
 module _ (layout : Layout) (cpu : Cpu) (list : List Command) (are : AreCommands layout cpu list) (at-first : Local) (is_first : IsFirst layout (list_any is_watch list) at-first) where

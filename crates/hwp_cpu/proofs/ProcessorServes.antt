@@ -18,8 +18,8 @@ use Rattle.hwp_cpu_row.proofs.of_hwp_core_rule.NotLater.{one-view}
 use Rattle.hwp_cpu_row.specs.hwp_core_rule.Boards.{AreSeated, view_of}
 use Rattle.hwp_cpu_row.specs.hwp_core_rule.Hands.{Hand}
 use Rattle.hwp_cpu_row.specs.hwp_core_rule.Known.{HasMadeNone}
-use Rattle.hwp_cpu_causes.specs.hwp_law_served.Served.{HasActed, IsBegun}
-use Rattle.hwp_cpu_causes.proofs.of_hwp_law_served.RunEnds.{of-deeds}
+use Rattle.hwp_law_served.specs.Served.{HasActed, IsBegun}
+use Rattle.hwp_law_served.proofs.RunEnds.{of-deeds}
 use Rattle.hwp_cpu.specs.Processors.{at_number}
 use Rattle.hwp_cpu.specs.Serving.{IsDone}
 

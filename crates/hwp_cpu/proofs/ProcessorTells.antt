@@ -7,12 +7,12 @@ use Rattle.hwp_cpu_row.specs.hwp_geom.declared.Layout.{Layout}
 use Rattle.hwp_cpu_row.specs.hwp_core_rule.declared.View.{View}
 use Rattle.hwp_cpu_row.specs.hwp_core_rule.Classes.{TellsClass}
 use Rattle.hwp_cpu_row.specs.hwp_core_rule.Ranks.{HasFrame, HasPage}
-use Rattle.hwp_cpu_command_laws.proofs.of_hwp_cpu_command.of_hwp_cpu_control.EmptyHands.{no-frame, no-page}
+use Rattle.hwp_cpu_command.proofs.of_hwp_cpu_control.EmptyHands.{no-frame, no-page}
 use Rattle.hwp_cpu.specs.declared.processor.Processor.{Processor}
 use Rattle.hwp_cpu.specs.Processors.{claims, claims_of, class, class_of, plan, plan_of}
 use Rattle.hwp_cpu.specs.Serving.{Fits, FitsAt, task}
 use Rattle.hwp_cpu.specs.declared.course.Course.{Course}
-use Rattle.hwp_cpu_causes.specs.hwp_law_served.hwp_soft.declared.soft.SoftAt.TheVariants as at
+use Rattle.hwp_law_served.specs.hwp_soft.declared.soft.SoftAt.TheVariants as at
 
 pub tells : TellsClass task
 tells = record { frame = frame; page = page; claim = claim }

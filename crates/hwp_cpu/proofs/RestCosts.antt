@@ -13,45 +13,45 @@ use Rattle.hwp_cpu_row.specs.hwp_core_rule.Words.{Words}
 use Rattle.hwp_cpu_row.specs.hwp_core_rule.declared.Turn.{Turn}
 use Rattle.hwp_cpu_row.specs.hwp_core_rule.Lasting.{LeavesPoison}
 use Rattle.hwp_cpu_row.specs.hwp_core_rule.Ranks.{failure_weight, free_room, words_at}
-use Rattle.hwp_cpu_command_laws.specs.hwp_cpu_command.declared.job.Job.{Job}
-use Rattle.hwp_cpu_command_laws.specs.hwp_cpu_command.declared.job.Job.TheVariants as kinds
-use Rattle.hwp_cpu_command_laws.specs.hwp_cpu_command.Jobs as jobs
-use Rattle.hwp_cpu_command_laws.proofs.of_hwp_cpu_command.JobEnds.{answered-over}
-use Rattle.hwp_cpu_command_laws.proofs.Beside.{answered-resumes, at-pause}
-use Rattle.hwp_cpu_command_laws.specs.hwp_cpu_command.hwp_cpu_access.declared.Instruction.{Instruction}
-use Rattle.hwp_cpu_command_laws.specs.hwp_cpu_command.hwp_cpu_access.declared.instruction.InstructionAt.{InstructionAt}
-use Rattle.hwp_cpu_command_laws.specs.hwp_cpu_command.hwp_cpu_access.declared.instruction.InstructionAt.TheVariants as instruction_at
-use Rattle.hwp_cpu_command_laws.specs.hwp_cpu_command.hwp_cpu_access.declared.instruction.Pause.{Pause}
-use Rattle.hwp_cpu_command_laws.specs.hwp_cpu_command.hwp_cpu_access.declared.instruction.Pause.TheVariants as pauses
-use Rattle.hwp_cpu_command_laws.specs.hwp_cpu_command.hwp_cpu_access.Costs as instruction_costs
-use Rattle.hwp_cpu_command_laws.specs.hwp_cpu_command.hwp_cpu_access.Costs.{anew_after_wait}
-use Rattle.hwp_cpu_command_laws.specs.hwp_cpu_command.hwp_cpu_access.Instructions as instructions
-use Rattle.hwp_cpu_command_laws.proofs.of_hwp_cpu_command.of_hwp_cpu_access.InstructionCosts.{resumed-cost}
-use Rattle.hwp_cpu_command_laws.specs.hwp_cpu_command.hwp_cpu_access.declared.Copying.{Copying}
-use Rattle.hwp_cpu_command_laws.specs.hwp_cpu_command.hwp_cpu_access.declared.copying.CopyingAt.{CopyingAt}
-use Rattle.hwp_cpu_command_laws.specs.hwp_cpu_command.hwp_cpu_access.declared.copying.CopyingAt.TheVariants as copying_at
-use Rattle.hwp_cpu_command_laws.specs.hwp_cpu_command.hwp_cpu_access.Copyings as copyings
-use Rattle.hwp_cpu_command_laws.specs.hwp_cpu_command.hwp_cpu_access.CopyCosts as copying_costs
-use Rattle.hwp_cpu_command_laws.specs.hwp_cpu_command.hwp_cpu_access.CopyFits as copying_fits
-use Rattle.hwp_cpu_command_laws.proofs.of_hwp_cpu_command.of_hwp_cpu_access.InstructionRank.{instruction-lasting}
-use Rattle.hwp_cpu_command_laws.proofs.of_hwp_cpu_command.of_hwp_cpu_access.CopyRank.{copy-lasting}
-use Rattle.hwp_cpu_command_laws.proofs.of_hwp_cpu_command.of_hwp_scrub.RaiseRank.{raise-lasting}
-use Rattle.hwp_cpu_command_laws.proofs.of_hwp_cpu_command.of_hwp_scrub.ScrubRank.{scrub-lasting}
-use Rattle.hwp_cpu_command_laws.specs.hwp_cpu_command.hwp_scrub.RaiseCosts as raise_costs
-use Rattle.hwp_cpu_command_laws.specs.hwp_cpu_command.hwp_scrub.Raises as raises
-use Rattle.hwp_cpu_command_laws.specs.hwp_cpu_command.hwp_scrub.declared.raise.RaiseAt.{RaiseAt}
-use Rattle.hwp_cpu_command_laws.specs.hwp_cpu_command.hwp_scrub.declared.raise.RaiseAt.TheVariants as raise_at
-use Rattle.hwp_cpu_command_laws.specs.hwp_cpu_command.hwp_scrub.Costs as scrub_costs
-use Rattle.hwp_cpu_command_laws.specs.hwp_cpu_command.hwp_scrub.Scrubs as scrubs
-use Rattle.hwp_cpu_command_laws.specs.hwp_cpu_command.hwp_scrub.declared.scrub.ScrubAt.{ScrubAt}
-use Rattle.hwp_cpu_command_laws.specs.hwp_cpu_command.hwp_scrub.declared.scrub.ScrubAt.TheVariants as scrub_at
-use Rattle.hwp_cpu_command_laws.specs.hwp_cpu_command.hwp_soft.declared.Soft.{Soft}
-use Rattle.hwp_cpu_command_laws.specs.hwp_cpu_command.hwp_soft.Softs as softs
-use Rattle.hwp_cpu_command_laws.proofs.of_hwp_cpu_command.of_hwp_soft.SoftRank.{soft-small}
+use Rattle.hwp_cpu_command.specs.declared.job.Job.{Job}
+use Rattle.hwp_cpu_command.specs.declared.job.Job.TheVariants as kinds
+use Rattle.hwp_cpu_command.specs.Jobs as jobs
+use Rattle.hwp_cpu_command.proofs.JobEnds.{answered-over}
+use Rattle.hwp_cpu.proofs.commands.Beside.{answered-resumes, at-pause}
+use Rattle.hwp_cpu_command.specs.hwp_cpu_access.declared.Instruction.{Instruction}
+use Rattle.hwp_cpu_command.specs.hwp_cpu_access.declared.instruction.InstructionAt.{InstructionAt}
+use Rattle.hwp_cpu_command.specs.hwp_cpu_access.declared.instruction.InstructionAt.TheVariants as instruction_at
+use Rattle.hwp_cpu_command.specs.hwp_cpu_access.declared.instruction.Pause.{Pause}
+use Rattle.hwp_cpu_command.specs.hwp_cpu_access.declared.instruction.Pause.TheVariants as pauses
+use Rattle.hwp_cpu_command.specs.hwp_cpu_access.Costs as instruction_costs
+use Rattle.hwp_cpu_command.specs.hwp_cpu_access.Costs.{anew_after_wait}
+use Rattle.hwp_cpu_command.specs.hwp_cpu_access.Instructions as instructions
+use Rattle.hwp_cpu_command.proofs.of_hwp_cpu_access.InstructionCosts.{resumed-cost}
+use Rattle.hwp_cpu_command.specs.hwp_cpu_access.declared.Copying.{Copying}
+use Rattle.hwp_cpu_command.specs.hwp_cpu_access.declared.copying.CopyingAt.{CopyingAt}
+use Rattle.hwp_cpu_command.specs.hwp_cpu_access.declared.copying.CopyingAt.TheVariants as copying_at
+use Rattle.hwp_cpu_command.specs.hwp_cpu_access.Copyings as copyings
+use Rattle.hwp_cpu_command.specs.hwp_cpu_access.CopyCosts as copying_costs
+use Rattle.hwp_cpu_command.specs.hwp_cpu_access.CopyFits as copying_fits
+use Rattle.hwp_cpu_command.proofs.of_hwp_cpu_access.InstructionRank.{instruction-lasting}
+use Rattle.hwp_cpu_command.proofs.of_hwp_cpu_access.CopyRank.{copy-lasting}
+use Rattle.hwp_cpu_command.proofs.of_hwp_scrub.RaiseRank.{raise-lasting}
+use Rattle.hwp_cpu_command.proofs.of_hwp_scrub.ScrubRank.{scrub-lasting}
+use Rattle.hwp_cpu_command.specs.hwp_scrub.RaiseCosts as raise_costs
+use Rattle.hwp_cpu_command.specs.hwp_scrub.Raises as raises
+use Rattle.hwp_cpu_command.specs.hwp_scrub.declared.raise.RaiseAt.{RaiseAt}
+use Rattle.hwp_cpu_command.specs.hwp_scrub.declared.raise.RaiseAt.TheVariants as raise_at
+use Rattle.hwp_cpu_command.specs.hwp_scrub.Costs as scrub_costs
+use Rattle.hwp_cpu_command.specs.hwp_scrub.Scrubs as scrubs
+use Rattle.hwp_cpu_command.specs.hwp_scrub.declared.scrub.ScrubAt.{ScrubAt}
+use Rattle.hwp_cpu_command.specs.hwp_scrub.declared.scrub.ScrubAt.TheVariants as scrub_at
+use Rattle.hwp_cpu_command.specs.hwp_soft.declared.Soft.{Soft}
+use Rattle.hwp_cpu_command.specs.hwp_soft.Softs as softs
+use Rattle.hwp_cpu_command.proofs.of_hwp_soft.SoftRank.{soft-small}
 use Rattle.hwp_cpu.specs.declared.course.Course.{Course}
 use Rattle.hwp_cpu.specs.Dues.{next_due}
 use Rattle.hwp_cpu.specs.Courses.{RestsNow, behind_cost, cost, cost_behind, flat, gives_up, gives_up_access, gives_up_copy, going_on, own_cost, rests, soft_weight}
-use Rattle.hwp_cpu_command_laws.proofs.of_hwp_cpu_command.of_hwp_cpu_access.CopyResting.{at-pause as copy-at-pause}
+use Rattle.hwp_cpu_command.proofs.of_hwp_cpu_access.CopyResting.{at-pause as copy-at-pause}
 use Rattle.hwp_cpu.proofs.CopyRests.{copy-behind, copy-gives-over}
 use Rattle.hwp_cpu.proofs.RestLaws.{some-of}
 use Rattle.hwp_cpu.proofs.ToldSince.{most}

@@ -10,39 +10,39 @@ use Rattle.hwp_cpu_row.specs.hwp_core_rule.Calls.{IsOnTurn}
 use Rattle.hwp_cpu_row.specs.hwp_core_rule.Hands.{empty, hand_of}
 use Rattle.hwp_cpu_row.specs.hwp_core_rule.Known.{deeds}
 use Rattle.hwp_cpu_row.specs.Locals.{collects}
-use Rattle.hwp_cpu_command_laws.specs.hwp_cpu_command.declared.Job.{Job}
-use Rattle.hwp_cpu_command_laws.specs.hwp_cpu_command.Done.{failed_now}
-use Rattle.hwp_cpu_command_laws.proofs.of_hwp_cpu_command.JobEnds.{answered-over, ends, instruction-ended, mapped, paid-at-end, raise-ended, scrub-ended}
-use Rattle.hwp_cpu_command_laws.proofs.Beside.{answered-resumes, at-pause}
-use Rattle.hwp_cpu_command_laws.specs.hwp_cpu_command.hwp_cpu_access.declared.Instruction.{Instruction}
-use Rattle.hwp_cpu_command_laws.specs.hwp_cpu_command.hwp_cpu_access.declared.instruction.InstructionAt.{InstructionAt}
-use Rattle.hwp_cpu_command_laws.specs.hwp_cpu_command.hwp_cpu_access.declared.instruction.Pause.{Pause}
-use Rattle.hwp_cpu_command_laws.proofs.of_hwp_cpu_command.of_hwp_cpu_access.Resting.{resumes, rests as pauses-rest}
-use Rattle.hwp_cpu_command_laws.specs.hwp_cpu_command.hwp_cpu_access.declared.Copying.{Copying}
-use Rattle.hwp_cpu_command_laws.specs.hwp_cpu_command.hwp_cpu_access.declared.copying.CopyingAt.{CopyingAt}
-use Rattle.hwp_cpu_command_laws.proofs.of_hwp_cpu_command.of_hwp_cpu_access.InstructionLaws.{paused}
-use Rattle.hwp_cpu_command_laws.specs.hwp_cpu_command.hwp_scrub.declared.Scrub.{Scrub}
-use Rattle.hwp_cpu_command_laws.specs.hwp_cpu_command.hwp_scrub.declared.ScrubAnswer.{ScrubAnswer}
+use Rattle.hwp_cpu_command.specs.declared.Job.{Job}
+use Rattle.hwp_cpu_command.specs.Done.{failed_now}
+use Rattle.hwp_cpu_command.proofs.JobEnds.{answered-over, ends, instruction-ended, mapped, paid-at-end, raise-ended, scrub-ended}
+use Rattle.hwp_cpu.proofs.commands.Beside.{answered-resumes, at-pause}
+use Rattle.hwp_cpu_command.specs.hwp_cpu_access.declared.Instruction.{Instruction}
+use Rattle.hwp_cpu_command.specs.hwp_cpu_access.declared.instruction.InstructionAt.{InstructionAt}
+use Rattle.hwp_cpu_command.specs.hwp_cpu_access.declared.instruction.Pause.{Pause}
+use Rattle.hwp_cpu_command.proofs.of_hwp_cpu_access.Resting.{resumes, rests as pauses-rest}
+use Rattle.hwp_cpu_command.specs.hwp_cpu_access.declared.Copying.{Copying}
+use Rattle.hwp_cpu_command.specs.hwp_cpu_access.declared.copying.CopyingAt.{CopyingAt}
+use Rattle.hwp_cpu_command.proofs.of_hwp_cpu_access.InstructionLaws.{paused}
+use Rattle.hwp_cpu_command.specs.hwp_scrub.declared.Scrub.{Scrub}
+use Rattle.hwp_cpu_command.specs.hwp_scrub.declared.ScrubAnswer.{ScrubAnswer}
 use Rattle.hwp_cpu.specs.declared.course.Course.{Course}
 use Rattle.hwp_cpu.specs.Courses.{FitsOwn, HasPassed, RestsNow, gives_up, rests}
-use Rattle.hwp_cpu_command_laws.proofs.of_hwp_cpu_command.of_hwp_cpu_access.CopyResting.{at-pause as copy-at-pause}
+use Rattle.hwp_cpu_command.proofs.of_hwp_cpu_access.CopyResting.{at-pause as copy-at-pause}
 use Rattle.hwp_cpu.proofs.CopyRests.{copy-behind}
 use Rattle.hwp_cpu_row.specs.hwp_geom.declared.Who.{Who}
-use Rattle.hwp_cpu_command_laws.specs.hwp_cpu_command.declared.job.Job.TheVariants as kinds
-use Rattle.hwp_cpu_command_laws.specs.hwp_cpu_command.Jobs as jobs
-use Rattle.hwp_cpu_command_laws.proofs.of_hwp_cpu_command.JobLaws as jobbing
-use Rattle.hwp_cpu_command_laws.specs.hwp_cpu_command.hwp_cpu_access.Fits as instruction_fits
-use Rattle.hwp_cpu_command_laws.specs.hwp_cpu_command.hwp_cpu_access.Instructions as instructions
-use Rattle.hwp_cpu_command_laws.specs.hwp_cpu_command.hwp_cpu_access.declared.copying.CopyingAt.TheVariants as copying_at
-use Rattle.hwp_cpu_command_laws.specs.hwp_cpu_command.hwp_cpu_access.Copyings as copyings
-use Rattle.hwp_cpu_command_laws.specs.hwp_cpu_command.hwp_cpu_access.CopyFits as copying_fits
-use Rattle.hwp_cpu_command_laws.proofs.of_hwp_cpu_command.of_hwp_cpu_access.CopyEnds as copy-ends
-use Rattle.hwp_cpu_command_laws.proofs.of_hwp_cpu_command.of_hwp_cpu_access.CopyResting as copy-resting
-use Rattle.hwp_cpu_command_laws.specs.hwp_cpu_command.hwp_scrub.Raises as raises
-use Rattle.hwp_cpu_command_laws.specs.hwp_cpu_command.hwp_scrub.declared.ScrubAnswer.TheVariants as scrub_answers
-use Rattle.hwp_cpu_command_laws.specs.hwp_cpu_command.hwp_scrub.Fits as scrub_fits
-use Rattle.hwp_cpu_command_laws.specs.hwp_cpu_command.hwp_scrub.Scrubs as scrubs
-use Rattle.hwp_cpu_command_laws.specs.hwp_cpu_command.hwp_soft.Softs as softs
+use Rattle.hwp_cpu_command.specs.declared.job.Job.TheVariants as kinds
+use Rattle.hwp_cpu_command.specs.Jobs as jobs
+use Rattle.hwp_cpu_command.proofs.JobLaws as jobbing
+use Rattle.hwp_cpu_command.specs.hwp_cpu_access.Fits as instruction_fits
+use Rattle.hwp_cpu_command.specs.hwp_cpu_access.Instructions as instructions
+use Rattle.hwp_cpu_command.specs.hwp_cpu_access.declared.copying.CopyingAt.TheVariants as copying_at
+use Rattle.hwp_cpu_command.specs.hwp_cpu_access.Copyings as copyings
+use Rattle.hwp_cpu_command.specs.hwp_cpu_access.CopyFits as copying_fits
+use Rattle.hwp_cpu_command.proofs.of_hwp_cpu_access.CopyEnds as copy-ends
+use Rattle.hwp_cpu_command.proofs.of_hwp_cpu_access.CopyResting as copy-resting
+use Rattle.hwp_cpu_command.specs.hwp_scrub.Raises as raises
+use Rattle.hwp_cpu_command.specs.hwp_scrub.declared.ScrubAnswer.TheVariants as scrub_answers
+use Rattle.hwp_cpu_command.specs.hwp_scrub.Fits as scrub_fits
+use Rattle.hwp_cpu_command.specs.hwp_scrub.Scrubs as scrubs
+use Rattle.hwp_cpu_command.specs.hwp_soft.Softs as softs
 
 -- a part that fits is that of the turn
 pub on-turn : (base : List Made) (layout : Layout) (view : View) (j : Job) → jobs.FitsFrom base layout view j → IsOnTurn view (jobs.who j)

@@ -11,7 +11,7 @@ use Rattle.hwp_cpu_row.specs.hwp_geom.Pairs.{Pairs}
 use Rattle.hwp_cpu_row.specs.hwp_claim.declared.Found.{Found}
 use Rattle.hwp_cpu_row.specs.hwp_cpu_check.declared.EventOutcome.{EventOutcome}
 use Rattle.hwp_cpu_row.specs.hwp_cpu_check.Told.{frame_of}
-use Rattle.hwp_cpu_causes.specs.hwp_law.Records.{is_poisoning}
+use Rattle.hwp_law_served.specs.hwp_law.Records.{is_poisoning}
 use Rattle.hwp_cpu_row.specs.hwp_report_text.declared.MarkLine.{MarkLine}
 use Rattle.hwp_cpu_row.specs.hwp_core_rule.declared.Mark.{Mark}
 use Rattle.hwp_cpu_row.specs.hwp_core_rule.declared.MarkKind.{MarkKind}
@@ -22,22 +22,22 @@ use Rattle.hwp_cpu_row.specs.hwp_core_rule.parts.Marks.{revivals_by}
 use Rattle.hwp_cpu_row.specs.declared.FrameChange.{FrameChange}
 use Rattle.hwp_cpu_row.specs.declared.FrameChange.TheVariants as owns
 use Rattle.hwp_cpu_row.specs.declared.Row.{Row}
-use Rattle.hwp_cpu_causes.specs.hwp_law_served.Accounts.{IsLineOf, IsNote}
-use Rattle.hwp_cpu_causes.specs.hwp_law_served.Rows.{Note, note_by, note_of, notes_from, own_note, row_notes, told_note, act_note}
-use Rattle.hwp_cpu_command_laws.specs.hwp_cpu_command.hwp_soft.Unpoisons.{HasRevivalLeft}
+use Rattle.hwp_law_served.specs.Accounts.{IsLineOf, IsNote}
+use Rattle.hwp_law_served.specs.Rows.{Note, note_by, note_of, notes_from, own_note, row_notes, told_note, act_note}
+use Rattle.hwp_cpu_command.specs.hwp_soft.Unpoisons.{HasRevivalLeft}
 use Rattle.hwp_cpu.specs.Processors.{at_number}
 use Rattle.hwp_cpu_row.specs.Acts.{Act, Told, acts, Offlined, acts_from}
-use Rattle.hwp_cpu_causes.specs.hwp_law_served.hwp_report_text.declared.OfflineResult.{OfflineResult}
+use Rattle.hwp_law_served.specs.hwp_report_text.declared.OfflineResult.{OfflineResult}
 use Rattle.hwp_cpu_row.specs.hwp_core_rule.Lists.{EachMember}
-use Rattle.hwp_cpu_causes.specs.hwp_law_served.Served.{IsOffliningServed, AreRowsActed}
+use Rattle.hwp_law_served.specs.Served.{IsOffliningServed, AreRowsActed}
 use Rattle.hwp_cpu_row.specs.hwp_script_lines.declared.Command.{Command}
 use Rattle.hwp_cpu_row.specs.hwp_banks.Banks.{empty_banks, Banks}
 use Rattle.hwp_cpu_row.specs.hwp_geom.declared.Layout.{Layout}
 use Rattle.hwp_cpu_row.specs.hwp_report_text.declared.Answer.{Answer}
-use Rattle.hwp_cpu_causes.specs.hwp_law_served.Offlinings.{IsOfflineServed}
+use Rattle.hwp_law_served.specs.Offlinings.{IsOfflineServed}
 use Rattle.hwp_cpu_row.specs.declared.Offlining.{Offlining}
 use Rattle.hwp_cpu_row.specs.hwp_geom.declared.Frame.{Frame}
-use Rattle.hwp_cpu_causes.specs.hwp_law_served.hwp_report_text.declared.OfflineResult.TheVariants as results
+use Rattle.hwp_law_served.specs.hwp_report_text.declared.OfflineResult.TheVariants as results
 
 -- 1 for the note of a poison that was taken back, else 0
 abbrev taken_back : Note → ℕ

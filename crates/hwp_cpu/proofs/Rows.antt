@@ -14,11 +14,11 @@ use Rattle.hwp_cpu_row.specs.hwp_core_rule.declared.View.{View}
 use Rattle.hwp_cpu_row.proofs.of_hwp_core_rule.Lists.{at_longer, at_push}
 use Rattle.hwp_cpu_row.specs.declared.Row.{Row}
 use Rattle.hwp_cpu_row.specs.hwp_banks.Banks.{Banks}
-use Rattle.hwp_cpu_causes.specs.hwp_law_served.Handles.{answers_by}
-use Rattle.hwp_cpu_causes.specs.hwp_law_served.Rows.{Note, notes_from, row_notes}
-use Rattle.hwp_cpu_causes.specs.hwp_law_served.Served.{AreRowsActed, IsOwnSpoil, IsOwnStop, IsRowServed, StaysStopped}
-use Rattle.hwp_cpu_causes.proofs.of_hwp_law_served.lines.ScrubBank.{with-free}
-use Rattle.hwp_cpu_command_laws.specs.hwp_cpu_command.hwp_scrub.Visits.{AreBanks}
+use Rattle.hwp_law_served.specs.Handles.{answers_by}
+use Rattle.hwp_law_served.specs.Rows.{Note, notes_from, row_notes}
+use Rattle.hwp_law_served.specs.Served.{AreRowsActed, IsOwnSpoil, IsOwnStop, IsRowServed, StaysStopped}
+use Rattle.hwp_law_served.proofs.lines.ScrubBank.{with-free}
+use Rattle.hwp_cpu_command.specs.hwp_scrub.Visits.{AreBanks}
 use Rattle.hwp_cpu.specs.Processors.{at_number}
 use Rattle.hwp_cpu.specs.Serving.{HasStopped}
 

@@ -29,19 +29,19 @@ use Rattle.hwp_cpu_row.specs.hwp_core_rule.Calls.{CanMake, Steps, logs}
 use Rattle.hwp_cpu_row.specs.hwp_core_rule.Known.{HasMadeBeside, HasMadeNoneBeside, deeds, is_by}
 use Rattle.hwp_cpu_row.proofs.of_hwp_core_rule.MadeEntries.{Lists, frame-lists, kill-lists, loss-lists, page-lists}
 use Rattle.hwp_cpu_row.proofs.of_hwp_core_rule.StepOwes.{frame-owes, kill-owes, listed-none, losses-kept, losses-same, page-owes}
-use Rattle.hwp_cpu_command_laws.specs.hwp_cpu_command.hwp_cpu_access.Fits.{checks_in, checks_made}
-use Rattle.hwp_cpu_command_laws.proofs.of_hwp_cpu_command.of_hwp_cpu_access.CommandGrows.{More, made-more}
-use Rattle.hwp_cpu_command_laws.specs.hwp_cpu_command.hwp_law_commands.Commands.{is_check}
-use Rattle.hwp_cpu_command_laws.specs.hwp_cpu_command.hwp_soft_move.declared.relocate.Relocate.{Relocate}
-use Rattle.hwp_cpu_command_laws.specs.hwp_cpu_command.hwp_soft_move.declared.relocate.RelocateAt.{RelocateAt}
-use Rattle.hwp_cpu_command_laws.specs.hwp_cpu_command.hwp_soft_move.declared.relocate.RelocateAt.TheVariants as relocate_at
-use Rattle.hwp_cpu_command_laws.specs.hwp_cpu_command.hwp_soft_move.Relocating as relocating
-use Rattle.hwp_cpu_command_laws.specs.hwp_cpu_command.hwp_soft.declared.Soft.{Soft}
-use Rattle.hwp_cpu_command_laws.specs.hwp_cpu_command.hwp_soft.declared.SoftAnswer.{SoftAnswer}
-use Rattle.hwp_cpu_command_laws.specs.hwp_cpu_command.hwp_soft.declared.SoftAnswer.TheVariants as answers
-use Rattle.hwp_cpu_command_laws.specs.hwp_cpu_command.hwp_soft.declared.soft.SoftAt.{SoftAt}
-use Rattle.hwp_cpu_command_laws.specs.hwp_cpu_command.hwp_soft.declared.soft.SoftAt.TheVariants as at
-use Rattle.hwp_cpu_command_laws.specs.hwp_cpu_command.hwp_soft.Offline as offline
+use Rattle.hwp_cpu_command.specs.hwp_cpu_access.Fits.{checks_in, checks_made}
+use Rattle.hwp_cpu_command.proofs.of_hwp_cpu_access.CommandGrows.{More, made-more}
+use Rattle.hwp_cpu_command.specs.hwp_law_commands.Commands.{is_check}
+use Rattle.hwp_cpu_command.specs.hwp_soft_move.declared.relocate.Relocate.{Relocate}
+use Rattle.hwp_cpu_command.specs.hwp_soft_move.declared.relocate.RelocateAt.{RelocateAt}
+use Rattle.hwp_cpu_command.specs.hwp_soft_move.declared.relocate.RelocateAt.TheVariants as relocate_at
+use Rattle.hwp_cpu_command.specs.hwp_soft_move.Relocating as relocating
+use Rattle.hwp_cpu_command.specs.hwp_soft.declared.Soft.{Soft}
+use Rattle.hwp_cpu_command.specs.hwp_soft.declared.SoftAnswer.{SoftAnswer}
+use Rattle.hwp_cpu_command.specs.hwp_soft.declared.SoftAnswer.TheVariants as answers
+use Rattle.hwp_cpu_command.specs.hwp_soft.declared.soft.SoftAt.{SoftAt}
+use Rattle.hwp_cpu_command.specs.hwp_soft.declared.soft.SoftAt.TheVariants as at
+use Rattle.hwp_cpu_command.specs.hwp_soft.Offline as offline
 use Rattle.hwp_cpu.specs.Courses.{is_abandoned}
 use Rattle.hwp_cpu.proofs.DueLaws.{each-cons}
 

@@ -3,30 +3,30 @@ use Rattle.hwp_cpu_row.specs.hwp_geom.declared.VSlot.{VSlot}
 use Rattle.hwp_cpu_row.specs.hwp_core_rule.Known.{HasMadeNone}
 use Rattle.hwp_cpu_row.specs.hwp_banks.declared.Event.{Event}
 use Rattle.hwp_cpu.proofs.BesideEnds.{due-none}
-use Rattle.hwp_cpu_causes.proofs.of_hwp_law_commands.NoteLaws.{told-none}
+use Rattle.hwp_cpu_row.proofs.of_hwp_law_commands.NoteLaws.{told-none}
 use Rattle.std.proofs.Common.{◌||◌, suc, ◌≤◌, get_or, append_assoc, slice_get, length, refl, ◌∷◌, ℕ, false, arith, inr, map, ◌<◌, Some, sym, ◌≡◌, ap, None, subst, option_map, true, Option, zero, replicate, ◌++◌, List, ◌⊎◌, ◌+◌, inl, Bool, ◌∙◌, [], true≢false}
 use Rattle.hwp_cpu_row.specs.hwp_cec.Ages.{CecEvent, Note, Round}
-use Rattle.hwp_cpu_command_laws.specs.hwp_cpu_command.FileHandles.{watched_by, watching_after, RoundStands, anew_with, StandsOn, rounded_by, CanRound, round_ended}
+use Rattle.hwp_cpu_command.specs.FileHandles.{watched_by, watching_after, RoundStands, anew_with, StandsOn, rounded_by, CanRound, round_ended}
 use Rattle.hwp_cpu_row.specs.declared.Row.{Row}
 use Rattle.hwp_cpu_row.specs.hwp_geom.declared.Who.{Who}
 use Rattle.hwp_cpu_row.specs.hwp_script_lines.declared.Command.{Command}
 use Rattle.std.proofs.lemmas.Option.{same_Some, slice_get_within, none-some}
-use Rattle.hwp_cpu_command_laws.proofs.of_hwp_cpu_command.OfKind.{of-copying, of-fork, of-fsync, of-raise, of-spoil, of-prctl, of-unpoison, of-scrub, of-nested, of-instruction, of-log, of-soft, of-inject, of-evict}
+use Rattle.hwp_cpu_command.proofs.OfKind.{of-copying, of-fork, of-fsync, of-raise, of-spoil, of-prctl, of-unpoison, of-scrub, of-nested, of-instruction, of-log, of-soft, of-inject, of-evict}
 use Rattle.hwp_cpu_row.specs.hwp_geom.declared.Layout.{Layout}
-use Rattle.hwp_cpu_command_laws.specs.hwp_cpu_command.Stays.{IsAtStop}
-use Rattle.hwp_cpu_command_laws.specs.hwp_cpu_command.hwp_scrub.declared.Log.{Log}
+use Rattle.hwp_cpu_command.specs.Stays.{IsAtStop}
+use Rattle.hwp_cpu_command.specs.hwp_scrub.declared.Log.{Log}
 use Rattle.hwp_cpu.specs.Courses.{begin, IsOfMachine}
-use Rattle.hwp_cpu_causes.specs.hwp_law_served.Offlinings.{KnowsDue, left_among, watched_at, AreDue, watched_along}
+use Rattle.hwp_law_served.specs.Offlinings.{KnowsDue, left_among, watched_at, AreDue, watched_along}
 use Rattle.hwp_cpu.specs.Serving.{noting, HasToldAll, OwnGoesOn, KeepsWatch, left_so_far}
-use Rattle.hwp_cpu_command_laws.specs.hwp_cpu_command.Runs.{Runs, RunsAs, RunsDenied}
+use Rattle.hwp_cpu_command.specs.Runs.{Runs, RunsAs, RunsDenied}
 use Rattle.hwp_cpu_row.specs.hwp_law_commands.Commands.{is_watch}
 use Rattle.std.proofs.lemmas.List.{take-append-le, take_all, length-append, length-map, length-replicate, get_or-replicate}
 use Rattle.hwp_cpu_row.specs.hwp_law_commands.Watched.{told, due, Watched, watched_after}
-use Rattle.hwp_cpu_causes.specs.hwp_law_served.hwp_banks.declared.Event.{Event}
+use Rattle.hwp_law_served.specs.hwp_banks.declared.Event.{Event}
 use Rattle.hwp_cpu_row.specs.hwp_cec.Counters.{StandsFor, begun, next_row, rounded}
-use Rattle.hwp_cpu_command_laws.specs.hwp_cpu_command.hwp_scrub.declared.LocalChange.{LocalChange}
+use Rattle.hwp_cpu_command.specs.hwp_scrub.declared.LocalChange.{LocalChange}
 use Rattle.hwp_cpu_row.specs.hwp_core_rule.declared.View.{View}
-use Rattle.hwp_cpu_command_laws.proofs.CommandStops.{untold-at-start}
+use Rattle.hwp_cpu.proofs.commands.CommandStops.{untold-at-start}
 use Rattle.hwp_cpu_row.specs.hwp_geom.declared.Frame.{Frame}
 use Rattle.hwp_cpu.proofs.Rows.{at_front}
 use Rattle.hwp_cpu_row.specs.Acts.{told_notes}
@@ -34,19 +34,19 @@ use Rattle.std.specs.Prelude.{IsSome, take}
 use Rattle.hwp_cpu_row.specs.hwp_report_text.declared.Answer.{Answer}
 use Rattle.std.proofs.lemmas.Bool.{cases_lt}
 use Rattle.hwp_cpu_row.specs.declared.Watching.{Watching}
-use Rattle.hwp_cpu_command_laws.specs.hwp_cpu_command.Jobs.{told_of}
+use Rattle.hwp_cpu_command.specs.Jobs.{told_of}
 use Rattle.hwp_cpu.proofs.Collecting.{prior-at-first}
 use Rattle.hwp_cpu_row.specs.Locals.{IsWatching}
-use Rattle.hwp_cpu_command_laws.specs.hwp_cpu_command.declared.job.Job.{Job}
+use Rattle.hwp_cpu_command.specs.declared.job.Job.{Job}
 use Rattle.hwp_cpu.specs.declared.course.Course.{Course}
 use Rattle.std.specs.List.{list_any}
 use Rattle.hwp_cpu_row.proofs.of_hwp_core_rule.Lists.{at_push}
-use Rattle.hwp_cpu_command_laws.specs.hwp_cpu_command.Jobs as jobs
+use Rattle.hwp_cpu_command.specs.Jobs as jobs
 use Rattle.hwp_cpu_row.specs.hwp_script_lines.declared.Command.TheVariants as commands
-use Rattle.hwp_cpu_command_laws.specs.hwp_cpu_command.declared.job.Job.TheVariants as kinds
+use Rattle.hwp_cpu_command.specs.declared.job.Job.TheVariants as kinds
 use Rattle.hwp_cpu_row.specs.hwp_report_text.declared.Answer.TheVariants as answers
-use Rattle.hwp_cpu_command_laws.specs.hwp_cpu_command.hwp_scrub.declared.LocalChange.TheVariants as changes
-use Rattle.hwp_cpu_causes.proofs.DeniedCauses.{access-by, runs-kind}
+use Rattle.hwp_cpu_command.specs.hwp_scrub.declared.LocalChange.TheVariants as changes
+use Rattle.hwp_cpu.proofs.causes.DeniedCauses.{access-by, runs-kind}
 
 -- ---- the rows
 

@@ -2,24 +2,24 @@
 -- their limits, and so it stays denied, if it is.
 use Rattle.std.proofs.Common.{◌≡◌, false, ℕ, Option, true, subst, None, Bool, inr, Some, refl, sym, ◌∙◌, inl}
 use Rattle.hwp_cpu_row.specs.declared.Watching.{Watching}
-use Rattle.hwp_cpu_command_laws.proofs.Beside.{give-up-within, behind-within, within-stays}
-use Rattle.hwp_cpu_command_laws.proofs.DeniedAnswers.{denial-bare, denial-behind, denial-next, denial-up}
+use Rattle.hwp_cpu.proofs.commands.Beside.{give-up-within, behind-within, within-stays}
+use Rattle.hwp_cpu.proofs.commands.DeniedAnswers.{denial-bare, denial-behind, denial-next, denial-up}
 use Rattle.hwp_cpu_row.specs.hwp_geom.declared.Layout.{Layout}
-use Rattle.hwp_cpu_command_laws.specs.hwp_cpu_command.hwp_soft.declared.Soft.{Soft}
+use Rattle.hwp_cpu_command.specs.hwp_soft.declared.Soft.{Soft}
 use Rattle.hwp_cpu.specs.Courses.{AfterRestBy, AfterOwn, AfterOwnIf, rests, AfterCollectingBy, AfterOwnBy, bare_of, going_on, IsGoingOn, AfterSoft, with_result, has_more}
 use Rattle.hwp_cpu_row.specs.hwp_geom.declared.Frame.{Frame}
 use Rattle.hwp_cpu.specs.declared.course.Course.{Course}
 use Rattle.hwp_cpu.specs.Dues.{next_due}
-use Rattle.hwp_cpu_command_laws.specs.hwp_cpu_command.hwp_soft.declared.SoftAnswer.{SoftAnswer}
+use Rattle.hwp_cpu_command.specs.hwp_soft.declared.SoftAnswer.{SoftAnswer}
 use Rattle.hwp_cpu_row.specs.hwp_page.History.{BodyValue}
 use Rattle.hwp_cpu_row.specs.Locals.{collects}
 use Rattle.hwp_cpu_row.specs.hwp_core_rule.declared.Turn.{Turn}
-use Rattle.hwp_cpu_command_laws.specs.hwp_cpu_command.FileHandles.{HasChangeWithin}
-use Rattle.hwp_cpu_command_laws.specs.hwp_cpu_command.Jobs as jobs
-use Rattle.hwp_cpu_command_laws.specs.hwp_cpu_command.Jobs.{denial_of}
-use Rattle.hwp_cpu_command_laws.specs.hwp_cpu_command.declared.job.Job.{Job}
+use Rattle.hwp_cpu_command.specs.FileHandles.{HasChangeWithin}
+use Rattle.hwp_cpu_command.specs.Jobs as jobs
+use Rattle.hwp_cpu_command.specs.Jobs.{denial_of}
+use Rattle.hwp_cpu_command.specs.declared.job.Job.{Job}
 use Rattle.hwp_cpu.specs.Courses as courses
-use Rattle.hwp_cpu_command_laws.specs.hwp_cpu_command.hwp_soft.Softs as softs
+use Rattle.hwp_cpu_command.specs.hwp_soft.Softs as softs
 
 -- what a turn of the task, going on behind its pause and giving up keep
 module _ (P : Job → Type 0) (turns : (layout : Layout) (j k : Job) (found : ℕ) (got : Option BodyValue) (turn : Turn) → jobs.Next layout j found got k turn → P j → P k) (resumes : (j : Job) → P j → P (jobs.resume j)) (gives : (j : Job) → P j → P (jobs.give_up j)) where

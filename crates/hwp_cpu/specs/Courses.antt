@@ -30,34 +30,34 @@ use Rattle.hwp_cpu_row.specs.declared.Offlining.{Offlining}
 use Rattle.hwp_cpu_row.specs.declared.Row.{Row}
 use Rattle.hwp_cpu_row.specs.declared.Watching.{Watching}
 use Rattle.hwp_cpu_row.specs.Locals.{collects}
-use Rattle.hwp_cpu_command_laws.specs.hwp_cpu_command.declared.Job.{Job}
-use Rattle.hwp_cpu_command_laws.specs.hwp_cpu_command.declared.job.Job.TheVariants as kinds
-use Rattle.hwp_cpu_command_laws.specs.hwp_cpu_command.Begins.{BeginsWith}
-use Rattle.hwp_cpu_command_laws.specs.hwp_cpu_command.Done.{failed_now}
-use Rattle.hwp_cpu_command_laws.specs.hwp_cpu_command.FileHandles as handles
-use Rattle.hwp_cpu_command_laws.specs.hwp_cpu_command.Jobs as jobs
-use Rattle.hwp_cpu_command_laws.specs.hwp_cpu_command.hwp_cpu_access.declared.instruction.InstructionAt.{InstructionAt}
-use Rattle.hwp_cpu_command_laws.specs.hwp_cpu_command.hwp_cpu_access.declared.instruction.InstructionAt.TheVariants as instruction_at
-use Rattle.hwp_cpu_command_laws.specs.hwp_cpu_command.hwp_cpu_access.declared.instruction.Pause.{Pause}
-use Rattle.hwp_cpu_command_laws.specs.hwp_cpu_command.hwp_cpu_access.Costs.{anew_after_wait}
-use Rattle.hwp_cpu_command_laws.specs.hwp_cpu_command.hwp_cpu_access.Fits.{IsResting}
-use Rattle.hwp_cpu_command_laws.specs.hwp_cpu_command.hwp_cpu_access.Instructions as instructions
-use Rattle.hwp_cpu_command_laws.specs.hwp_cpu_command.hwp_cpu_access.declared.copying.CopyingAt.{CopyingAt}
-use Rattle.hwp_cpu_command_laws.specs.hwp_cpu_command.hwp_cpu_access.declared.copying.CopyingAt.TheVariants as copying_at
-use Rattle.hwp_cpu_command_laws.specs.hwp_cpu_command.hwp_cpu_access.Copyings as copyings
-use Rattle.hwp_cpu_command_laws.specs.hwp_cpu_command.hwp_cpu_access.CopyCosts as copying_costs
-use Rattle.hwp_cpu_command_laws.specs.hwp_cpu_command.hwp_cpu_access.CopyFits as copying_fits
-use Rattle.hwp_cpu_command_laws.specs.hwp_cpu_command.hwp_scrub.declared.raise.RaiseAt.{RaiseAt}
-use Rattle.hwp_cpu_command_laws.specs.hwp_cpu_command.hwp_scrub.declared.raise.RaiseAt.TheVariants as raise_at
-use Rattle.hwp_cpu_command_laws.specs.hwp_cpu_command.hwp_scrub.declared.scrub.ScrubAt.{ScrubAt}
-use Rattle.hwp_cpu_command_laws.specs.hwp_cpu_command.hwp_scrub.declared.scrub.ScrubAt.TheVariants as scrub_at
-use Rattle.hwp_cpu_command_laws.specs.hwp_cpu_command.hwp_soft.declared.Soft.{Soft}
-use Rattle.hwp_cpu_command_laws.specs.hwp_cpu_command.hwp_soft.declared.SoftAnswer.{SoftAnswer}
-use Rattle.hwp_cpu_command_laws.specs.hwp_cpu_command.hwp_soft.declared.SoftAnswer.TheVariants as answers
-use Rattle.hwp_cpu_command_laws.specs.hwp_cpu_command.hwp_soft.declared.soft.SoftAt.{SoftAt}
-use Rattle.hwp_cpu_command_laws.specs.hwp_cpu_command.hwp_soft.declared.soft.SoftAt.TheVariants as soft_at
-use Rattle.hwp_cpu_command_laws.specs.hwp_cpu_command.hwp_soft.Offline as offline
-use Rattle.hwp_cpu_command_laws.specs.hwp_cpu_command.hwp_soft.Softs as softs
+use Rattle.hwp_cpu_command.specs.declared.Job.{Job}
+use Rattle.hwp_cpu_command.specs.declared.job.Job.TheVariants as kinds
+use Rattle.hwp_cpu_command.specs.Begins.{BeginsWith}
+use Rattle.hwp_cpu_command.specs.Done.{failed_now}
+use Rattle.hwp_cpu_command.specs.FileHandles as handles
+use Rattle.hwp_cpu_command.specs.Jobs as jobs
+use Rattle.hwp_cpu_command.specs.hwp_cpu_access.declared.instruction.InstructionAt.{InstructionAt}
+use Rattle.hwp_cpu_command.specs.hwp_cpu_access.declared.instruction.InstructionAt.TheVariants as instruction_at
+use Rattle.hwp_cpu_command.specs.hwp_cpu_access.declared.instruction.Pause.{Pause}
+use Rattle.hwp_cpu_command.specs.hwp_cpu_access.Costs.{anew_after_wait}
+use Rattle.hwp_cpu_command.specs.hwp_cpu_access.Fits.{IsResting}
+use Rattle.hwp_cpu_command.specs.hwp_cpu_access.Instructions as instructions
+use Rattle.hwp_cpu_command.specs.hwp_cpu_access.declared.copying.CopyingAt.{CopyingAt}
+use Rattle.hwp_cpu_command.specs.hwp_cpu_access.declared.copying.CopyingAt.TheVariants as copying_at
+use Rattle.hwp_cpu_command.specs.hwp_cpu_access.Copyings as copyings
+use Rattle.hwp_cpu_command.specs.hwp_cpu_access.CopyCosts as copying_costs
+use Rattle.hwp_cpu_command.specs.hwp_cpu_access.CopyFits as copying_fits
+use Rattle.hwp_cpu_command.specs.hwp_scrub.declared.raise.RaiseAt.{RaiseAt}
+use Rattle.hwp_cpu_command.specs.hwp_scrub.declared.raise.RaiseAt.TheVariants as raise_at
+use Rattle.hwp_cpu_command.specs.hwp_scrub.declared.scrub.ScrubAt.{ScrubAt}
+use Rattle.hwp_cpu_command.specs.hwp_scrub.declared.scrub.ScrubAt.TheVariants as scrub_at
+use Rattle.hwp_cpu_command.specs.hwp_soft.declared.Soft.{Soft}
+use Rattle.hwp_cpu_command.specs.hwp_soft.declared.SoftAnswer.{SoftAnswer}
+use Rattle.hwp_cpu_command.specs.hwp_soft.declared.SoftAnswer.TheVariants as answers
+use Rattle.hwp_cpu_command.specs.hwp_soft.declared.soft.SoftAt.{SoftAt}
+use Rattle.hwp_cpu_command.specs.hwp_soft.declared.soft.SoftAt.TheVariants as soft_at
+use Rattle.hwp_cpu_command.specs.hwp_soft.Offline as offline
+use Rattle.hwp_cpu_command.specs.hwp_soft.Softs as softs
 use Rattle.hwp_cpu_row.specs.hwp_cpu_check.hwp_guest.declared.Admit.{Admit}
 use Rattle.hwp_cpu.specs.declared.course.Course.{Course}
 use Rattle.hwp_cpu.specs.Dues.{DueValue, HasCollected, next_due, no_due, with_offlining}

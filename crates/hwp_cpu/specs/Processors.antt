@@ -21,9 +21,9 @@ use Rattle.hwp_cpu_row.specs.hwp_core_rule.Words.{Words}
 use Rattle.hwp_cpu_row.specs.hwp_core_rule.declared.Turn.{Turn}
 use Rattle.hwp_cpu_row.specs.hwp_core_rule.declared.Turn.TheVariants as turns
 use Rattle.hwp_cpu_row.specs.hwp_core_rule.Ranks.{command_weight}
-use Rattle.hwp_cpu_command_laws.specs.hwp_cpu_command.FileHandles.{HasChangeWithin, StandsOn}
-use Rattle.hwp_cpu_command_laws.specs.hwp_cpu_command.declared.Job.{Job}
-use Rattle.hwp_cpu_command_laws.specs.hwp_cpu_command.Jobs as jobs
+use Rattle.hwp_cpu_command.specs.FileHandles.{HasChangeWithin, StandsOn}
+use Rattle.hwp_cpu_command.specs.declared.Job.{Job}
+use Rattle.hwp_cpu_command.specs.Jobs as jobs
 use Rattle.hwp_cpu.specs.declared.course.Course.{Course}
 use Rattle.hwp_cpu.specs.Courses as courses
 use Rattle.hwp_cpu.specs.Courses.{BeginsCourse, local_after, local_left, part, row_of}

@@ -41,38 +41,38 @@ use Rattle.hwp_cpu_row.specs.Locals.{IsWatching, collects}
 use Rattle.hwp_cpu_row.specs.hwp_cec.Ages.{Note}
 use Rattle.hwp_cpu_row.specs.hwp_law_commands.Commands.{is_watch}
 use Rattle.hwp_cpu_row.specs.hwp_law_commands.Watched.{Watched, due, told}
-use Rattle.hwp_cpu_command_laws.specs.hwp_cpu_command.hwp_cpu_access.declared.Instruction.{Instruction}
-use Rattle.hwp_cpu_command_laws.specs.hwp_cpu_command.hwp_cpu_access.declared.instruction.Pause.{Pause}
-use Rattle.hwp_cpu_command_laws.specs.hwp_cpu_command.hwp_cpu_access.Fits.{IsResting}
-use Rattle.hwp_cpu_command_laws.specs.hwp_cpu_command.hwp_cpu_access.Instructions as instructions
-use Rattle.hwp_cpu_command_laws.specs.hwp_cpu_command.hwp_cpu_access.declared.Copying.{Copying}
-use Rattle.hwp_cpu_command_laws.specs.hwp_cpu_command.hwp_cpu_access.Copyings as copyings
-use Rattle.hwp_cpu_command_laws.specs.hwp_cpu_command.hwp_cpu_access.CopyFits as copying_fits
-use Rattle.hwp_cpu_command_laws.specs.hwp_cpu_command.hwp_soft.declared.Soft.{Soft}
-use Rattle.hwp_cpu_command_laws.specs.hwp_cpu_command.hwp_soft.Done as soft_done
-use Rattle.hwp_cpu_command_laws.specs.hwp_cpu_command.hwp_soft.Offline as offline
-use Rattle.hwp_cpu_command_laws.specs.hwp_cpu_command.declared.job.Job.{Job}
-use Rattle.hwp_cpu_command_laws.specs.hwp_cpu_command.declared.job.Job.TheVariants as kinds
-use Rattle.hwp_cpu_command_laws.specs.hwp_cpu_command.Done.{HasCounted, can_fail, failed_now, marked_beyond}
-use Rattle.hwp_cpu_command_laws.specs.hwp_cpu_command.FileHandles.{HasHandle}
-use Rattle.hwp_cpu_command_laws.specs.hwp_cpu_command.Jobs as jobs
-use Rattle.hwp_cpu_command_laws.specs.hwp_cpu_command.Jobs.{banks_before, told_of}
-use Rattle.hwp_cpu_command_laws.specs.hwp_cpu_command.Runs.{Runs}
-use Rattle.hwp_cpu_command_laws.specs.hwp_cpu_command.Settings.{AreCounted, policies_in, policies_now}
-use Rattle.hwp_cpu_command_laws.specs.hwp_cpu_command.Stays as stays
-use Rattle.hwp_cpu_command_laws.specs.hwp_cpu_command.Stays.{EndsAtOnce, HasGivenUp, HasSpoiled, IsHalted}
+use Rattle.hwp_cpu_command.specs.hwp_cpu_access.declared.Instruction.{Instruction}
+use Rattle.hwp_cpu_command.specs.hwp_cpu_access.declared.instruction.Pause.{Pause}
+use Rattle.hwp_cpu_command.specs.hwp_cpu_access.Fits.{IsResting}
+use Rattle.hwp_cpu_command.specs.hwp_cpu_access.Instructions as instructions
+use Rattle.hwp_cpu_command.specs.hwp_cpu_access.declared.Copying.{Copying}
+use Rattle.hwp_cpu_command.specs.hwp_cpu_access.Copyings as copyings
+use Rattle.hwp_cpu_command.specs.hwp_cpu_access.CopyFits as copying_fits
+use Rattle.hwp_cpu_command.specs.hwp_soft.declared.Soft.{Soft}
+use Rattle.hwp_cpu_command.specs.hwp_soft.Done as soft_done
+use Rattle.hwp_cpu_command.specs.hwp_soft.Offline as offline
+use Rattle.hwp_cpu_command.specs.declared.job.Job.{Job}
+use Rattle.hwp_cpu_command.specs.declared.job.Job.TheVariants as kinds
+use Rattle.hwp_cpu_command.specs.Done.{HasCounted, can_fail, failed_now, marked_beyond}
+use Rattle.hwp_cpu_command.specs.FileHandles.{HasHandle}
+use Rattle.hwp_cpu_command.specs.Jobs as jobs
+use Rattle.hwp_cpu_command.specs.Jobs.{banks_before, told_of}
+use Rattle.hwp_cpu_command.specs.Runs.{Runs}
+use Rattle.hwp_cpu_command.specs.Settings.{AreCounted, policies_in, policies_now}
+use Rattle.hwp_cpu_command.specs.Stays as stays
+use Rattle.hwp_cpu_command.specs.Stays.{EndsAtOnce, HasGivenUp, HasSpoiled, IsHalted}
 use Rattle.hwp_cpu.specs.declared.course.Course.{Course}
 use Rattle.hwp_cpu.specs.Courses as courses
 use Rattle.hwp_cpu.specs.Courses.{is_abandoned, part}
-use Rattle.hwp_cpu_causes.specs.Beside.{ArePriorWith, CanCollect, DoesSo, IsOwnServed}
-use Rattle.hwp_cpu_causes.specs.hwp_law_served.Causes.{HasOnlyMet}
-use Rattle.hwp_cpu_causes.specs.hwp_law_served.Accounts.{IsNote, act_marking, failures, markings, policies_set}
-use Rattle.hwp_cpu_causes.specs.hwp_law_served.Guests.{KnowsGuests}
-use Rattle.hwp_cpu_causes.specs.hwp_law_served.Handles.{KnowsNumbers, answers_by, number_at}
-use Rattle.hwp_cpu_causes.specs.hwp_law_served.Offlinings.{KnowsDue, left_among, left_beside, left_by, watched_at}
-use Rattle.hwp_cpu_causes.specs.hwp_law_served.Owed.{OwesOwn}
-use Rattle.hwp_cpu_causes.specs.hwp_law_served.Rows.{notes_from}
-use Rattle.hwp_cpu_causes.specs.hwp_law_served.Served.{AreRowsActed, CanStop, IsOffliningServed, IsOneOf, IsOwnSpoil, IsOwnStop, SawRunning, StaysStopped}
+use Rattle.hwp_cpu.specs.Beside.{ArePriorWith, CanCollect, DoesSo, IsOwnServed}
+use Rattle.hwp_law_served.specs.Causes.{HasOnlyMet}
+use Rattle.hwp_law_served.specs.Accounts.{IsNote, act_marking, failures, markings, policies_set}
+use Rattle.hwp_law_served.specs.Guests.{KnowsGuests}
+use Rattle.hwp_law_served.specs.Handles.{KnowsNumbers, answers_by, number_at}
+use Rattle.hwp_law_served.specs.Offlinings.{KnowsDue, left_among, left_beside, left_by, watched_at}
+use Rattle.hwp_law_served.specs.Owed.{OwesOwn}
+use Rattle.hwp_law_served.specs.Rows.{notes_from}
+use Rattle.hwp_law_served.specs.Served.{AreRowsActed, CanStop, IsOffliningServed, IsOneOf, IsOwnSpoil, IsOwnStop, SawRunning, StaysStopped}
 use Rattle.hwp_cpu.specs.declared.processor.Processor.{Processor}
 use Rattle.hwp_cpu.specs.Processors.{IsReady, Next, Shows, aborts, at_number, bare, claims, class, cost, plan, put, who}
 

@@ -2,13 +2,13 @@ ghost use Rattle.std.specs.Prelude.{◌≡◌, ◌<◌, ◌≤◌, true, None, l
 ghost use Rattle.hwp_cpu_row.specs.hwp_geom.Layout.{IsSound};
 ghost use Rattle.hwp_cpu_row.specs.hwp_script_read.Valid.{IsCommandOf};
 ghost use Rattle.hwp_cpu_row.specs.Locals.{collects};
-ghost use Rattle.hwp_cpu_command_laws.specs.hwp_cpu_command.Begins.{CanCopy, CanDeny};
-ghost use Rattle.hwp_cpu_command_laws.specs.hwp_cpu_command.FileHandles.{HasChangeWithin, StandsOn};
-ghost use Rattle.hwp_cpu_command_laws.specs.hwp_cpu_command.Jobs.{told_of};
+ghost use Rattle.hwp_cpu_command.specs.Begins.{CanCopy, CanDeny};
+ghost use Rattle.hwp_cpu_command.specs.FileHandles.{HasChangeWithin, StandsOn};
+ghost use Rattle.hwp_cpu_command.specs.Jobs.{told_of};
 ghost use Rattle.hwp_cpu.specs.Courses.{AfterCollecting, AfterOwnBy, AfterRest, BeginsCourse, Covers, IsGoingOn, answer, local_after, local_left, offline_result, passed, rests, row_of, with_result};
 
 use crate::due::DueFrames;
-use hwp_cpu_command_laws::{Job, offlined_by};
+use hwp_cpu_command::{Job, offlined_by};
 use hwp_cpu_row::{
     Admit, Answer, Body, Command, Frame, Layout, Local, OfflineResult, Offlining, OutOfMemory,
     Ranked, Row, Scheduled, Step, Task, Turn, VSlot, Watching, Who,

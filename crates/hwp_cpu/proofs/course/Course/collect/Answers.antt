@@ -7,7 +7,7 @@ use Rattle.hwp_cpu.specs.declared.course.Course.{Course}
 use Rattle.hwp_cpu.specs.Courses.{AfterCollecting, AfterCollectingBy}
 use Rattle.hwp_cpu.specs.Dues.{DueValue, HasCollected}
 use Rattle.hwp_cpu.proofs.course.Course.collect.Goals as goal
-use Rattle.hwp_cpu_command_laws.specs.hwp_cpu_command.Jobs as jobs
+use Rattle.hwp_cpu_command.specs.Jobs as jobs
 
 collected : (layout : Layout) (c : Course) (w : Watching) (told since : List EventOutcome) (counters : Counters) (due : DueValue) (o : Option Watching) → c.watching ≡ Some w → told ≡ jobs.told_of c.own → since ≡ drop c.noted told
     → HasCollected layout since c.due w.collector due counters → o ≡ Some (record w { collector = counters }) → AfterCollecting layout c (record c { watching = o; noted = length told; due = due })

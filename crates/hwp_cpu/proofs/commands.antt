@@ -1,0 +1,11 @@
+pub mod CommandRuns
+pub mod DeniedAnswers
+pub mod Quiet
+pub mod TaskLeaves
+pub mod CommandLeaves
+pub mod CommandStops
+pub mod CommandDeeds
+pub mod Below
+pub mod HandleKeeps
+pub mod Beside
+pub mod ToldGrows

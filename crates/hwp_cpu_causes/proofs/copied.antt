@@ -1,2 +1,0 @@
-pub mod CopyCauses
-pub mod ForkCauses
