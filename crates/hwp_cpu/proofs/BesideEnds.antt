@@ -50,7 +50,7 @@ use Rattle.hwp_cpu_command.proofs.JobEnds.{soft-ended}
 use Rattle.hwp_cpu_row.specs.hwp_script_lines.declared.Command.{Command}
 use Rattle.hwp_cpu_row.specs.hwp_geom.declared.Who.{Who}
 use Rattle.hwp_cpu_row.specs.declared.Local.{Local}
-use Rattle.hwp_cpu.specs.Processors.{at_number}
+use Rattle.hwp_law_served.specs.Rows.{at_number}
 use Rattle.hwp_cpu_row.specs.hwp_page.History.{BodyValue}
 use Rattle.hwp_cpu_row.specs.declared.Offlining.{Offlining}
 use Rattle.hwp_cpu_command.specs.Done.{marked_beyond, owed_now}

@@ -54,19 +54,19 @@ use Rattle.hwp_cpu_command.proofs.JobEnds.{ends}
 use Rattle.hwp_cpu.proofs.commands.CommandRuns.{before-begins, begins-fits, begins-runs, runs-who}
 use Rattle.hwp_cpu.proofs.commands.CommandStops.{begins-stop, has-stopped, only-stopped, untold-at-start}
 use Rattle.hwp_law_served.specs.Accounts.{IsNote, own_marking, markings_in}
-use Rattle.hwp_law_served.specs.Rows.{notes_from}
-use Rattle.hwp_law_served.specs.Served.{CanStop, IsOneOf, IsOwnSpoil, IsOwnStop, IsRowServed, SawRunning}
+use Rattle.hwp_law_served.specs.Rows.{notes_from, at_number}
+use Rattle.hwp_law_served.specs.Served.{CanStop, IsOneOf, IsOwnSpoil, IsOwnStop, IsRowServed, SawRunning, HasStopped}
 use Rattle.hwp_law_served.proofs.Handles.{number-last, numbers-more}
 use Rattle.hwp_law_served.proofs.lines.ScrubBank.{empty-free}
 use Rattle.hwp_cpu.proofs.causes.HandleNumbers.{tells-inside}
 use Rattle.hwp_cpu.proofs.causes.RowServed.{row-served}
-use Rattle.hwp_cpu.specs.Processors.{AreCommands, BeginsAt, at_number, left_of, told_local, with_guest}
-use Rattle.hwp_cpu.specs.Serving.{IsActedOn, Remembers, AreNumbered, FitsAt, HasAccount, HasStopped, HasStoppedIt, IsDone, IsListed, IsRunning, Serves, IsUnderWay, marked_beside, marked_so_far, GivesUp, GoesOn}
+use Rattle.hwp_cpu.specs.Processors.{AreCommands, BeginsAt, left_of, told_local, with_guest}
+use Rattle.hwp_cpu.specs.Serving.{IsActedOn, Remembers, AreNumbered, FitsAt, HasAccount, HasStoppedIt, IsDone, IsListed, IsRunning, Serves, IsUnderWay, marked_beside, marked_so_far, GivesUp, GoesOn}
 use Rattle.hwp_cpu.proofs.ProcessorKeeps.{can}
 use Rattle.hwp_cpu.proofs.ProcessorNotes.{account-starts, noted-end, noted-starts, owes-nothing, spoils-end, unmarked-starts}
 use Rattle.hwp_cpu.proofs.KnownPolicies.{answers-more, counted-ends, counted-starts, setting-left}
 use Rattle.hwp_cpu.proofs.Revivals.{revival-left}
-use Rattle.hwp_cpu.proofs.Rows.{IsRowActed, at_front, banks-acted, past-end, rows-more, stays-more, stop-more, stopped-was}
+use Rattle.hwp_law_served.proofs.Rows.{IsRowActed, at_front, banks-acted, past-end, rows-more, stays-more, stop-more, stopped-was}
 use Rattle.std.specs.List.{list_any, cons_option}
 use Rattle.hwp_cpu_row.specs.hwp_law_commands.Watched.{told, watched_after, Watched}
 use Rattle.hwp_law_served.specs.Offlinings.{watched_at, AreDue}

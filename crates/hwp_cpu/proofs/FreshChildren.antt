@@ -30,7 +30,8 @@ use Rattle.hwp_cpu_row.specs.declared.Row.{Row}
 use Rattle.hwp_cpu_command.specs.Runs.{CanFork, IsFresh}
 use Rattle.hwp_cpu_command.specs.Settings.{policies_in}
 use Rattle.hwp_law_served.specs.Handles.{answers_by}
-use Rattle.hwp_cpu.specs.Processors.{AreForkedOnce, at_number}
+use Rattle.hwp_cpu.specs.Processors.{AreForkedOnce}
+use Rattle.hwp_law_served.specs.Rows.{at_number}
 
 -- ---- of lists
 

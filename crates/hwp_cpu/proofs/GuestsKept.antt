@@ -36,9 +36,9 @@ use Rattle.hwp_cpu.specs.Courses.{answer_of, local_after, row_of}
 use Rattle.hwp_cpu_command.specs.hwp_soft.declared.Soft.{Soft}
 use Rattle.hwp_law_served.specs.Guests.{IsDeniedRow, IsGuestRow, KnowsGuests, SaysGone}
 use Rattle.hwp_law_served.specs.Handles.{answers_by}
-use Rattle.hwp_law_served.specs.Rows.{guest_at}
+use Rattle.hwp_law_served.specs.Rows.{guest_at, at_number}
 use Rattle.hwp_law_served.proofs.GuestRows.{guests-later, guests-more}
-use Rattle.hwp_cpu.specs.Processors.{AreCommands, BeginsAt, IsAdmitted, MayTellOf, at_number, left_of, told_local, with_guest}
+use Rattle.hwp_cpu.specs.Processors.{AreCommands, BeginsAt, IsAdmitted, MayTellOf, left_of, told_local, with_guest}
 use Rattle.hwp_cpu.specs.Serving.{IsAsked, KeepsGuests}
 use Rattle.hwp_cpu.proofs.ActingFits.{at-least}
 use Rattle.hwp_cpu.proofs.GoingOn.{IsEnding}

@@ -24,7 +24,7 @@ use Rattle.hwp_cpu_command.specs.FileHandles.{HasHandle, KnowsHandle, handles_af
 use Rattle.hwp_law_served.specs.Handles.{KnowsNumbers, number_at}
 use Rattle.hwp_law_served.proofs.Handles.{number-next}
 use Rattle.hwp_cpu.specs.Serving.{AreNumbered}
-use Rattle.hwp_cpu.proofs.Rows.{past-end}
+use Rattle.hwp_law_served.proofs.Rows.{past-end}
 
 -- an answer that tells no number leaves it
 untold : (file : FileNo) (n : ℕ) (command : Command) (a : Answer) → tells_number file command a ≡ false → number_by file n command a ≡ n

@@ -9,7 +9,6 @@ pub mod CourseLaws
 pub mod RestCosts
 pub mod PauseOwns
 pub mod CourseCosts
-pub mod Rows
 pub mod KnownHandles
 pub mod KnownPolicies
 pub mod ActingFits

@@ -38,7 +38,7 @@ use Rattle.hwp_law_served.specs.Offlinings.{left_beside, watched_at}
 use Rattle.hwp_cpu_row.specs.hwp_report_text.declared.Answer.{Answer}
 use Rattle.hwp_cpu.proofs.commands.Beside.{give-up-goes, answered-unmarked, gives-up, given-up-unanswered}
 use Rattle.hwp_cpu_row.specs.hwp_geom.declared.Frame.{Frame}
-use Rattle.hwp_cpu.specs.Processors.{at_number}
+use Rattle.hwp_law_served.specs.Rows.{at_number}
 use Rattle.hwp_cpu.proofs.commands.CommandRuns.{runs-alike}
 use Rattle.hwp_cpu_command.specs.Stays.{Stepped, HasGivenUp}
 use Rattle.hwp_cpu.proofs.BesideTurns.{at_rest, way-with}

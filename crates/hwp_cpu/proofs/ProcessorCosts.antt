@@ -28,7 +28,8 @@ use Rattle.hwp_cpu_command.specs.Jobs as jobs
 use Rattle.hwp_cpu.proofs.commands.Below.{begins-few}
 use Rattle.hwp_cpu.proofs.commands.CommandRuns.{has-begun}
 use Rattle.hwp_cpu.specs.declared.processor.Processor.{Processor}
-use Rattle.hwp_cpu.specs.Processors.{carried_on, BeginsAt, Follows, IsAnswered, NextOf, aborts, aborts_of, at_number, bare, claims, claims_of, class, class_of, cost, cost_of, plan, plan_of, put_of, who_of, row_now}
+use Rattle.hwp_cpu.specs.Processors.{carried_on, BeginsAt, Follows, IsAnswered, NextOf, aborts, aborts_of, bare, claims, claims_of, class, class_of, cost, cost_of, plan, plan_of, put_of, who_of, row_now}
+use Rattle.hwp_law_served.specs.Rows.{at_number}
 use Rattle.hwp_cpu.specs.Serving.{Fits, FitsAt, task}
 use Rattle.hwp_cpu.specs.Courses.{part_of, BeginsCourse, part, gives_up}
 use Rattle.hwp_cpu_row.specs.hwp_core_rule.declared.View.{View}

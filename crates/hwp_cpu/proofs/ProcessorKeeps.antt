@@ -32,14 +32,14 @@ use Rattle.hwp_cpu.proofs.commands.CommandRuns.{before-stays, runs-on, runs-who}
 use Rattle.hwp_cpu.proofs.commands.HandleKeeps.{handle-stays}
 use Rattle.hwp_cpu.proofs.commands.CommandStops.{halted-stays, has-stopped, looks-first, no-own-stop, stops-after, still-halted}
 use Rattle.hwp_law_served.specs.Handles.{answers_by}
-use Rattle.hwp_law_served.specs.Served.{IsOwnStop, SawRunning}
+use Rattle.hwp_law_served.specs.Served.{IsOwnStop, SawRunning, HasStopped}
 use Rattle.hwp_law_served.proofs.CommandKeeps.{row-stays, saw-running-stays, made-none-later}
 use Rattle.hwp_law_served.proofs.Handles.{numbers-stay}
-use Rattle.hwp_cpu.specs.Processors.{at_number}
-use Rattle.hwp_cpu.specs.Serving.{HasStoppedIt, Serves, IsUnderWay, marked_so_far, HasStopped, KeepsWatch}
+use Rattle.hwp_law_served.specs.Rows.{at_number}
+use Rattle.hwp_cpu.specs.Serving.{HasStoppedIt, Serves, IsUnderWay, marked_so_far, KeepsWatch}
 use Rattle.hwp_cpu.proofs.KnownPolicies.{counted-on}
 use Rattle.hwp_cpu.proofs.ProcessorNotes.{listed-on, noted-on, spoils-on, account-beside, account-own}
-use Rattle.hwp_cpu.proofs.Rows.{rows-stay}
+use Rattle.hwp_law_served.proofs.Rows.{rows-stay}
 use Rattle.hwp_cpu_row.specs.hwp_law_commands.Watched.{told, due, Watched}
 use Rattle.hwp_cpu.proofs.commands.TaskLeaves.{soft-leaves, Left}
 use Rattle.hwp_cpu_row.proofs.of_hwp_core_rule.MadeEntries.{made-none}

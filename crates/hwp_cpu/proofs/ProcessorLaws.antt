@@ -23,7 +23,8 @@ use Rattle.hwp_cpu.proofs.commands.CommandRuns.{runs-who, runs-on, runs-within}
 use Rattle.hwp_cpu_row.specs.declared.Row.{Row}
 use Rattle.hwp_cpu_row.specs.declared.Local.{Local}
 use Rattle.hwp_cpu.specs.declared.processor.Processor.{Processor}
-use Rattle.hwp_cpu.specs.Processors.{carried_on, told_local, line_of, row_now, with_guest, AreCommands, BeginsAt, Follows, IsAdmitted, IsAnswered, IsReady, Next, NextOf, Shows, ShowsOf, at_number, bare, left_of, plan, plan_of, put, put_of, who, who_of}
+use Rattle.hwp_cpu.specs.Processors.{carried_on, told_local, line_of, row_now, with_guest, AreCommands, BeginsAt, Follows, IsAdmitted, IsAnswered, IsReady, Next, NextOf, Shows, ShowsOf, bare, left_of, plan, plan_of, put, put_of, who, who_of}
+use Rattle.hwp_law_served.specs.Rows.{at_number}
 use Rattle.hwp_cpu.specs.Serving.{IsActedOn, Fits, FitsAt, IsRunning, GivesUp, KeepsGuests, OwnGoesOn, GoesOn, RunsBeside}
 use Rattle.hwp_cpu.proofs.CommandBegins.{settled}
 use Rattle.hwp_cpu.proofs.ProcessorKeeps.{later-none}

@@ -78,17 +78,17 @@ use Rattle.hwp_cpu.specs.Beside.{AddsBeside, ArePriorWith}
 use Rattle.hwp_law_served.specs.hwp_law.Pairings.{is_soft}
 use Rattle.hwp_law_served.specs.Accounts.{IsHow, IsNote, act_marking, failures, is_same, marking_by, markings, markings_in, own_marking}
 use Rattle.hwp_law_served.specs.Owed.{OwesOwn, loss_of, losses_by}
-use Rattle.hwp_law_served.specs.Rows.{Note, act_note, note_by, note_of, notes_from, own_note, row_notes, told_note}
+use Rattle.hwp_law_served.specs.Rows.{Note, act_note, note_by, note_of, notes_from, own_note, row_notes, told_note, at_number}
 use Rattle.hwp_law_served.specs.Served.{IsOneOf, IsOwnSpoil, spoiling}
 use Rattle.hwp_law_served.proofs.AccountKeeps.{marks-own, settings-own}
 use Rattle.hwp_law_served.proofs.PoisonMarks.{same-who}
 use Rattle.hwp_law_served.proofs.Picked.{picked-has}
 use Rattle.hwp_law_served.proofs.losses.LossesOwed.{owes-own}
 use Rattle.hwp_law_served.proofs.marks.Marked.{same-self}
-use Rattle.hwp_cpu.specs.Processors.{at_number, with_guest}
+use Rattle.hwp_cpu.specs.Processors.{with_guest}
 use Rattle.hwp_cpu.specs.Serving.{AreNoted, HasAccount, IsListed, marked_so_far}
 use Rattle.hwp_cpu.proofs.Marks.{GrowAlike, beside-alike, regrown}
-use Rattle.hwp_cpu.proofs.Rows.{notes-more, spoil-more}
+use Rattle.hwp_law_served.proofs.Rows.{notes-more, spoil-more}
 use Rattle.hwp_cpu.proofs.EachKind.{spoils-line, prior-none}
 use Rattle.hwp_cpu_row.specs.hwp_core_rule.Hands.{empty}
 use Rattle.hwp_cpu_row.specs.hwp_report_text.declared.GuestLine.{GuestLine}

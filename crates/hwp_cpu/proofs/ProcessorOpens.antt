@@ -31,11 +31,12 @@ use Rattle.hwp_law_served.specs.Handles.{answers_by}
 use Rattle.hwp_law_served.specs.Served.{AreRowsActed}
 use Rattle.hwp_law_served.proofs.Handles.{numbers-begin}
 use Rattle.hwp_law_served.proofs.lines.ScrubBank.{empty-free}
-use Rattle.hwp_cpu.specs.Processors.{AreCommands, BeginsAt, at_number, left_of}
+use Rattle.hwp_cpu.specs.Processors.{AreCommands, BeginsAt, left_of}
+use Rattle.hwp_law_served.specs.Rows.{at_number}
 use Rattle.hwp_cpu.specs.Serving.{FitsAt, IsActedOn, IsDone, IsListed, Remembers, Serves, AreNumbered, GoesOn, IsUnderWay}
 use Rattle.hwp_cpu.proofs.KnownHandles.{handle-known, numbers-first}
 use Rattle.hwp_cpu.proofs.KnownPolicies.{counted-starts, setting-left}
-use Rattle.hwp_cpu.proofs.Rows.{past-end}
+use Rattle.hwp_law_served.proofs.Rows.{past-end}
 use Rattle.hwp_cpu.proofs.ProcessorNotes.{account-starts, noted-starts}
 use Rattle.hwp_cpu.proofs.Revivals.{revival-left}
 use Rattle.hwp_cpu.proofs.Watching.{of-machine, watch-starts, own-starts}

@@ -20,7 +20,7 @@ use Rattle.hwp_cpu_row.specs.hwp_core_rule.Hands.{Hand}
 use Rattle.hwp_cpu_row.specs.hwp_core_rule.Known.{HasMadeNone}
 use Rattle.hwp_law_served.specs.Served.{HasActed, IsBegun}
 use Rattle.hwp_law_served.proofs.RunEnds.{of-deeds}
-use Rattle.hwp_cpu.specs.Processors.{at_number}
+use Rattle.hwp_law_served.specs.Rows.{at_number}
 use Rattle.hwp_cpu.specs.Serving.{IsDone}
 
 module _ (layout : Layout) (last : State) (seat : Cpu → ℕ) (holds : Holds layout last) (seated : AreSeated layout last seat) (cpu : Cpu) (inside : cpu.0 < layout.cpus) where

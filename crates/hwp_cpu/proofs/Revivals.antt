@@ -23,9 +23,8 @@ use Rattle.hwp_cpu_row.specs.declared.FrameChange.{FrameChange}
 use Rattle.hwp_cpu_row.specs.declared.FrameChange.TheVariants as owns
 use Rattle.hwp_cpu_row.specs.declared.Row.{Row}
 use Rattle.hwp_law_served.specs.Accounts.{IsLineOf, IsNote}
-use Rattle.hwp_law_served.specs.Rows.{Note, note_by, note_of, notes_from, own_note, row_notes, told_note, act_note}
+use Rattle.hwp_law_served.specs.Rows.{Note, note_by, note_of, notes_from, own_note, row_notes, told_note, act_note, at_number}
 use Rattle.hwp_cpu_command.specs.hwp_soft.Unpoisons.{HasRevivalLeft}
-use Rattle.hwp_cpu.specs.Processors.{at_number}
 use Rattle.hwp_cpu_row.specs.Acts.{Act, Told, acts, Offlined, acts_from}
 use Rattle.hwp_law_served.specs.hwp_report_text.declared.OfflineResult.{OfflineResult}
 use Rattle.hwp_cpu_row.specs.hwp_core_rule.Lists.{EachMember}

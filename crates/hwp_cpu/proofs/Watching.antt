@@ -28,7 +28,7 @@ use Rattle.hwp_cpu_command.specs.hwp_scrub.declared.LocalChange.{LocalChange}
 use Rattle.hwp_cpu_row.specs.hwp_core_rule.declared.View.{View}
 use Rattle.hwp_cpu.proofs.commands.CommandStops.{untold-at-start}
 use Rattle.hwp_cpu_row.specs.hwp_geom.declared.Frame.{Frame}
-use Rattle.hwp_cpu.proofs.Rows.{at_front}
+use Rattle.hwp_law_served.proofs.Rows.{at_front}
 use Rattle.hwp_cpu_row.specs.Acts.{told_notes}
 use Rattle.std.specs.Prelude.{IsSome, take}
 use Rattle.hwp_cpu_row.specs.hwp_report_text.declared.Answer.{Answer}

@@ -35,10 +35,7 @@ use Rattle.hwp_cpu_row.specs.Locals.{IsFirst}
 use Rattle.hwp_cpu_row.specs.declared.Row.{Row}
 use Rattle.hwp_cpu_row.specs.hwp_report_text.declared.GuestLine.{GuestLine}
 use Rattle.hwp_cpu.specs.declared.processor.Processor.{Processor}
-
--- the command of this number of the processor
-abbrev pub at_number : Cpu → ℕ → Who
-at_number cpu n = record { cpu = cpu; seq = n }
+use Rattle.hwp_law_served.specs.Rows.{at_number}
 
 -- no process is forked twice
 abbrev pub AreForkedOnce : List Command → Type 0

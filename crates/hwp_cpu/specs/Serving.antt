@@ -71,14 +71,10 @@ use Rattle.hwp_law_served.specs.Guests.{KnowsGuests}
 use Rattle.hwp_law_served.specs.Handles.{KnowsNumbers, answers_by, number_at}
 use Rattle.hwp_law_served.specs.Offlinings.{KnowsDue, left_among, left_beside, left_by, watched_at}
 use Rattle.hwp_law_served.specs.Owed.{OwesOwn}
-use Rattle.hwp_law_served.specs.Rows.{notes_from}
-use Rattle.hwp_law_served.specs.Served.{AreRowsActed, CanStop, IsOffliningServed, IsOneOf, IsOwnSpoil, IsOwnStop, SawRunning, StaysStopped}
+use Rattle.hwp_law_served.specs.Rows.{notes_from, at_number}
+use Rattle.hwp_law_served.specs.Served.{AreRowsActed, CanStop, IsOffliningServed, IsOneOf, IsOwnSpoil, IsOwnStop, SawRunning, StaysStopped, HasStopped}
 use Rattle.hwp_cpu.specs.declared.processor.Processor.{Processor}
-use Rattle.hwp_cpu.specs.Processors.{IsReady, Next, Shows, aborts, at_number, bare, claims, class, cost, plan, put, who}
-
--- some command was answered `stopped`
-abbrev pub HasStopped : List Row → Type 0
-HasStopped rows = (i : ℕ) × (row : Row) × (slice_get rows i ≡ Some row) × (row.answer ≡ answers.Stopped)
+use Rattle.hwp_cpu.specs.Processors.{IsReady, Next, Shows, aborts, bare, claims, class, cost, plan, put, who}
 
 -- what the processor's view lists of marks and policies is of its first n commands
 pub record IsListed (view : View) (cpu : Cpu) (n : ℕ) : Type 0 where

@@ -25,6 +25,7 @@ pub mod deeds
 pub mod losses
 pub mod copied
 pub mod HadStates
+pub mod Rows
 pub use Rattle.hwp_law_run.proofs.of_hwp_core_rule as of_hwp_core_rule
 pub use Rattle.hwp_law_run.proofs as of_hwp_law_run
 pub use Rattle.hwp_scrub.proofs as of_hwp_scrub

@@ -23,6 +23,10 @@ use Rattle.hwp_cpu_row.specs.Acts.{Act, Offlined, Told, acts, event_at}
 use Rattle.hwp_cpu_row.specs.hwp_cpu_check.declared.EventOutcome.{EventOutcome}
 use Rattle.hwp_cpu_row.specs.hwp_cpu_check.Told.{frame_of}
 
+-- the command of this number of the processor
+abbrev pub at_number : Cpu → ℕ → Who
+at_number cpu n = record { cpu = cpu; seq = n }
+
 -- ---- lines
 
 -- the line of an event that a command told of, and of a frame that was taken out of use beside it

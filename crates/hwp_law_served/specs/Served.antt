@@ -110,6 +110,10 @@ pub record IsOwnStop (layout : Layout) (cpu : Cpu) (list : List Command) (rows :
   pub can : CanStop layout command row.told
   pub answered : IsFirstStopped rows who.seq row
 
+-- some command was answered `stopped`
+abbrev pub HasStopped : List Row → Type 0
+HasStopped rows = (i : ℕ) × (row : Row) × (slice_get rows i ≡ Some row) × (row.answer ≡ answers.Stopped)
+
 -- after its first `stopped` a processor has no other answer
 abbrev pub StaysStopped : List Row → Type 0
 StaysStopped rows = (i j : ℕ) (row later : Row) → i < j → slice_get rows i ≡ Some row → slice_get rows j ≡ Some later → row.answer ≡ answers.Stopped → later.answer ≡ answers.Stopped

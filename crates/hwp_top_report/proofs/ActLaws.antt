@@ -8,7 +8,7 @@ use Rattle.hwp_plain_words.specs.hwp_geom.declared.Who.{Who}
 use Rattle.hwp_cpu_row.specs.declared.Offlining.{Offlining}
 use Rattle.hwp_cpu_row.specs.hwp_cpu_check.declared.EventOutcome.{EventOutcome}
 use Rattle.hwp_cpu_row.specs.Acts.{Offlined, Told, acts, acts_from}
-use Rattle.hwp_cpu.specs.hwp_law_served.Rows.{Note, act_note, own_note, told_note}
+use Rattle.hwp_law_served.specs.Rows.{Note, act_note, own_note, told_note}
 use Rattle.hwp_top_report.specs.Closing.{is_frame_by, is_frame_next}
 
 -- what the acts note behind so many events and so many frames

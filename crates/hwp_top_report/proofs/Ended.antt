@@ -33,13 +33,13 @@ use Rattle.hwp_cpu_row.specs.hwp_report_text.declared.StopCause.TheVariants as c
 use Rattle.hwp_cpu_row.specs.hwp_report_text.Acts.{is_panic, is_stopping}
 use Rattle.hwp_cpu_row.specs.hwp_law_commands.Commands.{arrival_of}
 use Rattle.hwp_cpu_row.specs.hwp_severity.declared.Arrival.{Arrival}
-use Rattle.hwp_cpu.specs.hwp_law_run.Ends.{IsFrameOn, IsStopOn}
+use Rattle.hwp_law_served.specs.hwp_law_run.Ends.{IsFrameOn, IsStopOn}
 use Rattle.hwp_cpu_row.specs.declared.Row.{Row}
 use Rattle.hwp_cpu_row.specs.hwp_cpu_check.declared.EventOutcome.{EventOutcome}
 use Rattle.hwp_cpu_row.specs.hwp_cpu_check.Told.{halts}
-use Rattle.hwp_cpu.specs.hwp_law_served.Rows.{Note, record_of}
-use Rattle.hwp_cpu.specs.hwp_law_served.Runs.{IsCauseOf, notes_of, panic_cause, row_at, severity_cause, told_cause}
-use Rattle.hwp_cpu.specs.hwp_law_served.Served.{CanStop, IsFirstStopped}
+use Rattle.hwp_law_served.specs.Rows.{Note, record_of}
+use Rattle.hwp_law_served.specs.Runs.{IsCauseOf, notes_of, panic_cause, row_at, severity_cause, told_cause}
+use Rattle.hwp_law_served.specs.Served.{CanStop, IsFirstStopped}
 use Rattle.hwp_plain_words.specs.Ends.{AreHistories}
 use Rattle.hwp_top_report.specs.Closing.{AreLinesBy, AreWordsOf, HasStopper, IsClosing, IsEnded, IsHalter, IsLineBy, IsOutcome, IsStopBy, IsStopCause, IsStopper, cause_in, cause_of, lines_of_all}
 use Rattle.hwp_top_report.proofs.Noted.{marks-moved}

@@ -5,6 +5,5 @@ mod LineLaws
 mod RowLines
 mod ActLaws
 pub mod Noted
-pub use Rattle.hwp_cpu.proofs as of_hwp_cpu
-pub use Rattle.hwp_cpu.proofs.of_hwp_law_served as of_hwp_law_served
-pub use Rattle.hwp_cpu.proofs.of_hwp_law_run as of_hwp_law_run
+pub use Rattle.hwp_law_served.proofs as of_hwp_law_served
+pub use Rattle.hwp_law_served.proofs.of_hwp_law_run as of_hwp_law_run

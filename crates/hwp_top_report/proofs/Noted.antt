@@ -19,16 +19,16 @@ use Rattle.hwp_plain_words.specs.hwp_core_rule.Boards.{AreSeated, view_of}
 use Rattle.hwp_cpu_row.specs.hwp_report_text.declared.How.{How}
 use Rattle.hwp_cpu_row.specs.hwp_report_text.declared.How.TheVariants as hows
 use Rattle.hwp_cpu_row.specs.hwp_report_text.declared.MarkLine.{MarkLine}
-use Rattle.hwp_cpu.specs.hwp_law_run.Ends.{AreMarks, IsListed, Tells, cause_of}
-use Rattle.hwp_cpu.proofs.of_hwp_law_run.Homes.{there-is}
-use Rattle.hwp_cpu.specs.hwp_law_served.Accounts.{IsHow, IsLineOf, IsNote}
-use Rattle.hwp_cpu.specs.hwp_law_served.Rows.{Note, lines_of, record_of}
-use Rattle.hwp_cpu.proofs.of_hwp_law_served.RunEnds.{filter-has}
-use Rattle.hwp_cpu.proofs.of_hwp_law_served.PoisonMarks.{paired, partner}
-use Rattle.hwp_cpu.proofs.of_hwp_law_served.lines.FrameRecords.{AreNoted}
-use Rattle.hwp_cpu.proofs.of_hwp_law_served.marks.OrderedLists.{moved-has}
-use Rattle.hwp_cpu.proofs.of_hwp_law_served.Seats.{seat-place}
-use Rattle.hwp_cpu.proofs.of_hwp_law_served.Seen.{filter-is}
+use Rattle.hwp_law_served.specs.hwp_law_run.Ends.{AreMarks, IsListed, Tells, cause_of}
+use Rattle.hwp_law_served.proofs.of_hwp_law_run.Homes.{there-is}
+use Rattle.hwp_law_served.specs.Accounts.{IsHow, IsLineOf, IsNote}
+use Rattle.hwp_law_served.specs.Rows.{Note, lines_of, record_of}
+use Rattle.hwp_law_served.proofs.RunEnds.{filter-has}
+use Rattle.hwp_law_served.proofs.PoisonMarks.{paired, partner}
+use Rattle.hwp_law_served.proofs.lines.FrameRecords.{AreNoted}
+use Rattle.hwp_law_served.proofs.marks.OrderedLists.{moved-has}
+use Rattle.hwp_law_served.proofs.Seats.{seat-place}
+use Rattle.hwp_law_served.proofs.Seen.{filter-is}
 
 -- ---- a member of lists put together is one of some list
 

@@ -7,7 +7,7 @@ use Rattle.std.proofs.lemmas.List.Elements.{filter-append}
 use Rattle.std.proofs.lemmas.Option.{get_or_from_slice_get, none-some, same_Some, slice_get-get_or, slice_get_within}
 use Rattle.hwp_plain_words.specs.hwp_geom.declared.Frame.{Frame}
 use Rattle.hwp_cpu_row.specs.hwp_report_text.declared.MarkLine.{MarkLine}
-use Rattle.hwp_cpu.specs.hwp_law_served.Rows.{Note, lines_of, record_of}
+use Rattle.hwp_law_served.specs.Rows.{Note, lines_of, record_of}
 use Rattle.hwp_top_report.specs.Records.{AreGathered, GoOn, with_note}
 
 append-none : {A : Type 0} (l : List A) → l ++ [] ≡ l

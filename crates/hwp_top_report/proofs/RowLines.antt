@@ -14,10 +14,9 @@ use Rattle.hwp_cpu_row.specs.hwp_report_text.declared.StopCause.{StopCause}
 use Rattle.hwp_cpu_row.specs.declared.Row.{Row}
 use Rattle.hwp_cpu_row.specs.Acts.{acts}
 use Rattle.hwp_cpu_row.specs.hwp_cpu_check.declared.EventOutcome.{EventOutcome}
-use Rattle.hwp_cpu.specs.hwp_law_served.Rows.{Note, act_note, lines_from, notes_from, own_note, row_lines, row_notes}
-use Rattle.hwp_cpu.specs.hwp_law_served.Runs.{notes_of}
-use Rattle.hwp_cpu.specs.Processors.{at_number}
-use Rattle.hwp_cpu.proofs.Rows.{notes-more}
+use Rattle.hwp_law_served.specs.Rows.{Note, act_note, lines_from, notes_from, own_note, row_lines, row_notes, at_number}
+use Rattle.hwp_law_served.specs.Runs.{notes_of}
+use Rattle.hwp_law_served.proofs.Rows.{notes-more}
 use Rattle.hwp_top_report.specs.Closing.{AreTellable, HasStopper, IsFirstStop, IsNamed, IsStopBy, cause_in, command_in}
 
 -- what is so of each member is so of the one at a place

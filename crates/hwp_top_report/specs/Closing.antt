@@ -25,15 +25,15 @@ use Rattle.hwp_cpu_row.specs.hwp_report_text.declared.StopCause.{StopCause}
 use Rattle.hwp_cpu_row.specs.hwp_report_text.declared.StopCause.TheVariants as causes
 use Rattle.hwp_cpu_row.specs.hwp_report_text.Acts.{is_panic}
 use Rattle.hwp_cpu_row.specs.hwp_law_commands.Commands.{arrival_of}
-use Rattle.hwp_cpu.specs.hwp_law_run.Ends.{AreMarks, EndsWith, place_in}
+use Rattle.hwp_law_served.specs.hwp_law_run.Ends.{AreMarks, EndsWith, place_in}
 use Rattle.hwp_cpu_row.specs.hwp_claim.declared.Found.{Found}
 use Rattle.hwp_cpu_row.specs.declared.Offlining.{Offlining}
 use Rattle.hwp_cpu_row.specs.declared.Row.{Row}
 use Rattle.hwp_cpu_row.specs.hwp_cpu_check.declared.EventOutcome.{EventOutcome}
 use Rattle.hwp_cpu_row.specs.hwp_cpu_check.Told.{frame_of}
-use Rattle.hwp_cpu.specs.hwp_law_served.Rows.{Note, lines_from, record_of}
-use Rattle.hwp_cpu.specs.hwp_law_served.Runs.{AreSorted, IsCauseOf, notes_of, row_at, told_cause}
-use Rattle.hwp_cpu.specs.hwp_law_served.Served.{CanStop, IsFirstStopped}
+use Rattle.hwp_law_served.specs.Rows.{Note, lines_from, record_of}
+use Rattle.hwp_law_served.specs.Runs.{AreSorted, IsCauseOf, notes_of, row_at, told_cause}
+use Rattle.hwp_law_served.specs.Served.{CanStop, IsFirstStopped}
 
 -- ---- the lines of processors
 

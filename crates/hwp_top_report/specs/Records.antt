@@ -2,7 +2,7 @@
 use Rattle.std.specs.Prelude.{◌≡◌, ℕ, List, [], ◌∷◌, ◌++◌, Some, length, slice_get, slice_index_or, slice_set}
 use Rattle.hwp_plain_words.specs.hwp_geom.declared.Frame.{Frame}
 use Rattle.hwp_cpu_row.specs.hwp_report_text.declared.MarkLine.{MarkLine}
-use Rattle.hwp_cpu.specs.hwp_law_served.Rows.{Note, lines_of, record_of}
+use Rattle.hwp_law_served.specs.Rows.{Note, lines_of, record_of}
 
 -- a line more in the record of its frame
 abbrev pub with_note : Note → List (List MarkLine) → List (List MarkLine)

@@ -11,7 +11,6 @@ mod stopping;
 mod words;
 
 pub use closing::report;
-pub use hwp_cpu::{Processor, Rows, deal_seats, dismiss, enlist, gather_seats, rows_of};
 pub use hwp_cpu_row::{
     Board, CacheWord, CounterWord, Cpu, Entry, Frame, FrameWord, Kind, Layout, List, MAX_SCRIPT,
     Ops, OutOfMemory, Page, PageWord, PolicyWord, ProcessWord, Pte, Report, Row, Script,

@@ -1,5 +1,5 @@
 ghost use Rattle.std.specs.Prelude.{◌≡◌, ◌++◌, map, IfOk, OnOk};
-ghost use Rattle.hwp_cpu.specs.hwp_law_served.Rows.{end_lines, event_line, guest_at, lines_from, offlined_line, row_lines};
+ghost use Rattle.hwp_law_served.specs.Rows.{end_lines, event_line, guest_at, lines_from, offlined_line, row_lines};
 ghost use Rattle.hwp_top_report.specs.Closing.{AreTellable, IsTellable, lines_of_all};
 
 use hwp_cpu_row::{

@@ -1,5 +1,5 @@
 ghost use Rattle.std.specs.Prelude.{◌≡◌, [], replicate, IfOk, OnOk};
-ghost use Rattle.hwp_cpu.specs.hwp_law_served.Runs.{AreSorted, place_in};
+ghost use Rattle.hwp_law_served.specs.Runs.{AreSorted, place_in};
 ghost use Rattle.hwp_top_report.specs.Records.{AreGathered, GoOn, with_note};
 
 use hwp_cpu_row::{Frame, List, MarkLine, OutOfMemory};

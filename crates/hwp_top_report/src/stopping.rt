@@ -5,8 +5,8 @@ ghost use Rattle.hwp_cpu_row.specs.hwp_report_text.declared.Answer.TheVariants a
 ghost use Rattle.hwp_plain_words.specs.hwp_core_rule.Lists.{EachMember};
 ghost use Rattle.hwp_cpu_row.specs.hwp_report_text.Acts.{is_panic, is_stopping};
 ghost use Rattle.hwp_cpu_row.specs.hwp_law_commands.Commands.{arrival_of};
-ghost use Rattle.hwp_cpu.specs.hwp_law_served.Runs.{panic_cause, severity_cause, told_cause};
-ghost use Rattle.hwp_cpu.specs.Serving.{HasStopped};
+ghost use Rattle.hwp_law_served.specs.Runs.{panic_cause, severity_cause, told_cause};
+ghost use Rattle.hwp_law_served.specs.Served.{HasStopped};
 ghost use Rattle.hwp_top_report.specs.Closing.{AreTellable, HasStopper, IsFirstStop, IsNamed, IsStopBy, IsTellable, cause_in, command_in, own_cause};
 
 use crate::notes::frame_of;

@@ -23,10 +23,10 @@ use Rattle.hwp_top_report.proofs.of_hwp_law_run.Homes.{there-is}
 use Rattle.hwp_top_report.proofs.of_hwp_law_run.RunKeeps.{kept-ordered}
 use Rattle.hwp_top_report.specs.hwp_cpu_row.declared.Row.{Row}
 use Rattle.hwp_top_report.specs.hwp_law_served.Runs.{HaveServed}
-use Rattle.hwp_top_report.specs.hwp_cpu.declared.Processor.{Processor}
-use Rattle.hwp_top_report.specs.hwp_cpu.Processors.{AreCommands, AreFinished, AtBeginning}
-use Rattle.hwp_top_report.specs.hwp_cpu.Serving.{Fits}
-use Rattle.hwp_top_report.proofs.of_hwp_cpu.Ends.{opening-fits, opening-own}
+use Rattle.hwp_cpu.specs.declared.Processor.{Processor}
+use Rattle.hwp_cpu.specs.Processors.{AreCommands, AreFinished, AtBeginning}
+use Rattle.hwp_cpu.specs.Serving.{Fits}
+use Rattle.hwp_cpu.proofs.Ends.{opening-fits, opening-own}
 use Rattle.hwp_top_report.specs.Closing.{lines_of_all}
 use Rattle.hwp_top_turns.proofs.ProcessorServes.{Keeps, begins-kept, next-kept, served-kept}
 use Rattle.hwp_top_turns.specs.Runs.{AreAtBeginning, own_seat, processors}

@@ -9,7 +9,7 @@ mod SwappedMarks
 mod Tabled
 pub mod ProcessorServes
 pub use Rattle.hwp_table_words.proofs.of_hwp_core_rule as of_hwp_core_rule
-pub use Rattle.hwp_top_report.proofs.of_hwp_cpu as of_hwp_cpu
+pub use Rattle.hwp_cpu.proofs as of_hwp_cpu
 pub use Rattle.hwp_law_holds.proofs as of_hwp_law_holds
 pub use Rattle.hwp_top_report.proofs.of_hwp_law_served as of_hwp_law_served
 pub use Rattle.hwp_top_report.proofs.of_hwp_law_run as of_hwp_law_run

@@ -17,9 +17,9 @@ use Rattle.hwp_top_report.proofs.of_hwp_law_run.RunKeeps.{same-ordered}
 use Rattle.hwp_top_report.proofs.of_hwp_law_run.TurnLeads.{leads-hold, leads-ordered}
 use Rattle.hwp_top_report.specs.hwp_cpu_row.declared.Row.{Row}
 use Rattle.hwp_law_holds.proofs.Settled.{settled-when-over}
-use Rattle.hwp_top_report.specs.hwp_cpu.declared.Processor.{Processor}
-use Rattle.hwp_top_report.proofs.of_hwp_cpu.ProcessorTells.{tells}
-use Rattle.hwp_top_report.specs.hwp_cpu.Processors.{AreFinished}
+use Rattle.hwp_cpu.specs.declared.Processor.{Processor}
+use Rattle.hwp_cpu.proofs.ProcessorTells.{tells}
+use Rattle.hwp_cpu.specs.Processors.{AreFinished}
 use Rattle.hwp_top_turns.specs.Runs.{AreAtBeginning, IsOpened, IsPlayed, own_seat, processors}
 use Rattle.hwp_top_turns.proofs.Crews.{all-served, begin-crew, finished-length}
 

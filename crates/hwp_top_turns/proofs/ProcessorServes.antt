@@ -18,10 +18,10 @@ use Rattle.hwp_top_report.specs.hwp_cpu_row.declared.Row.{Row}
 use Rattle.hwp_top_report.specs.hwp_law_served.Rows.{lines_from}
 use Rattle.hwp_top_report.specs.hwp_law_served.Runs.{HaveServed}
 use Rattle.hwp_top_report.specs.hwp_law_served.Served.{HasServed}
-use Rattle.hwp_top_report.specs.hwp_cpu.declared.Processor.{Processor}
-use Rattle.hwp_top_report.specs.hwp_cpu.Processors.{AreFinished, Next, bare}
-use Rattle.hwp_top_report.specs.hwp_cpu.Serving.{Fits}
-use Rattle.hwp_top_report.proofs.of_hwp_cpu.Ends.{next-keeps, served-of}
+use Rattle.hwp_cpu.specs.declared.Processor.{Processor}
+use Rattle.hwp_cpu.specs.Processors.{AreFinished, Next, bare}
+use Rattle.hwp_cpu.specs.Serving.{Fits}
+use Rattle.hwp_cpu.proofs.Ends.{next-keeps, served-of}
 use Rattle.hwp_top_report.specs.Closing.{lines_of_all}
 use Rattle.hwp_top_turns.specs.Runs.{AreAtBeginning, own_seat}
 

@@ -23,9 +23,9 @@ use Rattle.hwp_top_report.specs.hwp_law_run.Run.{CoreRun}
 use Rattle.hwp_top_report.specs.hwp_law_run.Turns.{Leads}
 use Rattle.hwp_top_report.specs.hwp_cpu_row.declared.Row.{Row}
 use Rattle.hwp_top_report.specs.hwp_law_served.Runs.{AreRecords, HaveServed, notes_of}
-use Rattle.hwp_top_report.specs.hwp_cpu.declared.Processor.{Processor}
-use Rattle.hwp_top_report.specs.hwp_cpu.Processors.{AreFinished, AtBeginning}
-use Rattle.hwp_top_report.specs.hwp_cpu.Serving as serving
+use Rattle.hwp_cpu.specs.declared.Processor.{Processor}
+use Rattle.hwp_cpu.specs.Processors.{AreFinished, AtBeginning}
+use Rattle.hwp_cpu.specs.Serving as serving
 use Rattle.hwp_top_report.specs.Closing.{IsClosing, lines_of_all}
 
 -- a processor as a task

@@ -2,7 +2,8 @@ ghost use Rattle.std.specs.Prelude.{IfOk};
 ghost use Rattle.hwp_plain.specs.hwp_script_read.Valid.{IsValid};
 ghost use Rattle.hwp_top_turns.specs.Runs.{AreAtBeginning};
 
-use hwp_top_report::{Cpu, OutOfMemory, Processor, Script, dismiss, enlist};
+use hwp_cpu::{Processor, dismiss, enlist};
+use hwp_top_report::{Cpu, OutOfMemory, Script};
 use std::alloc::Global;
 use std::sync::Arc;
 

@@ -5,8 +5,9 @@ ghost use Rattle.hwp_plain.specs.hwp_script_read.Valid.{IsValid};
 ghost use Rattle.hwp_top_turns.specs.Runs.{IsCoreRun, IsPlayed, IsReportOf};
 
 use crate::playing::play;
+use hwp_cpu::Rows;
 use hwp_plain::PlainBoard;
-use hwp_top_report::{OutOfMemory, Report, Rows, Script, report};
+use hwp_top_report::{OutOfMemory, Report, Script, report};
 use std::alloc::Global;
 
 /// The report of a run in turns that was made on a plain board.

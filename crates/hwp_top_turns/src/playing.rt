@@ -3,8 +3,9 @@ ghost use Rattle.hwp_plain.specs.hwp_script_read.Valid.{IsValid};
 ghost use Rattle.hwp_top_turns.specs.Runs.{IsOpened, IsPlayed};
 
 use crate::crew::crew_of;
+use hwp_cpu::{Rows, dismiss, rows_of};
 use hwp_plain::step_all;
-use hwp_top_report::{Board, OutOfMemory, Rows, Script, dismiss, rows_of};
+use hwp_top_report::{Board, OutOfMemory, Script};
 use std::alloc::Global;
 
 /// All turns of a script's processors on a board at opening, in the order of its schedule: the rows of each processor.

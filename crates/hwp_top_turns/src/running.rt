@@ -10,11 +10,11 @@ ghost use Rattle.hwp_top_turns.specs.Caches.{IsCachedEnd};
 ghost use Rattle.hwp_top_turns.specs.Runs.{HasEndedAt, IsCoreRun, IsFinished, IsTablePlayed, IsTableRun, KnowsRun};
 
 use crate::playing::play;
+use hwp_cpu::Rows;
 use hwp_table::{OfTable, SeatBoard};
 use hwp_table_words::{Ended, Pass, Sheet, Slot, Ways, begin, close};
 use hwp_top_report::{
-    Entry, Layout, List, OutOfMemory, Page, Report, Rows, Script, SharedWord, histories, index,
-    report,
+    Entry, Layout, List, OutOfMemory, Page, Report, Script, SharedWord, histories, index, report,
 };
 use std::alloc::{AllocError, Global};
 use std::marker::Brand;

@@ -1,5 +1,5 @@
 use Rattle.std.proofs.Common.{◌≡◌, ◌++◌, map, take}
-use Rattle.hwp_cpu.specs.hwp_law_served.Rows.{event_line}
+use Rattle.hwp_law_served.specs.Rows.{event_line}
 use Rattle.hwp_top_report.proofs.lines.add_events.Given as goal
 
 abbrev pub invariant-loop-event : goal.invariant-loop-event

@@ -1,5 +1,5 @@
 use Rattle.std.proofs.Common.{◌≡◌, ◌++◌, map, take}
-use Rattle.hwp_cpu.specs.hwp_law_served.Rows.{offlined_line}
+use Rattle.hwp_law_served.specs.Rows.{offlined_line}
 use Rattle.hwp_top_report.proofs.lines.add_offlined.Given as goal
 
 abbrev pub invariant-loop-offlining : goal.invariant-loop-offlining

@@ -1,5 +1,5 @@
 use Rattle.std.proofs.Common.{◌∙◌, ap}
-use Rattle.hwp_cpu.specs.hwp_law_served.Rows.{notes_from}
+use Rattle.hwp_law_served.specs.Rows.{notes_from}
 use Rattle.hwp_top_report.proofs.RowLines.{lists-next}
 use Rattle.hwp_top_report.proofs.notes.all_notes.Goals as goal
 

@@ -1,5 +1,5 @@
 use Rattle.std.proofs.Common.{◌≡◌, take}
-use Rattle.hwp_cpu.specs.hwp_law_served.Runs.{notes_of}
+use Rattle.hwp_law_served.specs.Runs.{notes_of}
 use Rattle.hwp_top_report.proofs.notes.all_notes.Given as goal
 
 abbrev pub invariant-loop-cpu : goal.invariant-loop-cpu

@@ -1,5 +1,5 @@
 use Rattle.std.proofs.Common.{◌≡◌, take}
-use Rattle.hwp_cpu.specs.hwp_law_served.Rows.{notes_from}
+use Rattle.hwp_law_served.specs.Rows.{notes_from}
 use Rattle.hwp_top_report.proofs.notes.notes_from.Given as goal
 
 abbrev pub invariant-loop-number : goal.invariant-loop-number

@@ -2,7 +2,7 @@ use Rattle.std.proofs.Common.{◌∙◌, rules, subst, sym, List}
 use Rattle.std.specs.List.Sorted.{IsPermutation}
 use Rattle.std.proofs.lemmas.List.Sorted.{IsNonDecreasingBy-from_sort_by_key}
 use Rattle.hwp_cpu_row.specs.hwp_report_text.declared.MarkLine.{MarkLine}
-use Rattle.hwp_cpu.specs.hwp_law_served.Runs.{AreSorted, place_in}
+use Rattle.hwp_law_served.specs.Runs.{AreSorted, place_in}
 use Rattle.hwp_top_report.proofs.records.ordered.Goals as goal
 
 pub returns : goal.returns

@@ -2,7 +2,7 @@ use Rattle.std.proofs.Common.{Some, ◌∙◌, ap, sym}
 use Rattle.std.specs.Prelude.{option_map}
 use Rattle.hwp_cpu_row.specs.hwp_report_text.declared.StopCause.TheVariants as causes
 use Rattle.hwp_cpu_row.specs.hwp_report_text.Acts.{is_panic}
-use Rattle.hwp_cpu.specs.hwp_law_served.Runs.{panic_cause}
+use Rattle.hwp_law_served.specs.Runs.{panic_cause}
 use Rattle.hwp_top_report.specs.Closing.{IsNamed}
 use Rattle.hwp_top_report.proofs.RowLines.{each-at, found-here, found-not}
 use Rattle.hwp_top_report.proofs.stopping.panic_cause.Goals as goal

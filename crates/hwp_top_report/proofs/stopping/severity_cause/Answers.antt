@@ -1,7 +1,7 @@
 use Rattle.std.proofs.Common.{◌∙◌, ap, sym}
 use Rattle.std.specs.Prelude.{option_map}
 use Rattle.hwp_cpu_row.specs.hwp_report_text.Acts.{is_stopping}
-use Rattle.hwp_cpu.specs.hwp_law_served.Runs.{severity_cause}
+use Rattle.hwp_law_served.specs.Runs.{severity_cause}
 use Rattle.hwp_top_report.proofs.RowLines.{found-here, found-not}
 use Rattle.hwp_top_report.proofs.stopping.severity_cause.Goals as goal
 

@@ -4,8 +4,8 @@ use Rattle.std.proofs.lemmas.List.{length-append}
 use Rattle.hwp_table_words.specs.hwp_geom.declared.Layout.{Layout}
 use Rattle.hwp_plain.specs.hwp_script_read.declared.Command.{Command}
 use Rattle.hwp_plain.specs.hwp_plain_order.Order.{cpu_of}
-use Rattle.hwp_top_report.specs.hwp_cpu.declared.Processor.{Processor}
-use Rattle.hwp_top_report.specs.hwp_cpu.Processors.{AreCommands, AtBeginning}
+use Rattle.hwp_cpu.specs.declared.Processor.{Processor}
+use Rattle.hwp_cpu.specs.Processors.{AreCommands, AtBeginning}
 use Rattle.hwp_top_turns.proofs.Crews.{AreBegun, begun-more, commands-at}
 use Rattle.hwp_top_turns.proofs.crew.crew_of.Goals as goal
 

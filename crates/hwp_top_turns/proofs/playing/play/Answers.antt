@@ -1,8 +1,8 @@
 use Rattle.std.proofs.Common.{◌≡◌, ◌++◌, List, length, take, drop, arith, subst}
 use Rattle.std.proofs.lemmas.Result.{IfOk-weaker}
 use Rattle.hwp_plain.specs.hwp_plain_order.Order.{running}
-use Rattle.hwp_top_report.specs.hwp_cpu.declared.Processor.{Processor}
-use Rattle.hwp_top_report.specs.hwp_cpu.Processors.{AreFinished}
+use Rattle.hwp_cpu.specs.declared.Processor.{Processor}
+use Rattle.hwp_cpu.specs.Processors.{AreFinished}
 use Rattle.hwp_top_turns.specs.Runs.{IsPlayed}
 use Rattle.hwp_top_turns.proofs.Played.{all-played, crew-opened, layout-is, written-back}
 use Rattle.hwp_top_turns.proofs.playing.play.Goals as goal

@@ -15,12 +15,10 @@ use Rattle.hwp_cpu_row.proofs.of_hwp_core_rule.Lists.{at_longer, at_push}
 use Rattle.hwp_cpu_row.specs.declared.Row.{Row}
 use Rattle.hwp_cpu_row.specs.hwp_banks.Banks.{Banks}
 use Rattle.hwp_law_served.specs.Handles.{answers_by}
-use Rattle.hwp_law_served.specs.Rows.{Note, notes_from, row_notes}
-use Rattle.hwp_law_served.specs.Served.{AreRowsActed, IsOwnSpoil, IsOwnStop, IsRowServed, StaysStopped}
+use Rattle.hwp_law_served.specs.Rows.{Note, notes_from, row_notes, at_number}
+use Rattle.hwp_law_served.specs.Served.{AreRowsActed, IsOwnSpoil, IsOwnStop, IsRowServed, StaysStopped, HasStopped}
 use Rattle.hwp_law_served.proofs.lines.ScrubBank.{with-free}
-use Rattle.hwp_cpu_command.specs.hwp_scrub.Visits.{AreBanks}
-use Rattle.hwp_cpu.specs.Processors.{at_number}
-use Rattle.hwp_cpu.specs.Serving.{HasStopped}
+use Rattle.hwp_scrub.specs.Visits.{AreBanks}
 
 -- what a longer list has within a front of it, the front has
 pub at_front : {A : Type 0} (l m : List A) (i : ℕ) (a : A) → i < length l → slice_get (l ++ m) i ≡ Some a → slice_get l i ≡ Some a
