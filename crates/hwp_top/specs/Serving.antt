@@ -5,7 +5,7 @@ use Rattle.hwp_top_threads.specs.hwp_script_read.declared.Script.{Script}
 use Rattle.hwp_top_threads.specs.hwp_report_text.declared.Report.{Report}
 use Rattle.hwp_top_threads.specs.hwp_report_text.ReportText.{report_text}
 use Rattle.hwp_top_threads.specs.hwp_table_words.Ends.{EndValue}
-use Rattle.hwp_top_threads.specs.hwp_top_turns.Caches.{IsCachedEnd}
+use Rattle.hwp_top_threads.specs.hwp_top_turns.hwp_top_report.Caches.{IsCachedEnd}
 use Rattle.hwp_top_step.specs.Outputs.{tlb_entries}
 use Rattle.hwp_top_step.specs.Serving.{end_at}
 use Rattle.hwp_top_step.specs.Top.{done_status}

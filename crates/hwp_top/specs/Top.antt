@@ -6,7 +6,7 @@ use Rattle.hwp_top_threads.specs.hwp_report_text.ReportText.{report_text}
 use Rattle.hwp_top_threads.specs.hwp_law.Law.{IsLawful}
 use Rattle.hwp_top_threads.specs.hwp_law.Runs.{IsOfRun}
 use Rattle.hwp_top_threads.specs.hwp_table_words.Ends.{EndValue}
-use Rattle.hwp_top_threads.specs.hwp_top_turns.Caches.{IsCachedEnd}
+use Rattle.hwp_top_threads.specs.hwp_top_turns.hwp_top_report.Caches.{IsCachedEnd}
 use Rattle.hwp_top_threads.specs.Runs.{IsThreadRun}
 use Rattle.hwp_top_step.specs.Outputs.{HasRun, tlb_entries}
 use Rattle.hwp_top_step.specs.Top.{Takes, done_status}

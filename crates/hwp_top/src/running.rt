@@ -3,7 +3,7 @@ ghost use Rattle.std.specs.Prelude.{◌≡◌, ◌<◌, true, false, IfOk, IsErr
 ghost use Rattle.hwp_top_threads.specs.hwp_script_read.declared.Refused.{Refused};
 ghost use Rattle.hwp_top_threads.specs.hwp_report_text.ReportText.{report_text};
 ghost use Rattle.hwp_top_step.specs.Top.{Refuses};
-ghost use Rattle.hwp_top_threads.specs.hwp_top_turns.Caches.{IsCachedEnd};
+ghost use Rattle.hwp_top_threads.specs.hwp_top_turns.hwp_top_report.Caches.{IsCachedEnd};
 ghost use Rattle.hwp_top.specs.Top.{IsThreadedOf, Reports};
 
 use hwp_io::Source;

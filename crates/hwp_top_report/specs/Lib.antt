@@ -1,5 +1,7 @@
 pub mod Closing
 pub mod Records
+pub mod Finishes
+pub mod Caches
 pub use Rattle.hwp_cpu_row.specs.hwp_banks as hwp_banks
 pub use Rattle.hwp_cpu_row.specs.hwp_claim as hwp_claim
 pub use Rattle.hwp_cpu_row.specs.hwp_claim_act as hwp_claim_act

@@ -14,7 +14,7 @@ use Rattle.hwp_script.proofs.of_hwp_script_read.OneScript.{one_script}
 use Rattle.hwp_script.proofs.of_hwp_script_read.ReadLaws.{apart}
 use Rattle.hwp_report.specs.hwp_report_text.declared.Report.{Report}
 use Rattle.hwp_top_turns.specs.hwp_table_words.Ends.{EndValue}
-use Rattle.hwp_top_turns.specs.Caches.{IsCachedEnd}
+use Rattle.hwp_top_turns.specs.hwp_top_report.Caches.{IsCachedEnd}
 use Rattle.hwp_top_step.specs.declared.served.Call.{Call}
 use Rattle.hwp_top_step.specs.declared.served.Call.TheVariants as calls
 use Rattle.hwp_top_step.specs.Calls.{IsCall, IsNoCall, IsStep}

@@ -11,7 +11,7 @@ use Rattle.hwp_report.specs.hwp_report_text.ReportText.{report_text}
 use Rattle.hwp_report.specs.Counts.{summary_of}
 use Rattle.hwp_report.specs.SummaryText.{summary_text}
 use Rattle.hwp_top_turns.specs.hwp_table_words.Ends.{EndValue}
-use Rattle.hwp_top_turns.specs.Caches.{IsCachedEnd}
+use Rattle.hwp_top_turns.specs.hwp_top_report.Caches.{IsCachedEnd}
 use Rattle.hwp_top_step.specs.declared.served.Call.{Call}
 use Rattle.hwp_top_step.specs.declared.served.Call.TheVariants as calls
 use Rattle.hwp_top_step.specs.Calls.{IsCall}

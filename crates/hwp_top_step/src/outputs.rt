@@ -4,7 +4,7 @@ ghost use Rattle.hwp_script.specs.hwp_script_read.declared.Refused.{Refused};
 ghost use Rattle.hwp_report.specs.hwp_report_text.ReportText.{report_text};
 ghost use Rattle.hwp_top_step.specs.Outputs.{HasRun, IsGenerated, IsOutputOf, IsRefusedFor, IsSummed};
 ghost use Rattle.hwp_top_step.specs.Top.{Refuses, Reports, done_status};
-ghost use Rattle.hwp_top_turns.specs.Caches.{IsCachedEnd};
+ghost use Rattle.hwp_top_turns.specs.hwp_top_report.Caches.{IsCachedEnd};
 
 use crate::checking::checked;
 use crate::inputs::{InputFault, take_script};

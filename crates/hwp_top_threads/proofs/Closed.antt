@@ -28,9 +28,9 @@ use Rattle.hwp_threads_seats.specs.hwp_table_words.Known.{Known, moves_by}
 use Rattle.hwp_threads_seats.specs.hwp_table_words.Stands.{Content}
 use Rattle.hwp_top_turns.specs.hwp_top_report.Closing.{IsClosing}
 use Rattle.hwp_top_turns.specs.hwp_cpu.Processors.{AreFinished}
-use Rattle.hwp_top_turns.specs.Runs.{HasEnded, HasEndedAt, IsFinished, own_seat}
-use Rattle.hwp_top_turns.proofs.Came.{last-bare}
-use Rattle.hwp_top_turns.proofs.Whole.{lines-served, records-noted, run-of}
+use Rattle.hwp_top_turns.specs.hwp_top_report.Finishes.{HasEnded, HasEndedAt, IsFinished, own_seat}
+use Rattle.hwp_top_turns.proofs.of_hwp_top_report.Came.{last-bare}
+use Rattle.hwp_top_turns.proofs.of_hwp_top_report.RunLaws.{lines-served, records-noted, run-of}
 use Rattle.hwp_top_threads.specs.Runs.{AreDone, HaveRun, IsThreadPlayed, IsThreadRun, tasks_then}
 use Rattle.hwp_top_threads.proofs.Ended.{InTurns, all-ended, in-order}
 use Rattle.hwp_top_turns.proofs.ProcessorServes.{finished-over}

@@ -37,7 +37,8 @@ use Rattle.hwp_top_turns.specs.hwp_cpu.Processors.{plan, plan_of}
 use Rattle.hwp_top_turns.specs.hwp_cpu.Serving.{Fits}
 use Rattle.hwp_top_turns.proofs.of_hwp_cpu.ProcessorCosts.{ranked}
 use Rattle.hwp_top_turns.proofs.of_hwp_cpu.ProcessorTells.{tells}
-use Rattle.hwp_top_turns.specs.Runs.{HasEnded, own_seat, processors}
+use Rattle.hwp_top_turns.specs.hwp_top_report.Finishes.{HasEnded, own_seat}
+use Rattle.hwp_top_turns.specs.Runs.{processors}
 use Rattle.hwp_top_turns.proofs.Crews.{begin-crew, finished-length}
 use Rattle.hwp_top_threads.specs.Runs.{AreDone, moves_in, tasks_then}
 use Rattle.hwp_top_turns.proofs.ProcessorServes.{Keeps, begins-kept, finished-over, next-kept, served-kept}

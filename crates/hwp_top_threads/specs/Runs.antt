@@ -28,7 +28,8 @@ use Rattle.hwp_top_turns.specs.hwp_cpu.Serving.{Fits}
 use Rattle.hwp_threads_seats.specs.hwp_table_words.Ends.{EndValue, HasAll, board_of}
 use Rattle.hwp_threads_seats.specs.hwp_table_words.Known.{Known, moves_by}
 use Rattle.hwp_top_turns.specs.hwp_cpu.Processors.{AreFinished}
-use Rattle.hwp_top_turns.specs.Runs.{AreAtBeginning, own_seat, processors}
+use Rattle.hwp_top_turns.specs.hwp_top_report.Finishes.{own_seat}
+use Rattle.hwp_top_turns.specs.Runs.{AreAtBeginning, processors}
 
 -- a processor's run began at the opening, with the task of the processor, and the task that it led to fits
 pub record IsBegun (script : Script) (tasks : List Processor) (cpu : ℕ) (o : Own Processor) : Type 0 where

@@ -4,7 +4,7 @@ ghost use Rattle.hwp_top_turns.specs.hwp_law.Runs.{IsOfRun};
 ghost use Rattle.hwp_top_turns.specs.hwp_script_read.Valid.{IsValid};
 ghost use Rattle.hwp_threads_seats.specs.hwp_table_words.Known.{first_knowing};
 ghost use Rattle.hwp_threads_seats.specs.hwp_table_words.Seats.{IsTableOf};
-ghost use Rattle.hwp_top_turns.specs.Caches.{IsCachedEnd};
+ghost use Rattle.hwp_top_turns.specs.hwp_top_report.Caches.{IsCachedEnd};
 ghost use Rattle.hwp_top_threads.specs.Runs.{HaveRun, IsThreadPlayed, IsThreadRun};
 
 use hwp_threads::{Gate, run_all};

@@ -29,7 +29,8 @@ use Rattle.hwp_cpu.specs.Serving.{Fits}
 use Rattle.hwp_cpu.proofs.Ends.{opening-fits, opening-own}
 use Rattle.hwp_top_report.specs.Closing.{lines_of_all}
 use Rattle.hwp_top_turns.proofs.ProcessorServes.{Keeps, begins-kept, next-kept, served-kept}
-use Rattle.hwp_top_turns.specs.Runs.{AreAtBeginning, own_seat, processors}
+use Rattle.hwp_top_report.specs.Finishes.{own_seat}
+use Rattle.hwp_top_turns.specs.Runs.{AreAtBeginning, processors}
 
 -- ---- the commands of a processor
 

@@ -1,11 +1,6 @@
-pub mod Closable
 pub mod Crews
-pub mod Led
 pub mod Played
-pub mod Came
 pub mod Whole
-pub mod CachedEnds
-mod SwappedMarks
 mod Tabled
 pub mod ProcessorServes
 pub use Rattle.hwp_table_words.proofs.of_hwp_core_rule as of_hwp_core_rule
@@ -15,3 +10,4 @@ pub use Rattle.hwp_top_report.proofs.of_hwp_law_served as of_hwp_law_served
 pub use Rattle.hwp_top_report.proofs.of_hwp_law_run as of_hwp_law_run
 pub use Rattle.hwp_plain.proofs as of_hwp_plain
 pub use Rattle.hwp_plain.proofs.of_hwp_script_read as of_hwp_script_read
+pub use Rattle.hwp_top_report.proofs as of_hwp_top_report

@@ -20,7 +20,8 @@ use Rattle.hwp_law_holds.proofs.Settled.{settled-when-over}
 use Rattle.hwp_cpu.specs.declared.Processor.{Processor}
 use Rattle.hwp_cpu.proofs.ProcessorTells.{tells}
 use Rattle.hwp_cpu.specs.Processors.{AreFinished}
-use Rattle.hwp_top_turns.specs.Runs.{AreAtBeginning, IsOpened, IsPlayed, own_seat, processors}
+use Rattle.hwp_top_report.specs.Finishes.{own_seat}
+use Rattle.hwp_top_turns.specs.Runs.{AreAtBeginning, IsOpened, IsPlayed, processors}
 use Rattle.hwp_top_turns.proofs.Crews.{all-served, begin-crew, finished-length}
 
 module _ (script : Script) (layout : Layout) (seat : Cpu → ℕ) (state : State) (log : List Played) (opened : IsOpened script layout seat state log) (tasks ps : List Processor) (same : ps ≡ tasks) where

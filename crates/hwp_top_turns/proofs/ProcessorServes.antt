@@ -23,7 +23,8 @@ use Rattle.hwp_cpu.specs.Processors.{AreFinished, Next, bare}
 use Rattle.hwp_cpu.specs.Serving.{Fits}
 use Rattle.hwp_cpu.proofs.Ends.{next-keeps, served-of}
 use Rattle.hwp_top_report.specs.Closing.{lines_of_all}
-use Rattle.hwp_top_turns.specs.Runs.{AreAtBeginning, own_seat}
+use Rattle.hwp_top_report.specs.Finishes.{own_seat}
+use Rattle.hwp_top_turns.specs.Runs.{AreAtBeginning}
 
 -- a processor has its number and its commands
 pub record Keeps (script : Script) (cpu : ℕ) (p : Processor) : Type 0 where

@@ -1,4 +1,3 @@
-pub mod Caches
 pub mod Runs
 pub use Rattle.hwp_top_report.specs.hwp_claim as hwp_claim
 pub use Rattle.hwp_top_report.specs.hwp_claim_act as hwp_claim_act

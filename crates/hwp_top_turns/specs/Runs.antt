@@ -1,13 +1,10 @@
 -- The run of a script: the processors' tasks as they begin, how they end, and the law of the report.
 use Rattle.std.specs.Prelude.{◌≡◌, ℕ, List, [], Some, length, map, slice_get}
 use Rattle.hwp_table_words.specs.hwp_geom.declared.Cpu.{Cpu}
-use Rattle.hwp_table_words.specs.hwp_geom.declared.Frame.{Frame}
 use Rattle.hwp_table_words.specs.hwp_geom.declared.Layout.{Layout}
 use Rattle.hwp_table_words.specs.hwp_core_rule.declared.State.{State}
 use Rattle.hwp_table_words.specs.hwp_core_rule.Opening.{opening}
-use Rattle.hwp_table_words.specs.hwp_core_rule.Rule.{Holds}
 use Rattle.hwp_table_words.specs.hwp_core_rule.Boards.{AreSeated, Played}
-use Rattle.hwp_table_words.specs.hwp_core_rule.Ranks.{Pending, words_at}
 use Rattle.hwp_table_words.specs.hwp_core_rule.Turns.{Member}
 use Rattle.hwp_table_words.specs.hwp_plain_words.Openings.{home_with}
 use Rattle.hwp_table_words.specs.Ends.{EndValue, HasAll}
@@ -20,36 +17,21 @@ use Rattle.hwp_top_report.specs.hwp_report_text.declared.Report.{Report}
 use Rattle.hwp_top_report.specs.hwp_law.Law.{IsLawful}
 use Rattle.hwp_top_report.specs.hwp_law.Runs.{IsOfRun}
 use Rattle.hwp_top_report.specs.hwp_law_run.Run.{CoreRun}
-use Rattle.hwp_top_report.specs.hwp_law_run.Turns.{Leads}
 use Rattle.hwp_top_report.specs.hwp_cpu_row.declared.Row.{Row}
 use Rattle.hwp_top_report.specs.hwp_law_served.Runs.{AreRecords, HaveServed, notes_of}
 use Rattle.hwp_cpu.specs.declared.Processor.{Processor}
 use Rattle.hwp_cpu.specs.Processors.{AreFinished, AtBeginning}
 use Rattle.hwp_cpu.specs.Serving as serving
-use Rattle.hwp_top_report.specs.Closing.{IsClosing, lines_of_all}
+use Rattle.hwp_top_report.specs.Finishes.{HasEnded, own_seat}
 
 -- a processor as a task
 abbrev pub processors : Member Processor
 processors = serving.task
 
--- a processor's seat has its number
-abbrev pub own_seat : Cpu → ℕ
-own_seat cpu = cpu.0
-
 -- each task is at the beginning of its processor's list
 pub record AreAtBeginning (script : Script) (tasks : List Processor) : Type 0 where
   pub one_each : length tasks ≡ length script.lists
   pub each : (cpu : Cpu) (list : List Command) (p : Processor) → slice_get script.lists cpu.0 ≡ Some list → slice_get tasks cpu.0 ≡ Some p → AtBeginning script.layout cpu list p
-
--- The turns lead from the opening to this board, on which all commands are served by these rows, and each failure of a frame is
--- ended. It says nothing of the order of the turns.
-pub record HasEnded (script : Script) (turns : List Played) (state : State) (rows : List (List Row)) : Type 0 where
-  pub rule : Holds script.layout (opening script.layout)
-  pub moves : Leads script.layout (opening script.layout) turns state
-  pub seated : AreSeated script.layout state own_seat
-  pub settled : (frame : Frame) (cycle : ℕ) → Pending (words_at script.layout state) frame cycle → ⊥
-  pub served : HaveServed script own_seat state rows (lines_of_all rows)
-  pub count : length rows ≡ script.layout.cpus
 
 -- a board of the script at opening, on which no turn was made
 pub record IsOpened (script : Script) (layout : Layout) (seat : Cpu → ℕ) (state : State) (log : List Played) : Type 0 where
@@ -92,20 +74,6 @@ pub record IsReportOf (script : Script) (log : List Played) (report : Report) : 
   pub log_is : log ≡ logged core.run.turns []
 
 -- ---- at a table
-
--- The table was closed with the words and the bodies of a board on which a run has ended. It says nothing of the order of its turns.
-pub record HasEndedAt (script : Script) (ended : EndValue) (rows : List (List Row)) : Type 0 where
-  pub turns : List Played
-  pub state : State
-  pub run : HasEnded script turns state rows
-  pub layout_is : ended.layout ≡ script.layout
-  pub words_are : ended.words ≡ state.words
-  pub bodies_are : map home_with ended.slots ≡ state.homes
-
--- the report is that of each such board with which the table was closed, and what it was closed with is handed on
-pub record IsFinished (script : Script) (closed : EndValue) (rows : List (List Row)) (report : Report) (ended : EndValue) : Type 0 where
-  pub closing : (at : HasEndedAt script closed rows) → IsClosing script.layout at.state script.lists rows report
-  pub same : ended ≡ closed
 
 -- One seat has the views of all processors, none of which holds anything, and knows the board to which the processors' turns
 -- led, and their moves.

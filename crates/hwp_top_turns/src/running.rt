@@ -1,31 +1,20 @@
-ghost use Rattle.std.specs.Prelude.{◌≡◌, [], length, map, IfOk};
+ghost use Rattle.std.specs.Prelude.{◌≡◌, [], IfOk};
 ghost use Rattle.hwp_top_report.specs.hwp_law.Law.{IsLawful};
 ghost use Rattle.hwp_top_report.specs.hwp_law.Runs.{IsOfRun};
 ghost use Rattle.hwp_plain.specs.hwp_script_read.Valid.{IsValid};
-ghost use Rattle.hwp_table_words.specs.hwp_plain_words.Openings.{home_with};
-ghost use Rattle.hwp_table_words.specs.hwp_plain_words.Ends.{AreHistories};
 ghost use Rattle.hwp_table_words.specs.Known.{first_knowing};
 ghost use Rattle.hwp_table_words.specs.Seats.{IsTableOf};
-ghost use Rattle.hwp_top_turns.specs.Caches.{IsCachedEnd};
-ghost use Rattle.hwp_top_turns.specs.Runs.{HasEndedAt, IsCoreRun, IsFinished, IsTablePlayed, IsTableRun, KnowsRun};
+ghost use Rattle.hwp_top_report.specs.Caches.{IsCachedEnd};
+ghost use Rattle.hwp_top_turns.specs.Runs.{IsCoreRun, IsTablePlayed, IsTableRun, KnowsRun};
 
 use crate::playing::play;
 use hwp_cpu::Rows;
 use hwp_table::{OfTable, SeatBoard};
 use hwp_table_words::{Ended, Pass, Sheet, Slot, Ways, begin, close};
-use hwp_top_report::{
-    Entry, Layout, List, OutOfMemory, Page, Report, Script, SharedWord, histories, index, report,
-};
+use hwp_top_report::{Finished, OutOfMemory, Script, finish_run};
 use std::alloc::{AllocError, Global};
 use std::marker::Brand;
 use std::sync::Arc;
-
-/// What a run came to: its report, and what the table at which it was made was closed with.
-#[derive(Drop)]
-pub struct Finished<W: Ways> {
-    pub report: Report,
-    pub ended: Ended<W>,
-}
 
 /// All turns of a script's processors at a table whose one seat has all there is: that seat again, with what they led to, and the
 /// rows of each processor.
@@ -65,56 +54,6 @@ fn play_at_table<W: Ways>(
     };
     ended.reached();
     Ok((ended, slots, rows))
-}
-
-/// The histories of the bodies of a table that was closed, in the order of the pages.
-fn pages_of<W: Ways>(
-    alloc: Global,
-    ended: &Ended<W>,
-    bodies: Vec<Slot>,
-    layout: &Layout,
-) -> Result<List<List<Entry>>, OutOfMemory>
-    requires layout { ended.now.layout ≡ layout.now }
-    requires bodies { ended.now.slots ≡ bodies.items }
-    ensures count { IfOk result (λ pages. length pages ≡ length layout.now.pages) }
-    ensures pages { IfOk result (λ pages. AreHistories (map home_with ended.now.slots) pages) }
-{
-    ended.reached();
-    let words = ended.words();
-    let from = index(layout, SharedWord::Cache(Page(0)));
-    let caches = &words[from..from + layout.pages.len()];
-    histories(alloc, bodies, usize::from(layout.frames), caches)
-}
-
-/// What a run came to, in whatever order its processors made their turns: the report, which is of the words and the bodies with
-/// which the table was closed and of the processors' rows, and what the table was closed with.
-pub fn finish_run<W: Ways>(
-    alloc: Global,
-    script: &Script,
-    ended: Ended<W>,
-    bodies: Vec<Slot>,
-    rows: &Rows,
-) -> Result<Finished<W>, OutOfMemory>
-    requires valid { IsValid script.now }
-    requires run { HasEndedAt script.now ended rows.now }
-    requires bodies { ended.slots ≡ bodies.items }
-    ensures of_run { IfOk result (λ run. IsOfRun script.now run.report) }
-    ensures lawful { IfOk result (λ run. IsLawful script.now run.report) }
-    ensures closing { IfOk result (λ run. IsFinished script.now ended rows.now run.report run.ended) }
-    ensures caches { IfOk result (λ run. IsCachedEnd W.ways run.ended) }
-{
-    ended.reached();
-    let pages = pages_of(alloc, &ended, bodies, &script.layout)?;
-    let lists = script.lists.as_slice();
-    let report = report(
-        alloc,
-        &script.layout,
-        ended.words(),
-        pages,
-        lists,
-        rows.as_slice(),
-    )?;
-    Ok(Finished { report, ended })
 }
 
 /// The run of a script in turns: its processors make them in the order of the schedule, and then in the finishing order, until each

@@ -2,7 +2,7 @@ use Rattle.std.proofs.Common.{length, ap, ◌∙◌}
 use Rattle.std.proofs.lemmas.Result.{IfOk-weaker}
 use Rattle.hwp_table_words.specs.hwp_geom.declared.Layout.{Layout}
 use Rattle.hwp_top_turns.specs.Runs.{IsReportOf}
-use Rattle.hwp_top_turns.proofs.Came.{Closes, last-bare, last-came, last-told}
+use Rattle.hwp_top_report.proofs.Came.{Closes, last-bare, last-came, last-told}
 use Rattle.hwp_top_turns.proofs.Whole.{reported}
 use Rattle.hwp_top_turns.proofs.plain.report_of.Goals as goal
 

@@ -1,7 +1,7 @@
 use Rattle.std.proofs.Common.{subst}
 use Rattle.hwp_table_words.specs.hwp_geom.declared.Layout.{Layout}
 use Rattle.hwp_table_words.specs.Ends.{HasAll}
-use Rattle.hwp_top_turns.proofs.Came.{last-bare}
+use Rattle.hwp_top_report.proofs.Came.{last-bare}
 use Rattle.hwp_top_turns.proofs.running.seat_all.Goals as goal
 
 pub into_pass-requires : goal.into_pass-requires

@@ -3,7 +3,7 @@ use Rattle.std.proofs.Common.{ℕ, []}
 use Rattle.std.proofs.lemmas.Option.{none-some}
 use Rattle.hwp_table_words.proofs.tlb.Named.{none-handled}
 use Rattle.hwp_table_words.specs.Ends.{EndValue, IsEnd, board_of}
-use Rattle.hwp_top_turns.specs.Caches.{IsCachedEnd}
+use Rattle.hwp_top_report.specs.Caches.{IsCachedEnd}
 
 pub cached-end : (ways : ℕ) (ended : EndValue) → IsEnd ways ended.layout ended.known ended.words ended.slots ended.entries → IsCachedEnd ways ended
 cached-end ways ended end = record {

@@ -8,15 +8,15 @@ use Rattle.hwp_table_words.specs.hwp_core_rule.parts.Holdings.{HoldsNothing}
 use Rattle.hwp_table_words.specs.hwp_core_rule.Boards.{Played}
 use Rattle.hwp_table_words.specs.hwp_plain_words.Openings.{home_with}
 use Rattle.hwp_table_words.specs.hwp_plain_words.Ends.{AreHistories}
-use Rattle.hwp_plain.specs.hwp_script_read.declared.Command.{Command}
-use Rattle.hwp_plain.specs.hwp_script_read.declared.Script.{Script}
-use Rattle.hwp_plain.specs.hwp_script_read.Valid.{IsValid}
-use Rattle.hwp_top_report.specs.hwp_report_text.declared.Report.{Report}
-use Rattle.hwp_top_report.specs.hwp_cpu_row.declared.Row.{Row}
+use Rattle.hwp_cpu_row.specs.hwp_script_read.declared.Command.{Command}
+use Rattle.hwp_cpu_row.specs.hwp_script_read.declared.Script.{Script}
+use Rattle.hwp_cpu_row.specs.hwp_script_read.Valid.{IsValid}
+use Rattle.hwp_cpu_row.specs.hwp_report_text.declared.Report.{Report}
+use Rattle.hwp_cpu_row.specs.declared.Row.{Row}
 use Rattle.hwp_table_words.specs.Ends.{EndValue}
 use Rattle.hwp_top_report.specs.Closing.{IsClosing, IsOutcome}
-use Rattle.hwp_top_turns.specs.Runs.{HasEnded, HasEndedAt}
-use Rattle.hwp_top_turns.proofs.Led.{last-ended, last-holds}
+use Rattle.hwp_top_report.specs.Finishes.{HasEnded, HasEndedAt}
+use Rattle.hwp_top_report.proofs.Led.{last-ended, last-holds}
 
 -- the report is that of each state that came to these words and histories
 abbrev pub Closes : Layout → List ℕ → List (List Entry) → List (List Command) → List (List Row) → Report → Type 0

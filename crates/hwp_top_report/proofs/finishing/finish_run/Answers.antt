@@ -1,8 +1,8 @@
 use Rattle.std.proofs.Common.{refl}
-use Rattle.hwp_top_turns.proofs.CachedEnds.{cached-end}
-use Rattle.hwp_top_turns.proofs.Came.{end-came, end-told}
-use Rattle.hwp_top_turns.proofs.Whole.{run-lawful, run-of-run}
-use Rattle.hwp_top_turns.proofs.running.finish_run.Goals as goal
+use Rattle.hwp_top_report.proofs.CachedEnds.{cached-end}
+use Rattle.hwp_top_report.proofs.Came.{end-came, end-told}
+use Rattle.hwp_top_report.proofs.RunLaws.{run-lawful, run-of-run}
+use Rattle.hwp_top_report.proofs.finishing.finish_run.Goals as goal
 
 pub report-requires : goal.report-requires
 report-requires g c = record {

@@ -4,16 +4,16 @@ use Rattle.hwp_table_words.specs.hwp_core_rule.declared.State.{State}
 use Rattle.hwp_table_words.specs.hwp_core_rule.Opening.{opening}
 use Rattle.hwp_table_words.specs.hwp_core_rule.Rule.{Holds}
 use Rattle.hwp_table_words.specs.hwp_core_rule.Boards.{Played}
-use Rattle.hwp_plain.specs.hwp_script_read.declared.Command.{Command}
-use Rattle.hwp_plain.specs.hwp_script_read.declared.Script.{Script}
-use Rattle.hwp_top_report.proofs.of_hwp_law_run.TurnLeads.{leads-hold}
-use Rattle.hwp_plain.specs.hwp_script_read.Valid.{IsValid}
-use Rattle.hwp_top_report.specs.hwp_cpu_row.declared.Row.{Row}
-use Rattle.hwp_top_report.specs.hwp_law_served.Runs.{notes_of}
-use Rattle.hwp_top_report.proofs.of_hwp_law_served.lines.FrameRecords.{AreNoted}
+use Rattle.hwp_cpu_row.specs.hwp_script_read.declared.Command.{Command}
+use Rattle.hwp_cpu_row.specs.hwp_script_read.declared.Script.{Script}
+use Rattle.hwp_law_served.proofs.of_hwp_law_run.TurnLeads.{leads-hold}
+use Rattle.hwp_cpu_row.specs.hwp_script_read.Valid.{IsValid}
+use Rattle.hwp_cpu_row.specs.declared.Row.{Row}
+use Rattle.hwp_law_served.specs.Runs.{notes_of}
+use Rattle.hwp_law_served.proofs.lines.FrameRecords.{AreNoted}
 use Rattle.hwp_top_report.specs.Closing.{IsEnded}
-use Rattle.hwp_top_turns.specs.Runs.{HasEnded, own_seat}
-use Rattle.hwp_top_turns.proofs.Closable.{are-noted, ended-of}
+use Rattle.hwp_top_report.specs.Finishes.{HasEnded, own_seat}
+use Rattle.hwp_top_report.proofs.Closable.{are-noted, ended-of}
 
 module _ (script : Script) (turns : List Played) (state : State) (rows : List (List Row)) (valid : IsValid script) (ended : HasEnded script turns state rows) where
   pub last-holds : Holds script.layout state

@@ -9,21 +9,21 @@ use Rattle.hwp_table_words.specs.hwp_geom.declared.Who.{Who}
 use Rattle.hwp_table_words.specs.hwp_page.declared.Outcome.TheVariants as outcomes
 use Rattle.hwp_table_words.specs.hwp_page.declared.Situation.{Situation}
 use Rattle.hwp_table_words.specs.hwp_page.declared.Situation.TheVariants as situations
-use Rattle.hwp_top_report.specs.hwp_banks.Events.{bank_of, own_event}
-use Rattle.hwp_top_report.specs.hwp_banks.declared.Origin.TheVariants as origins
-use Rattle.hwp_top_report.specs.hwp_severity.declared.Severity.TheVariants as severities
-use Rattle.hwp_top_report.specs.hwp_report_text.declared.Acted.TheVariants as acts
-use Rattle.hwp_top_report.specs.hwp_report_text.declared.Answer.TheVariants as answers
-use Rattle.hwp_top_report.specs.hwp_report_text.declared.FrameLine.{FrameLine}
-use Rattle.hwp_top_report.specs.hwp_report_text.declared.How.TheVariants as hows
-use Rattle.hwp_top_report.specs.hwp_report_text.declared.MarkLine.{MarkLine}
-use Rattle.hwp_top_report.specs.hwp_report_text.declared.MarkLine.TheVariants as marks
-use Rattle.hwp_top_report.specs.hwp_report_text.declared.Report.{Report}
-use Rattle.hwp_top_report.specs.hwp_report_text.declared.Whereabouts.TheVariants as places
-use Rattle.hwp_top_report.specs.hwp_cpu_check.declared.EventOutcome.{EventOutcome}
-use Rattle.hwp_top_report.specs.hwp_cpu_row.declared.Row.{Row}
-use Rattle.hwp_top_report.specs.hwp_law_served.Rows.{record_of}
-use Rattle.hwp_top_report.specs.hwp_law_served.Runs.{AreRecords, IsRecord, notes_of, place_in}
+use Rattle.hwp_cpu_row.specs.hwp_banks.Events.{bank_of, own_event}
+use Rattle.hwp_cpu_row.specs.hwp_banks.declared.Origin.TheVariants as origins
+use Rattle.hwp_cpu_row.specs.hwp_severity.declared.Severity.TheVariants as severities
+use Rattle.hwp_cpu_row.specs.hwp_report_text.declared.Acted.TheVariants as acts
+use Rattle.hwp_cpu_row.specs.hwp_report_text.declared.Answer.TheVariants as answers
+use Rattle.hwp_cpu_row.specs.hwp_report_text.declared.FrameLine.{FrameLine}
+use Rattle.hwp_cpu_row.specs.hwp_report_text.declared.How.TheVariants as hows
+use Rattle.hwp_cpu_row.specs.hwp_report_text.declared.MarkLine.{MarkLine}
+use Rattle.hwp_cpu_row.specs.hwp_report_text.declared.MarkLine.TheVariants as marks
+use Rattle.hwp_cpu_row.specs.hwp_report_text.declared.Report.{Report}
+use Rattle.hwp_cpu_row.specs.hwp_report_text.declared.Whereabouts.TheVariants as places
+use Rattle.hwp_cpu_row.specs.hwp_cpu_check.declared.EventOutcome.{EventOutcome}
+use Rattle.hwp_cpu_row.specs.declared.Row.{Row}
+use Rattle.hwp_law_served.specs.Rows.{record_of}
+use Rattle.hwp_law_served.specs.Runs.{AreRecords, IsRecord, notes_of, place_in}
 
 abbrev scrub : Who
 scrub = record { cpu = record { 0 = 0 }; seq = 2 }

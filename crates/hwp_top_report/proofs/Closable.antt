@@ -12,35 +12,35 @@ use Rattle.hwp_table_words.specs.hwp_geom.declared.VSlot.{VSlot}
 use Rattle.hwp_table_words.specs.hwp_geom.declared.Who.{Who}
 use Rattle.hwp_table_words.specs.hwp_geom.Pairs.{Pairs}
 use Rattle.hwp_table_words.specs.hwp_geom.Limits.{command_limit, cpu_limit, frame_limit}
-use Rattle.hwp_top_report.specs.hwp_severity.declared.Severity.{Severity}
-use Rattle.hwp_top_report.specs.hwp_severity.declared.Severity.TheVariants as severities
+use Rattle.hwp_cpu_row.specs.hwp_severity.declared.Severity.{Severity}
+use Rattle.hwp_cpu_row.specs.hwp_severity.declared.Severity.TheVariants as severities
 use Rattle.hwp_table_words.specs.hwp_core_rule.declared.State.{State}
 use Rattle.hwp_table_words.specs.hwp_core_rule.declared.View.{View}
 use Rattle.hwp_table_words.specs.hwp_core_rule.Rule.{Holds}
 use Rattle.hwp_table_words.specs.hwp_core_rule.Boards.{AreSeated, view_of}
-use Rattle.hwp_plain.specs.hwp_script_read.declared.Command.{Command}
-use Rattle.hwp_plain.specs.hwp_script_read.declared.Script.{Script}
-use Rattle.hwp_plain.specs.hwp_script_read.Valid.{IsValid}
-use Rattle.hwp_top_report.specs.hwp_report_text.declared.Acted.{Acted}
-use Rattle.hwp_top_report.specs.hwp_report_text.declared.Acted.TheVariants as acts
-use Rattle.hwp_top_report.specs.hwp_report_text.Acts.{is_panic}
-use Rattle.hwp_top_report.specs.hwp_banks.Banks.{empty_banks}
-use Rattle.hwp_top_report.proofs.of_hwp_law_run.Homes.{there-is}
-use Rattle.hwp_top_report.specs.hwp_claim.declared.Found.{Found}
-use Rattle.hwp_top_report.specs.hwp_cpu_row.declared.Row.{Row}
-use Rattle.hwp_top_report.specs.hwp_cpu_check.declared.EventOutcome.{EventOutcome}
-use Rattle.hwp_top_report.specs.hwp_cpu_check.Fits.{IsDone, IsTold}
-use Rattle.hwp_top_report.specs.hwp_cpu_check.Told.{at_once, failure_at_once, frame_of, required_by, severity_at_once}
-use Rattle.hwp_top_report.specs.hwp_law_served.Accounts.{IsNote}
-use Rattle.hwp_top_report.specs.hwp_law_served.Rows.{Note, notes_from}
-use Rattle.hwp_top_report.specs.hwp_law_served.Runs.{HaveServed, notes_of}
-use Rattle.hwp_top_report.specs.hwp_law_served.Served.{HasServed, IsOwnStop, IsServed}
-use Rattle.hwp_top_report.proofs.of_hwp_law_served.RunEnds.{nothing-held, row-at, seat-view}
-use Rattle.hwp_top_report.proofs.of_hwp_law_served.lines.ScrubBank.{empty-free}
-use Rattle.hwp_top_report.proofs.of_hwp_law_served.lines.FrameRecords.{AreNoted}
-use Rattle.hwp_top_report.proofs.of_hwp_law_served.copied.Acted.{acted}
-use Rattle.hwp_top_report.proofs.of_hwp_law_served.copied.CopyTells.{told-so}
-use Rattle.hwp_top_report.proofs.of_hwp_law_served.copied.RunActed.{copies_by, served-alone}
+use Rattle.hwp_cpu_row.specs.hwp_script_read.declared.Command.{Command}
+use Rattle.hwp_cpu_row.specs.hwp_script_read.declared.Script.{Script}
+use Rattle.hwp_cpu_row.specs.hwp_script_read.Valid.{IsValid}
+use Rattle.hwp_cpu_row.specs.hwp_report_text.declared.Acted.{Acted}
+use Rattle.hwp_cpu_row.specs.hwp_report_text.declared.Acted.TheVariants as acts
+use Rattle.hwp_cpu_row.specs.hwp_report_text.Acts.{is_panic}
+use Rattle.hwp_cpu_row.specs.hwp_banks.Banks.{empty_banks}
+use Rattle.hwp_law_served.proofs.of_hwp_law_run.Homes.{there-is}
+use Rattle.hwp_cpu_row.specs.hwp_claim.declared.Found.{Found}
+use Rattle.hwp_cpu_row.specs.declared.Row.{Row}
+use Rattle.hwp_cpu_row.specs.hwp_cpu_check.declared.EventOutcome.{EventOutcome}
+use Rattle.hwp_cpu_row.specs.hwp_cpu_check.Fits.{IsDone, IsTold}
+use Rattle.hwp_cpu_row.specs.hwp_cpu_check.Told.{at_once, failure_at_once, frame_of, required_by, severity_at_once}
+use Rattle.hwp_law_served.specs.Accounts.{IsNote}
+use Rattle.hwp_law_served.specs.Rows.{Note, notes_from}
+use Rattle.hwp_law_served.specs.Runs.{HaveServed, notes_of}
+use Rattle.hwp_law_served.specs.Served.{HasServed, IsOwnStop, IsServed}
+use Rattle.hwp_law_served.proofs.RunEnds.{nothing-held, row-at, seat-view}
+use Rattle.hwp_law_served.proofs.lines.ScrubBank.{empty-free}
+use Rattle.hwp_law_served.proofs.lines.FrameRecords.{AreNoted}
+use Rattle.hwp_law_served.proofs.copied.Acted.{acted}
+use Rattle.hwp_law_served.proofs.copied.CopyTells.{told-so}
+use Rattle.hwp_law_served.proofs.copied.RunActed.{copies_by, served-alone}
 use Rattle.hwp_law_holds.proofs.marks.RowNotes.{notes-at, notes-fit}
 use Rattle.hwp_top_report.specs.Closing.{IsEnded, IsHalter, IsNamed, IsTellable, lines_of_all}
 use Rattle.hwp_top_report.proofs.Noted.{are-marks}

@@ -1,5 +1,5 @@
-use Rattle.hwp_top_turns.proofs.Tabled.{led-bodies}
-use Rattle.hwp_top_turns.proofs.running.pages_of.Goals as goal
+use Rattle.hwp_top_report.proofs.LedBodies.{led-bodies}
+use Rattle.hwp_top_report.proofs.finishing.pages_of.Goals as goal
 
 pub histories-requires-clause-led : goal.histories-requires-clause-led
 histories-requires-clause-led g c =
