@@ -41,7 +41,7 @@ use Rattle.hwp_law_served.proofs.lines.FrameRecords.{AreNoted}
 use Rattle.hwp_law_served.proofs.copied.Acted.{acted}
 use Rattle.hwp_law_served.proofs.copied.CopyTells.{told-so}
 use Rattle.hwp_law_served.proofs.copied.RunActed.{copies_by, served-alone}
-use Rattle.hwp_law_holds.proofs.marks.RowNotes.{notes-at, notes-fit}
+use Rattle.hwp_top_report.proofs.marks.RowNotes.{notes-at, notes-fit}
 use Rattle.hwp_top_report.specs.Closing.{IsEnded, IsHalter, IsNamed, IsTellable, lines_of_all}
 use Rattle.hwp_top_report.proofs.Noted.{are-marks}
 

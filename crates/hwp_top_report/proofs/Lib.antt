@@ -1,3 +1,27 @@
+pub mod marks
+pub mod deeds
+pub mod report_lines
+pub mod copied
+pub mod Shown
+pub mod AnswerSights
+pub mod policies
+pub mod losses
+pub mod endings
+pub mod forks
+pub mod Signalled
+pub mod Ample
+pub mod Answered
+pub mod StopCauses
+pub mod Caused
+pub mod OfflinedLines
+mod Guests
+pub mod GuestFrames
+pub mod Lawful
+pub mod Settled
+pub mod Retired
+pub mod AllowedThere
+pub mod Signals
+pub mod loads
 mod Ended
 mod Tables
 mod RecordLaws

@@ -17,8 +17,8 @@ use Rattle.hwp_law_served.specs.Runs.{AreRecords, HasStopCause, HaveServed, IsRu
 use Rattle.hwp_law_served.proofs.lines.FrameRecords.{gathered}
 use Rattle.hwp_law_served.proofs.LastBoard.{stops-first, were-out}
 use Rattle.hwp_law_served.proofs.copied.RunActed.{acting-long, run-served, run-stops}
-use Rattle.hwp_law_holds.proofs.Lawful.{law-holds}
-use Rattle.hwp_law_holds.proofs.copied.Apart.{run-apart}
+use Rattle.hwp_top_report.proofs.Lawful.{law-holds}
+use Rattle.hwp_top_report.proofs.copied.Apart.{run-apart}
 use Rattle.hwp_top_report.specs.Closing.{IsClosing}
 use Rattle.hwp_top_report.specs.Finishes.{HasEnded, own_seat}
 use Rattle.hwp_top_report.proofs.Led.{last-holds, last-noted}

@@ -2,6 +2,11 @@ pub mod Closing
 pub mod Records
 pub mod Finishes
 pub mod Caches
+pub mod Retired
+pub mod Signals
+pub mod GuestFrames
+pub mod Loads
+pub mod CopiedWords
 pub use Rattle.hwp_cpu_row.specs.hwp_banks as hwp_banks
 pub use Rattle.hwp_cpu_row.specs.hwp_claim as hwp_claim
 pub use Rattle.hwp_cpu_row.specs.hwp_claim_act as hwp_claim_act

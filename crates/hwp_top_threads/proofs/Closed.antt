@@ -20,7 +20,7 @@ use Rattle.hwp_top_turns.proofs.of_hwp_law_run.Homes.{there-is}
 use Rattle.hwp_top_turns.specs.hwp_cpu_row.declared.Row.{Row}
 use Rattle.hwp_top_turns.specs.hwp_law.Acting.{acting_script, copied_at}
 use Rattle.hwp_top_turns.specs.hwp_law_served.Runs.{IsRunOf}
-use Rattle.hwp_top_turns.proofs.of_hwp_law_holds.AnswerSights.{report-shown, scrubs-shown}
+use Rattle.hwp_top_turns.proofs.of_hwp_top_report.AnswerSights.{report-shown, scrubs-shown}
 use Rattle.hwp_top_turns.specs.hwp_cpu.declared.Processor.{Processor}
 use Rattle.hwp_top_turns.specs.hwp_cpu.Serving.{Fits, FitsAt, IsDone}
 use Rattle.hwp_threads_seats.specs.hwp_table_words.Ends.{EndValue, HasAll, IsEnd, board_of}

@@ -3,10 +3,10 @@ use Rattle.hwp_threads.specs.hwp_core_rule.declared.State.{State}
 use Rattle.hwp_top_turns.specs.hwp_script_read.declared.Script.{Script}
 use Rattle.hwp_top_turns.specs.hwp_report_text.declared.Report.{Report}
 use Rattle.hwp_top_turns.specs.hwp_law.Law.{IsLawful}
-use Rattle.hwp_top_turns.specs.hwp_law_holds.Loads.{AreGoodLoads}
-use Rattle.hwp_top_turns.specs.hwp_law_holds.Retired.{AreHandledRetired, IsBoardOf}
-use Rattle.hwp_top_turns.proofs.of_hwp_law_holds.Retired.{handled-out-of-use}
-use Rattle.hwp_top_turns.proofs.of_hwp_law_holds.loads.GoodLoads.{no-bad-bytes}
+use Rattle.hwp_top_turns.specs.hwp_top_report.Loads.{AreGoodLoads}
+use Rattle.hwp_top_turns.specs.hwp_top_report.Retired.{AreHandledRetired, IsBoardOf}
+use Rattle.hwp_top_turns.proofs.of_hwp_top_report.Retired.{handled-out-of-use}
+use Rattle.hwp_top_turns.proofs.of_hwp_top_report.loads.GoodLoads.{no-bad-bytes}
 use Rattle.hwp_threads_seats.specs.hwp_table_words.Ends.{EndValue}
 use Rattle.hwp_top_threads.specs.Runs.{IsThreadRun, last_of}
 

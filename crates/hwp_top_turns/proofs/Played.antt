@@ -16,7 +16,7 @@ use Rattle.hwp_top_report.specs.hwp_law_run.Turns.{Leads}
 use Rattle.hwp_top_report.proofs.of_hwp_law_run.RunKeeps.{same-ordered}
 use Rattle.hwp_top_report.proofs.of_hwp_law_run.TurnLeads.{leads-hold, leads-ordered}
 use Rattle.hwp_top_report.specs.hwp_cpu_row.declared.Row.{Row}
-use Rattle.hwp_law_holds.proofs.Settled.{settled-when-over}
+use Rattle.hwp_top_report.proofs.Settled.{settled-when-over}
 use Rattle.hwp_cpu.specs.declared.Processor.{Processor}
 use Rattle.hwp_cpu.proofs.ProcessorTells.{tells}
 use Rattle.hwp_cpu.specs.Processors.{AreFinished}

@@ -12,7 +12,7 @@ use Rattle.hwp_top_report.specs.hwp_law_run.Ends.{EndsWith}
 use Rattle.hwp_top_report.specs.hwp_law_run.Turns.{Leads}
 use Rattle.hwp_top_report.specs.hwp_cpu_row.declared.Row.{Row}
 use Rattle.hwp_top_report.specs.hwp_law_served.Runs.{HaveServed, IsRunOf}
-use Rattle.hwp_law_holds.proofs.AnswerSights.{report-shown, scrubs-shown}
+use Rattle.hwp_top_report.proofs.AnswerSights.{report-shown, scrubs-shown}
 use Rattle.hwp_table_words.specs.Ends.{EndValue}
 use Rattle.hwp_top_report.specs.Closing.{IsClosing}
 use Rattle.hwp_top_report.specs.Finishes.{HasEndedAt, IsFinished, own_seat}

@@ -14,7 +14,7 @@ pub use Rattle.hwp_cpu.specs.hwp_fault as hwp_fault
 pub use Rattle.hwp_table_words.specs.hwp_geom as hwp_geom
 pub use Rattle.hwp_table_words.specs.hwp_kill as hwp_kill
 pub use Rattle.hwp_top_report.specs.hwp_law as hwp_law
-pub use Rattle.hwp_law_holds.specs as hwp_law_holds
+pub use Rattle.hwp_top_report.specs as hwp_top_report
 pub use Rattle.hwp_top_report.specs.hwp_law_served as hwp_law_served
 pub use Rattle.hwp_top_report.specs.hwp_law_run as hwp_law_run
 pub use Rattle.hwp_plain.specs as hwp_plain
@@ -26,5 +26,4 @@ pub use Rattle.hwp_cpu.specs.hwp_scrub as hwp_scrub
 pub use Rattle.hwp_cpu.specs.hwp_soft as hwp_soft
 pub use Rattle.hwp_cpu.specs.hwp_soft_move as hwp_soft_move
 pub use Rattle.hwp_table_words.specs as hwp_table_words
-pub use Rattle.hwp_top_report.specs as hwp_top_report
 pub use Rattle.hwp_table_words.specs.hwp_words as hwp_words

@@ -1,5 +1,0 @@
-pub mod Retired
-pub mod Signals
-pub mod GuestFrames
-pub mod Loads
-pub mod CopiedWords
