@@ -13,7 +13,7 @@ use Rattle.hwp_cpu_row.specs.hwp_geom.declared.VSlot.{VSlot}
 use Rattle.std.proofs.lemmas.Bool.{cases_lt}
 use Rattle.hwp_cpu_command.proofs.of_hwp_cpu_access.Resting.{resumes}
 use Rattle.hwp_cpu.specs.Courses.{part}
-use Rattle.hwp_cpu.specs.Dues.{DueValue, next_due}
+use Rattle.hwp_cpu_row.specs.Dues.{DueValue, next_due}
 use Rattle.std.proofs.Common.{true, true≢false, subst, filter_map, ℕ, Some, Option, ◌++◌, ap, append-nil, None, refl, inr, ◌≡◌, is_some, List, ◌<◌, ◌≤◌, sym, length, inl, arith, ◌∙◌, [], ◌⊎◌}
 use Rattle.hwp_cpu_row.specs.hwp_claim_frame.Done.{Marking}
 use Rattle.hwp_cpu_command.specs.Stays.{EndsAtOnce, HasSpoiled}

@@ -16,7 +16,7 @@ use Rattle.hwp_cpu_row.specs.hwp_core_rule.declared.View.{View}
 use Rattle.hwp_cpu_command.specs.Jobs.{told_of}
 use Rattle.hwp_cpu_row.specs.hwp_law_commands.Watched.{Watched, due, offlining, told}
 use Rattle.hwp_cpu.specs.Courses.{told_since}
-use Rattle.hwp_cpu.specs.Dues.{DueValue}
+use Rattle.hwp_cpu_row.specs.Dues.{DueValue}
 use Rattle.hwp_cpu_row.specs.hwp_script_lines.declared.Command.{Command}
 use Rattle.hwp_cpu_row.specs.hwp_geom.declared.Frame.{Frame}
 use Rattle.hwp_cpu_row.specs.declared.Offlining.{Offlining}

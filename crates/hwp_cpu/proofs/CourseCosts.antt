@@ -48,12 +48,12 @@ use Rattle.hwp_cpu_command.specs.hwp_soft.Softs as softs
 use Rattle.hwp_cpu_command.proofs.of_hwp_soft.SoftRank.{soft-small}
 use Rattle.hwp_cpu_command.specs.Answers.{soft_answer}
 use Rattle.hwp_cpu.specs.declared.course.Course.{Course}
-use Rattle.hwp_cpu.specs.Dues.{DueValue, HasCollected, next_due}
+use Rattle.hwp_cpu_row.specs.Dues.{DueValue, HasCollected, next_due}
 use Rattle.hwp_cpu.specs.Courses.{AfterCollectingBy, AfterOwn, AfterOwnBy, AfterOwnIf, AfterRestBy, AfterSoft, Fits, FitsOf, FitsOwn, HasPassed, IsGoing, NextOf, RestsNow, answer, answer_of, bare_of, behind_cost, cost, cost_behind, cost_of, due_room, flat, gives_up, going_on, has_more, own_cost, part_of, passed, rests, soft_weight, task as course-task, turn_on, with_result}
 use Rattle.hwp_cpu_command.proofs.of_hwp_cpu_access.CopyResting.{at-pause as copy-at-pause}
 use Rattle.hwp_cpu.proofs.CopyRests.{few-behind}
 use Rattle.hwp_cpu.proofs.CourseLaws.{abandoned-stays, over-stays, told-some}
-use Rattle.hwp_cpu.proofs.DueLaws.{notes-few}
+use Rattle.hwp_cpu_row.proofs.DueLaws.{notes-few}
 use Rattle.hwp_cpu.proofs.PauseOwns.{pause-owns}
 use Rattle.hwp_cpu.proofs.RestCosts.{GoesOnFrom, IsIdle, IsOver, flat-stays, given-up-class, given-up-cost, gives-lasting, gives-over, goes-from, next-cost, over-cost, own-is, own-most, paused-idle, pays-flat, pays-for}
 use Rattle.hwp_cpu.proofs.RestLaws.{at-rest, given-up-none, some-of}

@@ -47,11 +47,11 @@ use Rattle.hwp_cpu_command.specs.hwp_soft.declared.soft.SoftAt.TheVariants as so
 use Rattle.hwp_cpu_command.specs.hwp_soft.Offline as offline
 use Rattle.hwp_cpu_command.specs.hwp_soft.Softs as softs
 use Rattle.hwp_cpu.specs.declared.course.Course.{Course}
-use Rattle.hwp_cpu.specs.Dues.{DueValue, HasCollected, next_due}
+use Rattle.hwp_cpu_row.specs.Dues.{DueValue, HasCollected, next_due}
 use Rattle.hwp_cpu_row.specs.hwp_cec.Ages.{CecEvent, Note}
 use Rattle.hwp_cpu_row.specs.hwp_cec.Counters.{StandsFor}
 use Rattle.hwp_cpu.specs.Courses.{gives_up, AfterCollectingBy, AfterOwn, AfterOwnBy, AfterOwnIf, AfterRestBy, AfterSoft, Covers, Fits, FitsOf, FitsOwn, HasPassed, IsAtPause, IsGoing, IsGoingOn, IsOfMachine, IsTakingOut, IsWaiting, Next, NextOf, RestsNow, ShowsOf, bare, bare_of, due_room, going_on, has_more, is_abandoned, part_of, passed, rests, task as course-task, with_result}
-use Rattle.hwp_cpu.proofs.DueLaws.{ForPages, due-for-pages, for-pages-within, notes-few, pages-both}
+use Rattle.hwp_cpu_row.proofs.DueLaws.{ForPages, due-for-pages, for-pages-within, notes-few, pages-both}
 use Rattle.hwp_cpu.proofs.RestLaws.{AtRest, OrPaid, at-rest, behind, given-up-none, gives-up-fits, own-on, soft-begins}
 use Rattle.hwp_cpu.proofs.SoftMade.{HasLeft, checks-same, soft-grows, soft-left, soft-pays}
 use Rattle.hwp_cpu.proofs.ToldSince.{most, since-few}

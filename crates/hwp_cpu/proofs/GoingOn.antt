@@ -9,7 +9,7 @@ use Rattle.hwp_cpu_row.specs.hwp_core_rule.declared.View.{View}
 use Rattle.hwp_cpu_row.specs.hwp_law_commands.Commands.{is_kernels}
 use Rattle.hwp_cpu.proofs.BesideTurns.{at_rest, own-behind, told-behind, begins-beside, HasNotedAll, goes-behind, way-behind, taken-few}
 use Rattle.hwp_cpu.proofs.Collecting.{collects-plain, collects-undenied, collect-fails, collect-left, collect-numbers, collect-halted}
-use Rattle.hwp_cpu.specs.Dues.{next_due}
+use Rattle.hwp_cpu_row.specs.Dues.{next_due}
 use Rattle.hwp_cpu_command.specs.Jobs.{told_of}
 use Rattle.hwp_cpu.proofs.OwnRests.{HoldsNone, answer-known, AnswerKnown}
 use Rattle.std.proofs.lemmas.List.{take_all, length-map}

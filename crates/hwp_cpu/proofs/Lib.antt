@@ -1,6 +1,5 @@
 pub mod commands
 pub mod causes
-pub mod DueLaws
 pub mod SoftMade
 pub mod CopyRests
 pub mod RestLaws

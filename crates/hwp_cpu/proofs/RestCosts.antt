@@ -49,7 +49,7 @@ use Rattle.hwp_cpu_command.specs.hwp_soft.declared.Soft.{Soft}
 use Rattle.hwp_cpu_command.specs.hwp_soft.Softs as softs
 use Rattle.hwp_cpu_command.proofs.of_hwp_soft.SoftRank.{soft-small}
 use Rattle.hwp_cpu.specs.declared.course.Course.{Course}
-use Rattle.hwp_cpu.specs.Dues.{next_due}
+use Rattle.hwp_cpu_row.specs.Dues.{next_due}
 use Rattle.hwp_cpu.specs.Courses.{RestsNow, behind_cost, cost, cost_behind, flat, gives_up, gives_up_access, gives_up_copy, going_on, own_cost, rests, soft_weight}
 use Rattle.hwp_cpu_command.proofs.of_hwp_cpu_access.CopyResting.{at-pause as copy-at-pause}
 use Rattle.hwp_cpu.proofs.CopyRests.{copy-behind, copy-gives-over}

@@ -43,7 +43,7 @@ use Rattle.hwp_cpu_command.specs.hwp_soft.declared.soft.SoftAt.{SoftAt}
 use Rattle.hwp_cpu_command.specs.hwp_soft.declared.soft.SoftAt.TheVariants as at
 use Rattle.hwp_cpu_command.specs.hwp_soft.Offline as offline
 use Rattle.hwp_cpu.specs.Courses.{is_abandoned}
-use Rattle.hwp_cpu.proofs.DueLaws.{each-cons}
+use Rattle.hwp_cpu_row.proofs.DueLaws.{each-cons}
 
 -- ---- what the part made
 

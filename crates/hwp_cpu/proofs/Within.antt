@@ -9,7 +9,7 @@ use Rattle.hwp_cpu_command.specs.hwp_soft.declared.Soft.{Soft}
 use Rattle.hwp_cpu.specs.Courses.{AfterRestBy, AfterOwn, AfterOwnIf, rests, AfterCollectingBy, AfterOwnBy, bare_of, going_on, IsGoingOn, AfterSoft, with_result, has_more}
 use Rattle.hwp_cpu_row.specs.hwp_geom.declared.Frame.{Frame}
 use Rattle.hwp_cpu.specs.declared.course.Course.{Course}
-use Rattle.hwp_cpu.specs.Dues.{next_due}
+use Rattle.hwp_cpu_row.specs.Dues.{next_due}
 use Rattle.hwp_cpu_command.specs.hwp_soft.declared.SoftAnswer.{SoftAnswer}
 use Rattle.hwp_cpu_row.specs.hwp_page.History.{BodyValue}
 use Rattle.hwp_cpu_row.specs.Locals.{collects}

@@ -60,7 +60,7 @@ use Rattle.hwp_cpu_command.specs.hwp_soft.Offline as offline
 use Rattle.hwp_cpu_command.specs.hwp_soft.Softs as softs
 use Rattle.hwp_cpu_row.specs.hwp_cpu_check.hwp_guest.declared.Admit.{Admit}
 use Rattle.hwp_cpu.specs.declared.course.Course.{Course}
-use Rattle.hwp_cpu.specs.Dues.{DueValue, HasCollected, next_due, no_due, with_offlining}
+use Rattle.hwp_cpu_row.specs.Dues.{DueValue, HasCollected, next_due, no_due, with_offlining}
 
 -- ---- its beginning and its end
 

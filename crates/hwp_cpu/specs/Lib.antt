@@ -1,5 +1,4 @@
 pub mod Beside
-pub mod Dues
 pub mod Courses
 pub mod Processors
 pub mod Serving

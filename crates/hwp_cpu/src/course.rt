@@ -7,11 +7,10 @@ ghost use Rattle.hwp_cpu_command.specs.FileHandles.{HasChangeWithin, StandsOn};
 ghost use Rattle.hwp_cpu_command.specs.Jobs.{told_of};
 ghost use Rattle.hwp_cpu.specs.Courses.{AfterCollecting, AfterOwnBy, AfterRest, BeginsCourse, Covers, IsGoingOn, answer, local_after, local_left, offline_result, passed, rests, row_of, with_result};
 
-use crate::due::DueFrames;
 use hwp_cpu_command::{Job, offlined_by};
 use hwp_cpu_row::{
-    Admit, Answer, Body, Command, Frame, Layout, Local, OfflineResult, Offlining, OutOfMemory,
-    Ranked, Row, Scheduled, Step, Task, Turn, VSlot, Watching, Who,
+    Admit, Answer, Body, Command, DueFrames, Frame, Layout, Local, OfflineResult, Offlining,
+    OutOfMemory, Ranked, Row, Scheduled, Step, Task, Turn, VSlot, Watching, Who,
 };
 use hwp_soft::{Soft, SoftAnswer};
 use std::alloc::Global;

@@ -1,10 +1,8 @@
 //! The commands of one processor as one task: they run one after the other, and each comes to a row.
 #![tactic(auto)]
 
-mod collect;
 mod course;
 mod crew;
-mod due;
 mod processor;
 mod seats;
 

@@ -2,6 +2,7 @@ pub mod Acts
 pub mod CowLists
 pub mod GuestLists
 pub mod Locals
+pub mod Dues
 pub use Rattle.hwp_cpu_check.specs.hwp_banks as hwp_banks
 pub use Rattle.hwp_cpu_check.specs.hwp_law_commands.hwp_cec as hwp_cec
 pub use Rattle.hwp_cpu_check.specs.hwp_claim as hwp_claim

@@ -1,13 +1,16 @@
-//! What a command came to, from which its lines of the report and the notes of frames are made, and what its processor carries to
-//! the next one.
+//! What a command came to, from which its lines of the report and the notes of frames are made, the frames that are due beside it,
+//! and what its processor carries to the next one.
 #![tactic(auto)]
 
+mod collect;
 mod cows;
+mod due;
 mod guests;
 mod local;
 mod row;
 
 pub use cows::{Cow, Cows};
+pub use due::DueFrames;
 pub use guests::Guests;
 pub use hwp_cpu_check::{
     Acted, Admit, Answer, BANKS, Bank, Board, Body, CacheWord, Collector, Command, CounterWord,

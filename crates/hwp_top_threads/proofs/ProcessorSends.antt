@@ -46,7 +46,7 @@ use Rattle.hwp_top_turns.specs.hwp_soft.contracts.soft.SoftAt as SoftAt
 use Rattle.hwp_top_turns.specs.hwp_soft.contracts.soft.Soft as Soft
 use Rattle.hwp_top_turns.specs.hwp_soft.contracts.unpoison.Unpoison as Unpoison
 use Rattle.hwp_top_turns.specs.hwp_cpu_command.contracts.job.Job as Job
-use Rattle.hwp_top_turns.specs.hwp_cpu.contracts.due.DueFrames as DueFrames
+use Rattle.hwp_top_turns.specs.hwp_cpu_row.contracts.due.DueFrames as DueFrames
 use Rattle.hwp_top_turns.specs.hwp_cpu.contracts.course.Course as Course
 use Rattle.hwp_top_turns.specs.hwp_cpu.contracts.processor.Processor as Processor
 

@@ -5,7 +5,7 @@ use Rattle.hwp_cpu_row.specs.hwp_cpu_check.declared.EventOutcome.{EventOutcome}
 use Rattle.hwp_cpu_row.specs.declared.Watching.{Watching}
 use Rattle.hwp_cpu.specs.declared.course.Course.{Course}
 use Rattle.hwp_cpu.specs.Courses.{AfterCollecting, AfterCollectingBy}
-use Rattle.hwp_cpu.specs.Dues.{DueValue, HasCollected}
+use Rattle.hwp_cpu_row.specs.Dues.{DueValue, HasCollected}
 use Rattle.hwp_cpu.proofs.course.Course.collect.Goals as goal
 use Rattle.hwp_cpu_command.specs.Jobs as jobs
 

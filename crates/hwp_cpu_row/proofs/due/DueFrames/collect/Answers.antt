@@ -1,8 +1,8 @@
 use Rattle.std.proofs.Common.{◌-◌, ◌++◌, List, vec_capacity, vec_len, ap, arith, ◌∙◌}
-use Rattle.hwp_cpu_row.specs.hwp_geom.declared.Frame.{Frame}
-use Rattle.hwp_cpu.specs.Dues.{DueValue}
-use Rattle.hwp_cpu.proofs.DueLaws.{due-same}
-use Rattle.hwp_cpu.proofs.due.DueFrames.collect.Goals as goal
+use Rattle.hwp_cpu_check.specs.hwp_geom.declared.Frame.{Frame}
+use Rattle.hwp_cpu_row.specs.Dues.{DueValue}
+use Rattle.hwp_cpu_row.proofs.DueLaws.{due-same}
+use Rattle.hwp_cpu_row.proofs.due.DueFrames.collect.Goals as goal
 
 pub returns-clause-ok : goal.returns-clause-ok
 returns-clause-ok c =

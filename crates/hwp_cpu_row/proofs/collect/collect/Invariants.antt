@@ -1,8 +1,8 @@
 use Rattle.std.proofs.Common.{◌≡◌, ◌+◌, ◌≤◌, List, ◌++◌, length, vec_capacity, vec_len}
-use Rattle.hwp_cpu_row.specs.hwp_geom.declared.Frame.{Frame}
+use Rattle.hwp_cpu_check.specs.hwp_geom.declared.Frame.{Frame}
 use Rattle.hwp_cpu_row.specs.Acts.{told_notes}
-use Rattle.hwp_cpu.specs.Dues.{HasNoted}
-use Rattle.hwp_cpu.proofs.collect.collect.Given as goal
+use Rattle.hwp_cpu_row.specs.Dues.{HasNoted}
+use Rattle.hwp_cpu_row.proofs.collect.collect.Given as goal
 
 -- what was noted so far, and what the events that are left note, is what all of them note
 abbrev pub invariant-loop-rest : goal.invariant-loop-rest

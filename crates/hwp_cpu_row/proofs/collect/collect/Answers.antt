@@ -1,6 +1,6 @@
 use Rattle.std.proofs.Common.{arith}
-use Rattle.hwp_cpu.proofs.DueLaws.{collect-next, first-lower}
-use Rattle.hwp_cpu.proofs.collect.collect.Goals as goal
+use Rattle.hwp_cpu_row.proofs.DueLaws.{collect-next, first-lower}
+use Rattle.hwp_cpu_row.proofs.collect.collect.Goals as goal
 
 pub loop-rest-smaller : goal.loop-rest-smaller
 loop-rest-smaller c =

@@ -1,8 +1,8 @@
 use Rattle.std.proofs.Common.{◌≡◌, ◌+◌, ◌≤◌, map, take, vec_capacity, vec_len, filter_map}
 use Rattle.hwp_cpu_row.specs.Acts.{event_at}
-use Rattle.hwp_cpu_row.specs.hwp_law_commands.Notes.{noted_frame}
-use Rattle.hwp_cpu.specs.Dues.{HasNoted}
-use Rattle.hwp_cpu.proofs.collect.note.Given as goal
+use Rattle.hwp_cpu_check.specs.hwp_law_commands.Notes.{noted_frame}
+use Rattle.hwp_cpu_row.specs.Dues.{HasNoted}
+use Rattle.hwp_cpu_row.proofs.collect.note.Given as goal
 
 abbrev pub invariant-loop-told : goal.invariant-loop-told
 invariant-loop-told l = HasNoted (filter_map (noted_frame l.layout) (map (event_at 0) (take l.told-index l.check))) l.initial.collector l.initial.due.items l.collector l.due.items

@@ -1,6 +1,6 @@
 use Rattle.std.proofs.Common.{◌∙◌, sym, arith}
-use Rattle.hwp_cpu.proofs.DueLaws.{all-notes, check-next, stopped-notes}
-use Rattle.hwp_cpu.proofs.collect.note.Goals as goal
+use Rattle.hwp_cpu_row.proofs.DueLaws.{all-notes, check-next, stopped-notes}
+use Rattle.hwp_cpu_row.proofs.collect.note.Goals as goal
 
 pub returns-then-stops_machine-clause-noted : goal.returns-then-stops_machine-clause-noted
 returns-then-stops_machine-clause-noted c = stopped-notes c.args.layout.now c.args.check.now c.args.collector.now c.args.due.now.items (sym c.if-stops_machine.ensures)

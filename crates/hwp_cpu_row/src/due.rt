@@ -1,8 +1,9 @@
 ghost use Rattle.std.specs.Prelude.{◌≡◌, ◌<◌, ◌≤◌, length, OnOk, OnErr};
-ghost use Rattle.hwp_cpu.specs.Dues.{HasCollected, next_due, no_due, with_offlining};
+ghost use Rattle.hwp_cpu_row.specs.Dues.{HasCollected, next_due, no_due, with_offlining};
 
 use crate::collect::collect;
-use hwp_cpu_row::{Collector, EventOutcome, Frame, Layout, List, Offlining, OutOfMemory};
+use crate::row::Offlining;
+use hwp_cpu_check::{Collector, EventOutcome, Frame, Layout, List, OutOfMemory};
 use std::alloc::Global;
 use std::marker::Model;
 use std::mem;
@@ -17,7 +18,7 @@ pub struct DueFrames {
 
 impl Model for DueFrames {
     ghost use Rattle.std.specs.Prelude.{◌-◌, vec_len, vec_capacity};
-    ghost use Rattle.hwp_cpu.specs.Dues.{DueValue};
+    ghost use Rattle.hwp_cpu_row.specs.Dues.{DueValue};
 
     ghost Value = { DueValue };
 

@@ -1,7 +1,7 @@
 use Rattle.std.proofs.Common.{arith, sym}
 use Rattle.hwp_cpu_row.specs.Acts.{event_at}
-use Rattle.hwp_cpu.proofs.DueLaws.{event-counted, noted-within}
-use Rattle.hwp_cpu.proofs.collect.note_event.Goals as goal
+use Rattle.hwp_cpu_row.proofs.DueLaws.{event-counted, noted-within}
+use Rattle.hwp_cpu_row.proofs.collect.note_event.Goals as goal
 
 pub returns-in-Counted-clause-noted : goal.returns-in-Counted-clause-noted
 returns-in-Counted-clause-noted c =
