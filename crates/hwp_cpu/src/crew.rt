@@ -8,9 +8,7 @@ use std::alloc::Global;
 /// The rows of each processor.
 pub type Rows = List<List<Row>>;
 
-/// Adds a processor at the end of the crew, where there is memory; else lets it go. Each crate that lets processors go proves anew how
-/// every type inside is let go. So this crate alone does: hwp_top_turns calls this, `dismiss` and `rows_of`, and hwp_top_threads
-/// `deal_seats`, `gather_seats` and `rows_of`.
+/// Adds a processor at the end of the crew, where there is memory; else lets it go.
 pub fn enlist(crew: &mut Vec<Processor>, processor: Processor) -> Result<(), OutOfMemory>
     ensures { IfOk result (λ _. crew.new.items ≡ crew.old.items ++ processor ∷ []) }
 {

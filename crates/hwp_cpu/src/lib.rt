@@ -4,8 +4,6 @@
 mod course;
 mod crew;
 mod processor;
-mod seats;
 
 pub use crew::{Rows, dismiss, enlist, rows_of};
 pub use processor::Processor;
-pub use seats::{CrewWorker, deal_seats, gather_seats};

@@ -8,9 +8,10 @@ ghost use Rattle.hwp_top_turns.specs.hwp_top_report.Caches.{IsCachedEnd};
 ghost use Rattle.hwp_top_threads.specs.Runs.{HaveRun, IsThreadPlayed, IsThreadRun};
 
 use hwp_threads::{Gate, run_all};
+use hwp_threads_seats::{deal, gather};
 use hwp_top_turns::{
     Ended, Finished, OutOfMemory, Pass, Processor, Rows, Script, Sheet, Slot, Ways, begin, close,
-    crew_of, deal_seats, finish_run, gather_seats, rows_of,
+    crew_of, finish_run, rows_of,
 };
 use std::alloc::{AllocError, Global};
 use std::sync::{Arc, Wait};
@@ -32,9 +33,9 @@ fn run_crew<R: Threads + Wait + Sync, W: Ways + Send, G: Gate + Sync>(
     ensures ran { IfOk result (λ r. HaveRun script.now r.0.me.0.known r.1.items) }
 {
     let crew = crew_of(alloc, script)?;
-    let (pass, mut workers) = deal_seats(alloc, sheet, &script.layout, pass, crew)?;
+    let (pass, mut workers) = deal(alloc, sheet, &script.layout, pass, crew)?;
     run_all(rt, &mut workers, gate);
-    gather_seats(alloc, sheet, pass, workers)
+    gather(alloc, sheet, pass, workers)
 }
 
 /// The turns of a script's processors at a table of their own: what the table was closed with, the bodies that were in its

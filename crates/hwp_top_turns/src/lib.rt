@@ -8,7 +8,7 @@ mod playing;
 mod running;
 
 pub use crew::crew_of;
-pub use hwp_cpu::{Processor, Rows, deal_seats, gather_seats, rows_of};
+pub use hwp_cpu::{Processor, Rows, rows_of};
 pub use hwp_plain::PlainBoard;
 pub use hwp_table_words::{Bare, Cached, Ended, Pass, Sheet, Slot, TlbCounts, Ways, begin, close};
 pub use hwp_top_report::{
