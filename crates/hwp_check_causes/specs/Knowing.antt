@@ -13,8 +13,8 @@ use Rattle.hwp_check_evidence.specs.hwp_law.Policies.{policy_before}
 use Rattle.hwp_check_evidence.specs.Ends.{ArePageEnds, own_ends}
 use Rattle.hwp_check_evidence.specs.Marked.{reported}
 use Rattle.hwp_check_evidence.specs.Windows.{AreSpans}
-use Rattle.hwp_check_poison.specs.Nears.{IsPast}
-use Rattle.hwp_check_poison.specs.Results.{AreResults}
+use Rattle.hwp_check_event_line.specs.Nears.{IsPast}
+use Rattle.hwp_check_event_line.specs.Results.{AreResults}
 use Rattle.hwp_check_causes.specs.declared.facts.ProcessorFacts.{ProcessorFacts}
 use Rattle.hwp_check_causes.specs.declared.facts.CommandFacts.{CommandFacts}
 use Rattle.hwp_check_evidence.specs.hwp_script_read.declared.Script.{Script}

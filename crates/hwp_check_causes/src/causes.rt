@@ -9,8 +9,8 @@ ghost use Rattle.hwp_check_evidence.specs.hwp_law_commands.Settings.{arguments};
 use crate::case::Case;
 use crate::plain::{are_bad_lines, bad_lines_of};
 use crate::telling::entry_at;
+use hwp_check_event_line::{came_to, was_moved, was_poisoned, was_taken_back, was_taken_free};
 use hwp_check_evidence::was_hardware_seen;
-use hwp_check_poison::{came_to, was_moved, was_poisoned, was_taken_back, was_taken_free};
 use hwp_check_rules::{
     Answer, At, Entry, Frame, List, Outcome, Policy, PrctlArgs, Reply, What, Who, prctl,
 };

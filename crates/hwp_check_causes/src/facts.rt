@@ -1,5 +1,5 @@
+use hwp_check_event_line::{MarkIndex, Results};
 use hwp_check_evidence::{PageGlances, Span};
-use hwp_check_poison::{MarkIndex, Results};
 use hwp_check_rules::{List, Policy};
 
 /// What is known of a script and its report for the answers of all processors.

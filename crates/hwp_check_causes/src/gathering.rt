@@ -9,8 +9,8 @@ ghost use Rattle.hwp_check_rules.specs.Rules.{ShapeFits, AreLegal};
 ghost use Rattle.hwp_check_rules.specs.hwp_check_acting.ActedOn.{copies_in};
 
 use crate::facts::{ProcessorFacts, ReportFacts};
+use hwp_check_event_line::{past_of, results_of};
 use hwp_check_evidence::{Findings, Names, findings_of, glances_of, is_ample, reported};
-use hwp_check_poison::{past_of, results_of};
 use hwp_check_rules::{Cpu, List, OutOfMemory, Report, Script, VSlot};
 use std::alloc::Global;
 

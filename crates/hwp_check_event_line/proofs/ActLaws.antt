@@ -5,18 +5,18 @@ use Rattle.std.proofs.lemmas.Bool.{and_parts, or_cases, or_left, or_right}
 use Rattle.std.proofs.lemmas.List.Elements.{Contains-append_right}
 use Rattle.std.proofs.lemmas.Option.{none-some, same_Some}
 use Rattle.hwp_banks.specs.hwp_geom.declared.Who.{Who}
-use Rattle.hwp_check_poison.specs.hwp_law.hwp_page.declared.Outcome.{Outcome}
-use Rattle.hwp_check_poison.specs.hwp_law.hwp_page.declared.Outcome.TheVariants as outcomes
-use Rattle.hwp_check_poison.specs.hwp_law.hwp_report_text.declared.Acted.{Acted}
-use Rattle.hwp_check_poison.specs.hwp_law.hwp_report_text.declared.Acted.TheVariants as acts
-use Rattle.hwp_check_poison.specs.hwp_law.hwp_report_text.declared.How.TheVariants as hows
-use Rattle.hwp_check_poison.specs.hwp_law.hwp_report_text.declared.MarkLine.{MarkLine}
-use Rattle.hwp_check_poison.specs.hwp_law.hwp_report_text.declared.MarkLine.TheVariants as marks
-use Rattle.hwp_check_poison.specs.hwp_law.Checks.{IsResult}
-use Rattle.hwp_check_poison.specs.hwp_law.Lines.{is_same_command}
-use Rattle.hwp_check_poison.specs.hwp_law.hwp_law_commands.Outcomes.{outcome_act}
-use Rattle.hwp_check_poison.specs.hwp_law.Records.{hardware_act, hardware_marks, is_by_hardware, mark_results, who_in}
-use Rattle.hwp_check_poison.specs.Results.{has_result, tells, tells_mark}
+use Rattle.hwp_law.specs.hwp_page.declared.Outcome.{Outcome}
+use Rattle.hwp_law.specs.hwp_page.declared.Outcome.TheVariants as outcomes
+use Rattle.hwp_law.specs.hwp_report_text.declared.Acted.{Acted}
+use Rattle.hwp_law.specs.hwp_report_text.declared.Acted.TheVariants as acts
+use Rattle.hwp_law.specs.hwp_report_text.declared.How.TheVariants as hows
+use Rattle.hwp_law.specs.hwp_report_text.declared.MarkLine.{MarkLine}
+use Rattle.hwp_law.specs.hwp_report_text.declared.MarkLine.TheVariants as marks
+use Rattle.hwp_law.specs.Checks.{IsResult}
+use Rattle.hwp_law.specs.Lines.{is_same_command}
+use Rattle.hwp_law.specs.hwp_law_commands.Outcomes.{outcome_act}
+use Rattle.hwp_law.specs.Records.{hardware_act, hardware_marks, is_by_hardware, mark_results, who_in}
+use Rattle.hwp_check_event_line.specs.Results.{has_result, tells, tells_mark}
 
 tells-is : (o : Outcome) (a : Acted) → tells o a ≡ true → outcome_act o ≡ a
 tells-is outcomes.Recovered acts.Recovered is = refl

@@ -1,8 +1,8 @@
 -- Behind which place a scrub can meet no bad line, frame by frame; and what it leaves in bank 1.
 use Rattle.std.proofs.Common.{◌≡◌, ◌⊎◌, inl, inr, ℕ, zero, suc, ◌+◌, ◌-◌, ◌*◌, ◌<◌, cond, List, [], ◌∷◌, Option, None, refl, sym, ap, ◌∙◌, arith}
 use Rattle.hwp_banks.specs.declared.Event.{Event}
-use Rattle.hwp_check_poison.specs.hwp_law.hwp_report_text.declared.Report.{Report}
-use Rattle.hwp_check_poison.specs.hwp_law.hwp_report_text.declared.EventLine.{EventLine}
+use Rattle.hwp_law.specs.hwp_report_text.declared.Report.{Report}
+use Rattle.hwp_law.specs.hwp_report_text.declared.EventLine.{EventLine}
 use Rattle.hwp_check_event_line.specs.Scrubs.{Course, after, after_all, bound_from, can_meet_bad, turn}
 use Rattle.hwp_check_event_line.specs.declared.reach.Reach.{Reach}
 use Rattle.hwp_check_event_line.specs.declared.reach.Turn.{Turn}

@@ -5,10 +5,11 @@ use Rattle.std.proofs.lemmas.Bool.{and_from, and_parts, eq-eqb, eqb-true, false_
 use Rattle.std.proofs.lemmas.Option.{none-some, same_Some}
 use Rattle.hwp_banks.specs.hwp_geom.declared.Cpu.{Cpu}
 use Rattle.hwp_banks.specs.hwp_geom.declared.Who.{Who}
-use Rattle.hwp_check_poison.specs.hwp_law.hwp_page.Orders.{IsEarlier}
-use Rattle.hwp_check_poison.specs.hwp_law.hwp_report_text.declared.MarkLine.{MarkLine}
-use Rattle.hwp_check_poison.specs.hwp_law.Records.{WasPoisoned, ends_poisoned, is_poisoning, who_in}
-use Rattle.hwp_check_event_line.specs.Ended.{is_earlier, may_end, says}
+use Rattle.hwp_law.specs.hwp_page.Orders.{IsEarlier}
+use Rattle.hwp_law.specs.hwp_report_text.declared.MarkLine.{MarkLine}
+use Rattle.hwp_law.specs.Records.{WasPoisoned, ends_poisoned, is_poisoning, who_in}
+use Rattle.hwp_check_event_line.specs.Ended.{is_earlier, may_end}
+use Rattle.hwp_check_event_line.specs.Nears.{says}
 
 abbrev cpu_of : ℕ → Cpu
 cpu_of n = record { 0 = n }

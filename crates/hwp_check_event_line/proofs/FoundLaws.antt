@@ -9,14 +9,14 @@ use Rattle.hwp_banks.specs.declared.Event.{Event}
 use Rattle.hwp_banks.specs.declared.Origin.{Origin}
 use Rattle.hwp_banks.specs.declared.Origin.TheVariants as origins
 use Rattle.hwp_banks.specs.declared.Status.{Status}
-use Rattle.hwp_check_poison.specs.hwp_law.hwp_script_read.declared.Script.{Script}
-use Rattle.hwp_check_poison.specs.hwp_law.hwp_report_text.declared.Report.{Report}
-use Rattle.hwp_check_poison.specs.hwp_law.Checks.{AreLinesOf, IsLineOf}
-use Rattle.hwp_check_poison.specs.hwp_law.hwp_report_text.Acts.{is_panic}
+use Rattle.hwp_law.specs.hwp_script_read.declared.Script.{Script}
+use Rattle.hwp_law.specs.hwp_report_text.declared.Report.{Report}
+use Rattle.hwp_law.specs.Checks.{AreLinesOf, IsLineOf}
+use Rattle.hwp_law.specs.hwp_report_text.Acts.{is_panic}
 use Rattle.hwp_banks.specs.Banks.{Banks, held_from, log_in}
-use Rattle.hwp_check_poison.specs.hwp_law.hwp_severity.Handling.{has_stop, is_stop, severity_of}
-use Rattle.hwp_check_poison.specs.hwp_law.hwp_severity.declared.Arrival.{Arrival}
-use Rattle.hwp_check_poison.specs.hwp_law.hwp_report_text.declared.EventLine.{EventLine}
+use Rattle.hwp_law.specs.hwp_severity.Handling.{has_stop, is_stop, severity_of}
+use Rattle.hwp_law.specs.hwp_severity.declared.Arrival.{Arrival}
+use Rattle.hwp_law.specs.hwp_report_text.declared.EventLine.{EventLine}
 use Rattle.hwp_check_event_line.specs.Found.{beside, has_stopper, may_stop, of_access, own_found, resting, stops}
 
 -- the banks in a machine check of an own event

@@ -1,3 +1,10 @@
+mod NearLaws
+mod RunLaws
+mod NearSteps
+mod WindowLaws
+mod PastLaws
+mod ResultLaws
+mod MarkedLaws
 mod EndLaws
 mod ActLaws
 pub mod FoundLaws

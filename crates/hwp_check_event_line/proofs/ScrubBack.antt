@@ -10,13 +10,13 @@ use Rattle.hwp_banks.specs.Addresses.{frame_at}
 use Rattle.hwp_banks.specs.declared.Event.{Event}
 use Rattle.hwp_banks.specs.declared.Origin.{Origin}
 use Rattle.hwp_banks.specs.declared.Origin.TheVariants as origins
-use Rattle.hwp_check_poison.specs.hwp_law.hwp_script_read.declared.Script.{Script}
-use Rattle.hwp_check_poison.specs.hwp_law.hwp_report_text.declared.Report.{Report}
-use Rattle.hwp_check_poison.specs.hwp_law.Checks.{IsLineOf}
-use Rattle.hwp_check_poison.specs.hwp_law.hwp_report_text.Acts.{is_panic}
-use Rattle.hwp_check_poison.specs.hwp_law.hwp_severity.declared.Arrival.{Arrival}
-use Rattle.hwp_check_poison.specs.hwp_law.Events.{AreScrubbed, MeetsMarked}
-use Rattle.hwp_check_poison.specs.hwp_law.hwp_report_text.declared.EventLine.{EventLine}
+use Rattle.hwp_law.specs.hwp_script_read.declared.Script.{Script}
+use Rattle.hwp_law.specs.hwp_report_text.declared.Report.{Report}
+use Rattle.hwp_law.specs.Checks.{IsLineOf}
+use Rattle.hwp_law.specs.hwp_report_text.Acts.{is_panic}
+use Rattle.hwp_law.specs.hwp_severity.declared.Arrival.{Arrival}
+use Rattle.hwp_law.specs.Events.{AreScrubbed, MeetsMarked}
+use Rattle.hwp_law.specs.hwp_report_text.declared.EventLine.{EventLine}
 use Rattle.hwp_check_event_line.specs.Found.{IsRawLine, has_stopper, resting}
 use Rattle.hwp_check_event_line.specs.Scrubs.{Course, IsScrubbedLine, after, line_at, marked_from, own_at, passed_to, place_of, turn}
 use Rattle.hwp_check_event_line.specs.declared.reach.Reach.{Reach}

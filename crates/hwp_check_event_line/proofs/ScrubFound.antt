@@ -6,15 +6,15 @@ use Rattle.hwp_banks.specs.hwp_geom.declared.Who.{Who}
 use Rattle.hwp_banks.specs.Events.{own_event}
 use Rattle.hwp_banks.specs.declared.Event.{Event}
 use Rattle.hwp_banks.specs.declared.Origin.TheVariants as origins
-use Rattle.hwp_check_poison.specs.hwp_law.hwp_script_read.declared.Script.{Script}
-use Rattle.hwp_check_poison.specs.hwp_law.hwp_report_text.declared.Report.{Report}
-use Rattle.hwp_check_poison.specs.hwp_law.Checks.{AreLinesOf, IsLineOf}
-use Rattle.hwp_check_poison.specs.hwp_law.hwp_report_text.Acts.{is_panic}
+use Rattle.hwp_law.specs.hwp_script_read.declared.Script.{Script}
+use Rattle.hwp_law.specs.hwp_report_text.declared.Report.{Report}
+use Rattle.hwp_law.specs.Checks.{AreLinesOf, IsLineOf}
+use Rattle.hwp_law.specs.hwp_report_text.Acts.{is_panic}
 use Rattle.hwp_banks.specs.Banks.{Banks}
-use Rattle.hwp_check_poison.specs.hwp_law.hwp_severity.Handling.{has_stop}
-use Rattle.hwp_check_poison.specs.hwp_law.hwp_severity.declared.Arrival.{Arrival}
-use Rattle.hwp_check_poison.specs.hwp_law.Events.{IsBadFound, IsDamaged, IsWeakFound}
-use Rattle.hwp_check_poison.specs.hwp_law.hwp_report_text.declared.EventLine.{EventLine}
+use Rattle.hwp_law.specs.hwp_severity.Handling.{has_stop}
+use Rattle.hwp_law.specs.hwp_severity.declared.Arrival.{Arrival}
+use Rattle.hwp_law.specs.Events.{IsBadFound, IsDamaged, IsWeakFound}
+use Rattle.hwp_law.specs.hwp_report_text.declared.EventLine.{EventLine}
 use Rattle.hwp_check_event_line.specs.Found.{has_stopper, resting, stops}
 use Rattle.hwp_check_event_line.proofs.FoundLaws.{banks_at, one-line, two-lines}
 

@@ -8,13 +8,13 @@ use Rattle.hwp_banks.specs.Addresses.{frame_at}
 use Rattle.hwp_banks.specs.Events.{bank_of, line_misc, own_event, own_status}
 use Rattle.hwp_banks.specs.declared.Origin.{Origin}
 use Rattle.hwp_banks.specs.declared.Origin.TheVariants as origins
-use Rattle.hwp_check_poison.specs.hwp_law.hwp_script_read.declared.Script.{Script}
-use Rattle.hwp_check_poison.specs.hwp_law.hwp_report_text.declared.Report.{Report}
-use Rattle.hwp_check_poison.specs.hwp_law.Checks.{IsLineOf}
-use Rattle.hwp_check_poison.specs.hwp_law.hwp_severity.declared.Arrival.{Arrival}
-use Rattle.hwp_check_poison.specs.hwp_law.Events.{IsDamaged}
+use Rattle.hwp_law.specs.hwp_script_read.declared.Script.{Script}
+use Rattle.hwp_law.specs.hwp_report_text.declared.Report.{Report}
+use Rattle.hwp_law.specs.Checks.{IsLineOf}
+use Rattle.hwp_law.specs.hwp_severity.declared.Arrival.{Arrival}
+use Rattle.hwp_law.specs.Events.{IsDamaged}
 use Rattle.hwp_banks.specs.Banks.{raw_bank}
-use Rattle.hwp_check_poison.specs.hwp_law.hwp_report_text.declared.EventLine.{EventLine}
+use Rattle.hwp_law.specs.hwp_report_text.declared.EventLine.{EventLine}
 use Rattle.hwp_check_event_line.specs.Scrubs.{Course, damaged_lines, line_at, may_meet, place_of, tells_own, turn}
 use Rattle.hwp_check_event_line.specs.Lines.{has_line}
 use Rattle.hwp_check_event_line.specs.declared.reach.Reach.{Reach}

@@ -4,10 +4,10 @@ use Rattle.std.proofs.lemmas.List.{get_or-map, length-map, take_more}
 use Rattle.std.proofs.lemmas.List.Sums.{fold-append}
 use Rattle.hwp_banks.specs.hwp_geom.declared.Who.{Who}
 use Rattle.hwp_banks.specs.declared.Event.{Event}
-use Rattle.hwp_check_poison.specs.hwp_law.hwp_script_read.declared.Script.{Script}
-use Rattle.hwp_check_poison.specs.hwp_law.hwp_report_text.declared.Report.{Report}
-use Rattle.hwp_check_poison.specs.hwp_law.hwp_severity.declared.Arrival.{Arrival}
-use Rattle.hwp_check_poison.specs.hwp_law.hwp_report_text.declared.EventLine.{EventLine}
+use Rattle.hwp_law.specs.hwp_script_read.declared.Script.{Script}
+use Rattle.hwp_law.specs.hwp_report_text.declared.Report.{Report}
+use Rattle.hwp_law.specs.hwp_severity.declared.Arrival.{Arrival}
+use Rattle.hwp_law.specs.hwp_report_text.declared.EventLine.{EventLine}
 use Rattle.hwp_check_event_line.specs.Scrubbing.{IsRightIn, reach_at}
 use Rattle.hwp_check_event_line.specs.Scrubs.{Course, IsScrubbedLine, after, comes_instead, turn}
 use Rattle.hwp_check_event_line.specs.Firsts.{IsScanned, shown_lines}

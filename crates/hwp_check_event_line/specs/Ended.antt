@@ -1,17 +1,13 @@
 -- Whether a frame's record may have ended in a poisoning, or not, while a command ran, mark by mark.
 use Rattle.std.specs.Prelude.{◌==◌, nat_lt, ◌&&◌, ◌||◌, not, Bool, true, false, List, [], ◌∷◌}
 use Rattle.hwp_banks.specs.hwp_geom.declared.Who.{Who}
-use Rattle.hwp_check_poison.specs.hwp_law.hwp_report_text.declared.MarkLine.{MarkLine}
-use Rattle.hwp_check_poison.specs.hwp_law.Records.{is_poisoning, who_in}
+use Rattle.hwp_law.specs.hwp_report_text.declared.MarkLine.{MarkLine}
+use Rattle.hwp_law.specs.Records.{who_in}
+use Rattle.hwp_check_event_line.specs.Nears.{says}
 
 -- the one is of an earlier command of the same processor
 abbrev pub is_earlier : Who → Who → Bool
 is_earlier a b = (a.cpu.0 == b.cpu.0) && nat_lt a.seq b.seq
-
--- the mark says as much
-abbrev pub says : Bool → MarkLine → Bool
-says true m = is_poisoning m
-says false m = not (is_poisoning m)
 
 -- the record may have ended so behind some of these marks. `may` says that it may behind some mark before them, or at the start;
 -- `late` that a mark before them is of a later command

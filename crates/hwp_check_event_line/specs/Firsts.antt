@@ -1,6 +1,6 @@
 -- The first of the event lines of a command that isn't right at its place.
 use Rattle.std.specs.Prelude.{◌≡◌, ℕ, ◌<◌, Bool, true, false, List, Option, Some, None, MatchOption, map, slice_get}
-use Rattle.hwp_check_poison.specs.hwp_law.hwp_report_text.declared.EventLine.{EventLine}
+use Rattle.hwp_law.specs.hwp_report_text.declared.EventLine.{EventLine}
 use Rattle.hwp_check_event_line.specs.declared.shown.Shown.{Shown}
 
 -- the event lines that are shown

@@ -1,7 +1,10 @@
+pub mod Nears
+pub mod Windows
+pub mod Results
 pub mod Ended
 pub mod Firsts
 pub mod Found
 pub mod Lines
 pub mod Scrubs
 pub mod Scrubbing
-pub use Rattle.hwp_check_poison.specs.hwp_law as hwp_law
+pub use Rattle.hwp_law.specs as hwp_law

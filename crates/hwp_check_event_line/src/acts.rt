@@ -1,11 +1,11 @@
 ghost use Rattle.std.specs.Prelude.{◌≡◌, ◌↔◌, ◌||◌, IsTrue};
-ghost use Rattle.hwp_check_poison.specs.hwp_law.Checks.{IsAct, IsFailureAct, IsLineOf, IsResult};
-ghost use Rattle.hwp_check_poison.specs.hwp_law.Lines.{marks_of};
+ghost use Rattle.hwp_law.specs.Checks.{IsAct, IsFailureAct, IsLineOf, IsResult};
+ghost use Rattle.hwp_law.specs.Lines.{marks_of};
 ghost use Rattle.hwp_check_event_line.specs.Found.{IsRawLine, may_stop, stops};
 
 use crate::traced::Traced;
 use hwp_banks::Event;
-use hwp_check_poison::{Acted, Arrival, EventLine, Script, Severity, Who, grade};
+use hwp_law::{Acted, Arrival, EventLine, Script, Severity, Who, grade};
 
 /// Whether a failure of the frame came to this result by the command.
 #[tactic(auto, using(crate::proofs::ActLaws::result_is))]

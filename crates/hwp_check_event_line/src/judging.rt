@@ -10,7 +10,7 @@ use crate::scrubs::{LINES, lacking, low_at, place_of, scan};
 use crate::shown::Shown;
 use crate::traced::Traced;
 use hwp_banks::{Bank, Event, Origin};
-use hwp_check_poison::{Arrival, Frame, Script, Who};
+use hwp_law::{Arrival, Frame, Script, Who};
 
 /// Whether the scrub may meet a bad line of the frame.
 fn can_meet_bad(report: &Traced<'_>, table: &[u8], whole: bool, frame: u64) -> bool

@@ -1,23 +1,31 @@
-//! What one event line of a report may say: whether it tells the event of a bank, the row that graded it and what was to be done about
-//! it; and what is kept of a report to tell that. And the event lines of a scrub: whether they are those that its machine checks ask,
-//! and if not, which is the first that isn't, and whether some lack.
+//! What one event line of a report may say, and the records of frames that it rests on: whether a frame was poisoned, or wasn't, while a
+//! command ran, and what the marks of a command say. What is asked of records is kept for all commands of a processor, so that an answer
+//! doesn't walk over one. And the event lines of a scrub: whether they are those that its machine checks ask, and if not, which is the
+//! first that isn't, and whether some lack.
 #![tactic(auto)]
 
 mod acts;
 mod faults;
 mod judging;
 mod lines;
+mod marked;
+mod nears;
 mod reach;
 mod records;
+mod results;
 mod scrubs;
 mod shown;
 mod traced;
+mod windows;
 
 pub use acts::{has_stopper, is_line_of, is_raw_line, may_stop};
 pub use faults::Faults;
-pub use hwp_check_poison::{past_of, results_of};
 pub use judging::scrub_faults;
 pub use lines::is_bad_at;
+pub use marked::{came_to, was_moved, was_taken_back, was_taken_free};
+pub use nears::{MarkIndex, Nears, past_of};
 pub use reach::{Reach, Turn};
+pub use results::{Results, has_result, results_of};
 pub use shown::Shown;
 pub use traced::Traced;
+pub use windows::was_poisoned;

@@ -1,11 +1,11 @@
 ghost use Rattle.std.specs.Prelude.{◌≡◌, ◌↔◌, ◌<◌, ◌≤◌, IsBitSet, IsTrue};
-ghost use Rattle.hwp_check_poison.specs.hwp_law.Lines.{bad_lines_of, weak_lines_of};
+ghost use Rattle.hwp_law.specs.Lines.{bad_lines_of, weak_lines_of};
 ghost use Rattle.hwp_check_event_line.specs.Lines.{has_line};
 ghost use Rattle.hwp_check_event_line.specs.Scrubs.{damaged_lines, has_line_below, line_at};
 
 use crate::traced::Traced;
 use hwp_banks::Origin;
-use hwp_check_poison::Line;
+use hwp_law::Line;
 
 /// The bad lines of a frame.
 pub(crate) fn bad_lines_of(report: &Traced<'_>, frame: u64) -> u64

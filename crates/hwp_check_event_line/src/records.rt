@@ -1,44 +1,17 @@
 ghost use Rattle.std.specs.Prelude.{◌≡◌, ◌↔◌, false, not, IsTrue};
-ghost use Rattle.hwp_check_poison.specs.hwp_law.Lines.{is_same_command};
-ghost use Rattle.hwp_check_poison.specs.hwp_law.Records.{WasPoisoned, is_poisoning, who_in};
-ghost use Rattle.hwp_check_poison.specs.Results.{has_result, tells, tells_mark};
-ghost use Rattle.hwp_check_event_line.specs.Ended.{is_earlier, may_end, says};
+ghost use Rattle.hwp_law.specs.Lines.{is_same_command};
+ghost use Rattle.hwp_law.specs.Records.{WasPoisoned};
+ghost use Rattle.hwp_check_event_line.specs.Results.{has_result, tells, tells_mark};
+ghost use Rattle.hwp_check_event_line.specs.Ended.{is_earlier, may_end};
 
-use hwp_check_poison::{Acted, How, MarkLine, Outcome, Who};
+use crate::nears::{says, who_in};
+use hwp_law::{Acted, How, MarkLine, Outcome, Who};
 
 /// Whether the one is of an earlier command of the same processor.
 fn is_earlier(a: Who, b: Who) -> bool
     ensures { result ≡ is_earlier a b }
 {
     a.cpu.0 == b.cpu.0 && a.seq < b.seq
-}
-
-/// The command of a mark.
-fn who_in(mark: &MarkLine) -> Who
-    ensures { result ≡ who_in mark.now }
-{
-    match *mark {
-        MarkLine::Poisoned { who, .. } => who,
-        MarkLine::Unpoisoned { who, .. } => who,
-    }
-}
-
-/// Whether the mark is a poisoning.
-fn is_poisoning(mark: &MarkLine) -> bool
-    ensures { result ≡ is_poisoning mark.now }
-{
-    matches!(mark, MarkLine::Poisoned { .. })
-}
-
-/// Whether the mark says as much.
-fn says(poisoned: bool, mark: &MarkLine) -> bool
-    ensures { result ≡ says poisoned mark.now }
-{
-    if poisoned {
-        is_poisoning(mark)
-    } else {
-        !is_poisoning(mark)
-    }
 }
 
 /// Whether the record may have ended so behind some of the marks while the command ran.

@@ -14,7 +14,7 @@ use crate::reach::{Range, Reach, Turn};
 use crate::shown::Shown;
 use crate::traced::Traced;
 use hwp_banks::{Event, Origin, Status};
-use hwp_check_poison::{Arrival, EventLine, Frame, Line, Script, Who};
+use hwp_law::{Arrival, EventLine, Frame, Line, Script, Who};
 
 /// The greatest line number, and one more.
 pub(crate) const LINES: u8 = 64;

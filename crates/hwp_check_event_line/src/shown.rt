@@ -1,4 +1,4 @@
-use hwp_check_poison::EventLine;
+use hwp_law::EventLine;
 
 /// An event line of a report, and its place among the lines of its processor.
 #[derive(Clone, Copy)]

@@ -1,14 +1,14 @@
 ghost use Rattle.std.specs.Prelude.{◌≡◌, ◌↔◌, IsTrue, true};
-ghost use Rattle.hwp_check_poison.specs.hwp_law.Lines.{marks_of as marks_of_frame};
-ghost use Rattle.hwp_check_poison.specs.hwp_law.Records.{WasPoisoned};
-ghost use Rattle.hwp_check_poison.specs.Nears.{IsPast};
-ghost use Rattle.hwp_check_poison.specs.Results.{AreResults, has_result as has_told};
+ghost use Rattle.hwp_law.specs.Lines.{marks_of as marks_of_frame};
+ghost use Rattle.hwp_law.specs.Records.{WasPoisoned};
+ghost use Rattle.hwp_check_event_line.specs.Nears.{IsPast};
+ghost use Rattle.hwp_check_event_line.specs.Results.{AreResults, has_result as has_told};
 
+use crate::nears::MarkIndex;
 use crate::records::{has_result, was_poisoned};
-use hwp_check_poison::{
-    Acted, Cpu, MarkIndex, MarkLine, Report, Results, Who, has_result as has_result_by,
-    was_poisoned as was_poisoned_by,
-};
+use crate::results::{Results, has_result as has_result_by};
+use crate::windows::{marks_of, was_poisoned as was_poisoned_by};
+use hwp_law::{Acted, Cpu, MarkLine, Report, Who};
 use std::marker::Model;
 
 /// A report, and what is kept of its frames' records for the commands of one processor.
@@ -21,9 +21,9 @@ pub struct Traced<'a> {
 }
 
 impl<'a> Model for Traced<'a> {
-    ghost use Rattle.hwp_check_poison.specs.hwp_law.hwp_report_text.declared.Report.{Report as Told};
-    ghost use Rattle.hwp_check_poison.specs.Nears.{IsPast as IsKept};
-    ghost use Rattle.hwp_check_poison.specs.Results.{AreResults as AreKept};
+    ghost use Rattle.hwp_law.specs.hwp_report_text.declared.Report.{Report as Told};
+    ghost use Rattle.hwp_check_event_line.specs.Nears.{IsPast as IsKept};
+    ghost use Rattle.hwp_check_event_line.specs.Results.{AreResults as AreKept};
 
     ghost Value = { Told };
 
@@ -63,10 +63,7 @@ impl<'a> Traced<'a> {
     fn marks_of(&self, frame: u64) -> &[MarkLine]
         ensures { result.now ≡ marks_of_frame self.now frame }
     {
-        match self.report.frames.as_slice().get(frame as usize) {
-            Some(line) => line.marks.as_slice(),
-            None => &[],
-        }
+        marks_of(self.report, frame)
     }
 
     /// Whether the frame may have been poisoned while the command ran. What is kept tells it of the processor's commands.

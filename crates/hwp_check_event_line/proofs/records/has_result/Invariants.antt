@@ -1,5 +1,5 @@
 use Rattle.std.proofs.Common.{◌≡◌, drop}
-use Rattle.hwp_check_poison.specs.Results.{has_result}
+use Rattle.hwp_check_event_line.specs.Results.{has_result}
 use Rattle.hwp_check_event_line.proofs.records.has_result.Given as goal
 
 abbrev pub invariant-loop-mark : goal.invariant-loop-mark

@@ -1,6 +1,0 @@
-use Rattle.std.proofs.Common.{◌≡◌, ℕ}
-use Rattle.hwp_check_poison.specs.Results.{has_key, kept_below}
-use Rattle.hwp_check_poison.proofs.results.results_of.Given as goal
-
-abbrev pub invariant-loop-frame : goal.invariant-loop-frame
-invariant-loop-frame l = (q : (ℕ × ℕ) × ℕ) → has_key l.keys q ≡ kept_below l.frame l.fn.cpu l.fn.frames q
