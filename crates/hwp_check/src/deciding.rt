@@ -8,8 +8,7 @@ ghost use Rattle.hwp_check.specs.Acting.{IsActedOn};
 use crate::early::early_verdict;
 use crate::late::late_verdict;
 use hwp_check_answers::answers_fault;
-use hwp_check_guests::guests_fault;
-use hwp_check_private::private_fault;
+use hwp_check_processes::{guests_fault, private_fault};
 use hwp_check_rules::{
     List, OutOfMemory, Rule, Script, VSlot, Verdict, acted_on, has_fork, soonest,
 };

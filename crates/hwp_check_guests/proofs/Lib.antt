@@ -1,6 +1,0 @@
-pub mod AdmissionLaws
-pub mod TellingLaws
-mod Folds
-pub mod BusyLaws
-pub mod JudgeLaws
-pub mod RuleLaws

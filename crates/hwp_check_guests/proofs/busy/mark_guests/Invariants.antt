@@ -1,6 +1,0 @@
-use Rattle.std.proofs.Common.{◌≡◌, drop, fold}
-use Rattle.hwp_check_guests.specs.Busy.{guest_by}
-use Rattle.hwp_check_guests.proofs.busy.mark_guests.Given as goal
-
-abbrev pub invariant-loop-row : goal.invariant-loop-row
-invariant-loop-row l = fold guest_by l.flags.items (drop l.row-index l.fn.rows) ≡ fold guest_by l.fn.flags.items l.fn.rows

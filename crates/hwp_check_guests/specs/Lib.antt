@@ -1,4 +1,0 @@
-pub mod Admission
-pub mod Telling
-pub mod Busy
-pub mod Judging

@@ -1,3 +1,0 @@
-mod WordLaws
-mod JudgeLaws
-mod RuleLaws

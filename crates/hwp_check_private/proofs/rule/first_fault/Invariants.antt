@@ -1,5 +1,0 @@
-use Rattle.hwp_check_private.proofs.RuleLaws.{KeptUnder}
-use Rattle.hwp_check_private.proofs.rule.first_fault.Given as goal
-
-abbrev pub invariant-loop-number : goal.invariant-loop-number
-invariant-loop-number l = KeptUnder l.fn.script l.fn.report l.number
