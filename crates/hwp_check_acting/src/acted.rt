@@ -1,12 +1,14 @@
 ghost use Rattle.std.specs.Prelude.{◌≡◌, [], ◌∷◌, ◌++◌, IfOk, OnOk, length, slice_get, take, unwrap_or};
 ghost use Rattle.std.specs.List.{list_any};
 ghost use Rattle.hwp_law.specs.Acting.{acting_script, copied_at};
-ghost use Rattle.hwp_law.specs.hwp_law_commands.Commands.{has_fork, is_fork};
+ghost use Rattle.hwp_law.specs.hwp_law_commands.Commands.{has_fork, has_watch, is_fork, is_watch};
 ghost use Rattle.hwp_check_acting.specs.ActedOn.{AreActed, AreCopied, IsActedOn, copies_in};
 
 use crate::acting::{acting, copied_from};
 use crate::pairs::pairs_of;
-use hwp_law::{Answer, Command, CpuLine, Layout, List, OutOfMemory, Report, Script, VSlot, Who};
+use hwp_law::{
+    Answer, Command, Cpu, CpuLine, Layout, List, OutOfMemory, Report, Script, VSlot, Who,
+};
 use std::alloc::Global;
 
 /// The script that the processors of a report acted on, and for each processor's commands the translation that they copied from, if
@@ -53,6 +55,31 @@ pub fn has_fork(script: &Script) -> bool
         .as_slice()
         .iter()
         .any(|list| forks(list.as_slice()))
+}
+
+/// Whether the command gives its processor a collector of corrected errors.
+fn is_watch(command: &Command) -> bool
+    ensures { result ≡ is_watch command.now }
+{
+    matches!(*command, Command::Watch { .. })
+}
+
+/// Whether one of the commands is a `watch`.
+pub fn watches(commands: &[Command]) -> bool
+    ensures { result ≡ list_any is_watch commands.now }
+{
+    commands.iter().any(is_watch)
+}
+
+/// Whether a command of the script is a `watch`.
+pub fn has_watch(script: &Script) -> bool
+    ensures { result ≡ has_watch script.now }
+{
+    script
+        .lists
+        .as_slice()
+        .iter()
+        .any(|list| watches(list.as_slice()))
 }
 
 /// The pairs before the command with the number.
@@ -114,6 +141,13 @@ fn rows_at(report: &Report, number: usize) -> &[CpuLine]
         Some(rows) => rows.as_slice(),
         None => &[],
     }
+}
+
+/// The lines of a processor.
+pub fn rows_on(report: &Report, cpu: Cpu) -> &[CpuLine]
+    ensures { result.now ≡ unwrap_or (slice_get report.now.cpus cpu.0) [] }
+{
+    rows_at(report, usize::from(cpu.0))
 }
 
 /// What the processors acted on, and the translations that they copied from.

@@ -7,6 +7,6 @@ mod acting;
 mod cows;
 mod pairs;
 
-pub use acted::{ActedScript, acted_on, copy_of, has_fork};
+pub use acted::{ActedScript, acted_on, copy_of, has_fork, has_watch, rows_on, watches};
 pub use cows::freezes_slot;
 pub use pairs::{answers_to, pairs_of};

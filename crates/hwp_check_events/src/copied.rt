@@ -112,7 +112,7 @@ fn own_count(who: Who, entries: &[Entry]) -> u64
 }
 
 /// The entries of the page of a translation.
-fn entries_through<'a>(layout: &Layout, report: &'a Report, slot: VSlot) -> &'a [Entry]
+pub fn entries_through<'a>(layout: &Layout, report: &'a Report, slot: VSlot) -> &'a [Entry]
     ensures { result.now ≡ entries_through layout.now report.now slot }
 {
     let Some(translation) = layout.trans.as_slice().get(usize::from(slot.0)) else {

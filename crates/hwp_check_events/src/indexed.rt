@@ -1,4 +1,4 @@
-ghost use Rattle.std.specs.Prelude.{◌≡◌, ◌≤◌, ◌<◌, ◌+◌, ◌^◌, [], Some, length, slice_get, sum_by, unwrap_or, IfOk};
+ghost use Rattle.std.specs.Prelude.{◌≡◌, ◌≤◌, ◌<◌, ◌+◌, ◌^◌, Some, length, slice_get, sum_by, IfOk};
 ghost use Rattle.hwp_check_acting.specs.Scripts.{IsDeclared};
 ghost use Rattle.hwp_check_events.specs.Cases.{IsCaseAt, IsOfScript};
 ghost use Rattle.hwp_check_events.specs.Indexed.{all_checkers};
@@ -8,8 +8,9 @@ use crate::checks::checks_by_command;
 use crate::copied::{copied_of, list_at};
 use crate::index::{answers_by_command, events_by_command};
 use crate::known::Known;
+use hwp_check_acting::rows_on;
 use hwp_check_event_line::{Shown, Traced};
-use hwp_law::{Answer, Command, Cpu, CpuLine, Line, List, OutOfMemory, Report, Script, VSlot, Who};
+use hwp_law::{Answer, Command, Cpu, Line, List, OutOfMemory, Report, Script, VSlot, Who};
 use std::alloc::Global;
 use std::marker::Model;
 
@@ -36,16 +37,6 @@ impl<'a> Model for IndexedProcessor<'a> {
     ghost view = { λ p. record { script = p.script.now; copies = p.copies.now; report = p.report.now; cpu = p.cpu; commands = p.commands.now } };
 
     ghost invariant = { λ p. IsIndexed (record { script = p.script.now; copies = p.copies.now; report = p.report.now; cpu = p.cpu; commands = p.commands.now }) p.lists.items p.answers.items p.checks.items p.copied };
-}
-
-/// The lines of a processor.
-fn rows_on(report: &Report, cpu: Cpu) -> &[CpuLine]
-    ensures { result.now ≡ unwrap_or (slice_get report.now.cpus cpu.0) [] }
-{
-    match report.cpus.as_slice().get(usize::from(cpu.0)) {
-        Some(rows) => rows.as_slice(),
-        None => &[],
-    }
 }
 
 impl<'a> IndexedProcessor<'a> {

@@ -1,39 +1,14 @@
 ghost use Rattle.std.specs.Prelude.{◌≡◌, ◌+◌, ◌*◌, nat_lt, false, IfOk, slice_index_or};
-ghost use Rattle.std.specs.List.{list_any};
-ghost use Rattle.hwp_law.specs.hwp_law_commands.Commands.{has_watch, is_watch};
+ghost use Rattle.hwp_law.specs.hwp_law_commands.Commands.{has_watch};
 ghost use Rattle.hwp_law.specs.Answers.{frame_named, is_ample};
 ghost use Rattle.hwp_check_evidence.specs.Ample.{flags_of, noted, noted_in, noted_list, usable_by};
 
+use hwp_check_acting::has_watch;
 use hwp_law::{Command, List, OutOfMemory, Script};
 use std::alloc::Global;
 
 /// The bytes of a frame.
 const FRAME_BYTES: u64 = 4096;
-
-/// Whether the command gives its processor a collector of corrected errors.
-fn is_watch(command: &Command) -> bool
-    ensures { result ≡ is_watch command.now }
-{
-    matches!(*command, Command::Watch { .. })
-}
-
-/// Whether a list has such a command.
-fn list_watches(list: &[Command]) -> bool
-    ensures { result ≡ list_any is_watch list.now }
-{
-    list.iter().any(is_watch)
-}
-
-/// Whether a list of the script does.
-fn has_watch(script: &Script) -> bool
-    ensures { result ≡ has_watch script.now }
-{
-    script
-        .lists
-        .as_slice()
-        .iter()
-        .any(|list| list_watches(list.as_slice()))
-}
 
 /// The frame that a command names to go bad, to fail or to go out of use; where the script has a `watch`, also one that it makes weak.
 fn frame_named(watches: bool, command: &Command) -> Option<u64>

@@ -1,14 +1,10 @@
 -- Words that were stored, in the order of commands and of entries.
-use Rattle.std.specs.Prelude.{ℕ, ◌==◌, ◌&&◌, List, [], Option, Some, None, filter_map, if◌then◌else◌, slice_get, unwrap_or}
-use Rattle.std.specs.Option.{option_map_or}
+use Rattle.std.specs.Prelude.{ℕ, ◌==◌, ◌&&◌, List, [], Option, Some, None, filter_map, if◌then◌else◌}
 use Rattle.hwp_check_rules.specs.hwp_geom.declared.Cpu.{Cpu}
-use Rattle.hwp_check_rules.specs.hwp_geom.declared.Layout.{Layout}
-use Rattle.hwp_check_rules.specs.hwp_geom.declared.TransDecl.{TransDecl}
 use Rattle.hwp_check_rules.specs.hwp_geom.declared.VSlot.{VSlot}
 use Rattle.hwp_check_rules.specs.hwp_page.declared.Entry.{Entry}
 use Rattle.hwp_check_rules.specs.hwp_report_text.declared.Answer.{Answer}
 use Rattle.hwp_check_rules.specs.hwp_report_text.declared.Answer.TheVariants as answers
-use Rattle.hwp_check_rules.specs.hwp_report_text.declared.Report.{Report}
 use Rattle.hwp_check_rules.specs.hwp_script_read.declared.Command.{Command}
 use Rattle.hwp_check_rules.specs.hwp_law.Private.{last_word, word_before, word_stored}
 use Rattle.hwp_check_processes.specs.declared.words.Spot.{Spot}
@@ -23,10 +19,6 @@ last_stored slot line first pairs = last_word first (filter_map (word_stored slo
 -- the last word that these entries of a processor's commands before a number stored on the line, or 0
 abbrev pub last_before : Cpu → ℕ → ℕ → List Entry → ℕ
 last_before cpu number line entries = last_word 0 (filter_map (word_before cpu number line) entries)
-
--- the entries of the page of a translation
-abbrev pub entries_through : Layout → Report → VSlot → List Entry
-entries_through layout report slot = option_map_or (λ (v : TransDecl). unwrap_or (slice_get report.pages v.page.0) []) (slice_get layout.trans slot.0) []
 
 -- the word, if it was stored through the translation on the line, and the answer says so
 abbrev pub word_if : VSlot → ℕ → VSlot → ℕ → ℕ → Answer → Option ℕ

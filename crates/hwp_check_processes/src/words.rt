@@ -1,9 +1,10 @@
 ghost use Rattle.std.specs.Prelude.{◌≡◌, ◌<◌, ◌+◌, MatchOption, drop, length, option_map, unwrap_or};
 ghost use Rattle.hwp_check_rules.specs.hwp_law.Private.{freeze_from, loaded, private_word, word_at_fork, word_before, word_in, word_stored};
-ghost use Rattle.hwp_check_processes.specs.Words.{entries_through, last_before, last_stored, pair_in, word_if};
+ghost use Rattle.hwp_check_processes.specs.Words.{last_before, last_stored, pair_in, word_if};
 
 use hwp_check_rules::{
-    Answer, Command, Cpu, Entry, Layout, Line, Met, Report, VSlot, What, freezes_slot,
+    Answer, Command, Cpu, Entry, Layout, Line, Met, Report, VSlot, What, entries_through,
+    freezes_slot,
 };
 
 /// A translation and a line of its page.
@@ -130,19 +131,6 @@ fn last_before(cpu: Cpu, number: u64, line: Line, entries: &[Entry]) -> u64
         last = word_or(word_before(cpu, number, line, entry), last);
     }
     last
-}
-
-/// The entries of the page of a translation.
-fn entries_through<'a>(layout: &Layout, report: &'a Report, slot: VSlot) -> &'a [Entry]
-    ensures { result.now ≡ entries_through layout.now report.now slot }
-{
-    let Some(translation) = layout.trans.as_slice().get(usize::from(slot.0)) else {
-        return &[];
-    };
-    match report.pages.as_slice().get(usize::from(translation.page.0)) {
-        Some(entries) => entries.as_slice(),
-        None => &[],
-    }
 }
 
 /// What the translation's own page held on the line at the fork with this number.

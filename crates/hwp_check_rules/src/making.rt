@@ -1,7 +1,6 @@
 ghost use Rattle.std.specs.Prelude.{◌≡◌, ◌⊎◌, ◌↔◌, IsTrue, IsSomeAnd, None};
 ghost use Rattle.hwp_law.specs.hwp_page.Step.{IsOf};
-ghost use Rattle.hwp_law.specs.hwp_law_commands.Commands.{access_of, can_fail, can_offline, command_at, current_thread, has_watch, is_watch};
-ghost use Rattle.std.specs.List.{list_any};
+ghost use Rattle.hwp_law.specs.hwp_law_commands.Commands.{access_of, can_fail, can_offline, command_at, current_thread, has_watch};
 ghost use Rattle.hwp_check_events.specs.hwp_check_acting.ActedOn.{copies_in};
 ghost use Rattle.hwp_law.specs.Entries.{CanStandIn, IsAccessAt, IsMadeBy, IsRequiredBy, Makes};
 ghost use Rattle.hwp_law.specs.History.{Fits, FitsAccess, FitsLoad, FitsStore, IsMetBy, IsStoredBy, Names};
@@ -243,31 +242,6 @@ fn can_stand_in(layout: &Layout, command: &Command, page: Page, what: &What) -> 
         What::Fail { .. } | What::Soft => true,
         _ => names(layout, command, page),
     }
-}
-
-/// Whether the command gives its processor a collector of corrected errors.
-fn is_watch(command: &Command) -> bool
-    ensures { result ≡ is_watch command.now }
-{
-    matches!(*command, Command::Watch { .. })
-}
-
-/// Whether one of the commands is a `watch`.
-pub fn watches(commands: &[Command]) -> bool
-    ensures { result ≡ list_any is_watch commands.now }
-{
-    commands.iter().any(is_watch)
-}
-
-/// Whether a command of the script is a `watch`.
-pub fn has_watch(script: &Script) -> bool
-    ensures { result ≡ has_watch script.now }
-{
-    script
-        .lists
-        .as_slice()
-        .iter()
-        .any(|list| watches(list.as_slice()))
 }
 
 /// Whether the entry is one that its command makes by itself, in a page where it can stand.

@@ -2,6 +2,7 @@ ghost use Rattle.std.specs.Prelude.{◌≡◌, [], slice_get, unwrap_or};
 ghost use Rattle.hwp_law.specs.Lines.{answer_among, answer_of, rows_of};
 ghost use Rattle.hwp_check_rules.specs.Answered.{is_answer};
 
+use hwp_check_events::rows_on;
 use hwp_law::{Answer, Command, Cpu, CpuLine, Report, Script, Who};
 
 /// The commands of a processor.
@@ -14,24 +15,11 @@ pub fn commands_of(script: &Script, cpu: Cpu) -> &[Command]
     }
 }
 
-/// The lines of a processor.
-pub fn rows_on(report: &Report, cpu: Cpu) -> &[CpuLine]
-    ensures { result.now ≡ unwrap_or (slice_get report.now.cpus cpu.0) [] }
-{
-    match report.cpus.as_slice().get(usize::from(cpu.0)) {
-        Some(rows) => rows.as_slice(),
-        None => &[],
-    }
-}
-
 /// The lines of a command's processor.
 pub fn rows_of(report: &Report, who: Who) -> &[CpuLine]
     ensures { result.now ≡ rows_of report.now who }
 {
-    match report.cpus.as_slice().get(usize::from(who.cpu.0)) {
-        Some(rows) => rows.as_slice(),
-        None => &[],
-    }
+    rows_on(report, who.cpu)
 }
 
 /// Whether the line is an answer.
