@@ -1,4 +1,5 @@
 pub mod AnswersByRow
+mod Lookups
 pub mod ActedLosses
 pub mod Lawful
 pub mod OfflinedFaults
