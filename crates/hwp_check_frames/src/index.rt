@@ -13,7 +13,6 @@ use std::alloc::Global;
 
 /// What is looked up of a report: the answers of commands, their event lines with a result, which frames have such lines beyond
 /// their marks, and the lines of soft offlines beside answers.
-#[derive(Drop)]
 pub struct Index {
     /// The answers of commands.
     pub(crate) given: Given,
@@ -23,6 +22,18 @@ pub struct Index {
     pub(crate) beyond: Vec<bool>,
     /// How many lines of a command, beside its answer, say of a frame that its content moved, or that it was taken free.
     pub beside: Counts,
+}
+
+// Proved here once: crates above that let one go cite it.
+impl Drop for Index {
+    fn drop(self) {
+        let Index {
+            given: _given,
+            said: _said,
+            beyond: _beyond,
+            beside: _beside,
+        } = self;
+    }
 }
 
 /// The index of a report.

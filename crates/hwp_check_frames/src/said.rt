@@ -14,12 +14,21 @@ use std::collections::HashMap;
 pub type Rows = HashMap<(Key, u64), Noted>;
 
 /// What is noted of event lines with a result: how many each command has for each frame, and what each says.
-#[derive(Drop)]
 pub struct Said {
     /// How many of a command there are for a frame.
     pub many: Counts,
     /// What each of them says.
     pub rows: Rows,
+}
+
+// Proved here once: crates above that let one go cite it.
+impl Drop for Said {
+    fn drop(self) {
+        let Said {
+            many: _many,
+            rows: _rows,
+        } = self;
+    }
 }
 
 /// What a line says.
