@@ -12,7 +12,6 @@ pub struct ReportFacts {
 }
 
 /// What is known of a report for the answers of one processor.
-#[derive(Drop)]
 pub struct ProcessorFacts {
     /// The commands by which processes had ended in each page.
     pub ends: Vec<List<u64>>,
@@ -26,6 +25,20 @@ pub struct ProcessorFacts {
     pub past: MarkIndex,
     /// What the marks of frames say of its commands.
     pub results: Results,
+}
+
+// Proved here once: crates above that let one go cite it.
+impl Drop for ProcessorFacts {
+    fn drop(self) {
+        let ProcessorFacts {
+            ends: _ends,
+            ended: _ended,
+            spans: _spans,
+            reported: _,
+            past: _past,
+            results: _results,
+        } = self;
+    }
 }
 
 /// What is known of one command.
