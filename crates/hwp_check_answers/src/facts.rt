@@ -14,7 +14,6 @@ use hwp_check_rules::{
 use std::alloc::Global;
 
 /// What is known of the commands of one processor by their numbers.
-#[derive(Drop)]
 pub struct Facts {
     /// The policies of their threads before them.
     pub policies: Vec<Policy>,
@@ -22,6 +21,17 @@ pub struct Facts {
     pub counts: Vec<u64>,
     /// Whether one of these stopped the machine, or was a panic.
     pub ends: Vec<bool>,
+}
+
+// Proved here once, and cited where one is let go.
+impl Drop for Facts {
+    fn drop(self) {
+        let Facts {
+            policies: _policies,
+            counts: _counts,
+            ends: _ends,
+        } = self;
+    }
 }
 
 /// What is known of the commands of a processor with these lines.

@@ -24,12 +24,21 @@ pub struct LinesSoFar {
 }
 
 /// What is known of a processor's commands, by their numbers.
-#[derive(Drop)]
 pub struct Naming {
     /// The places of the entries that their lines name.
     pub names: Names,
     /// Whether they have an entry that one of their lines has to name, and none does.
     pub others: Vec<bool>,
+}
+
+// Proved here once, and cited where one is let go.
+impl Drop for Naming {
+    fn drop(self) {
+        let Naming {
+            names: _names,
+            others: _others,
+        } = self;
+    }
 }
 
 /// Whether the answer is one of a command whose process had ended.
