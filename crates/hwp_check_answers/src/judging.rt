@@ -1,4 +1,4 @@
-ghost use Rattle.std.specs.Prelude.{◌≡◌, ◌⊎◌, ◌↔◌, ◌<◌, ◌+◌, IsTrue, MatchBool, Some, [], drop, length, slice_get, slice_index_or, unwrap_or, false};
+ghost use Rattle.std.specs.Prelude.{◌≡◌, ◌⊎◌, ◌↔◌, ◌<◌, ◌+◌, IsTrue, MatchBool, Some, drop, length, slice_index_or, false};
 ghost use Rattle.hwp_check_evidence.specs.hwp_law_commands.Commands.{process_at};
 ghost use Rattle.hwp_check_evidence.specs.hwp_law.Endings.{IsOver};
 ghost use Rattle.hwp_check_evidence.specs.hwp_law.States.{IsInWindow, state_named};
@@ -12,7 +12,7 @@ ghost use Rattle.hwp_check_answers.specs.Walk.{IsRightlyGiven, IsWronglyGiven};
 use crate::given::GivenAnswer;
 use hwp_check_causes::{is_right, named_state, process_at};
 use hwp_check_evidence::{Names, had_ended, is_elsewhere, is_in_span, is_not_below};
-use hwp_check_rules::{Answer, At, Entry, Page, Proc, Report, VSlot, What, Who, copy_of};
+use hwp_check_rules::{Answer, At, Entry, Proc, Report, VSlot, What, Who, copy_of, entries_on};
 
 /// What the lines before an answer tell.
 #[derive(Drop)]
@@ -167,16 +167,6 @@ fn stores_behind(who: Who, entries: &[Entry], place: u64) -> bool
         return false;
     }
     has_own_store(who, entries_behind(entries, place))
-}
-
-/// The entries of a page; none where the report has no such page.
-fn entries_on(report: &Report, page: Page) -> &[Entry]
-    ensures { result.now ≡ unwrap_or (slice_get report.now.pages page.0) [] }
-{
-    match report.pages.as_slice().get(usize::from(page.0)) {
-        Some(entries) => entries.as_slice(),
-        None => &[],
-    }
 }
 
 /// Whether the command has a store in the page behind the place.

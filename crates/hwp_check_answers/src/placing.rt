@@ -1,22 +1,9 @@
 ghost use Rattle.std.specs.Prelude.{◌≡◌, ◌<◌, ◌↔◌, IsTrue, IfOk, MatchOption, Some, false, length, slice_get};
 ghost use Rattle.hwp_check_rules.specs.Answered.{answers_next, is_well_before};
-ghost use Rattle.hwp_check_rules.specs.hwp_law.Lines.{seq_of};
 ghost use Rattle.hwp_check_answers.specs.Placing.{AreInPlace, AreSet, HasNone, HaveAnswers, IsFirstOut, IsOfNext, TellAnswers, marked};
 
-use hwp_check_rules::{Command, CpuLine, OutOfMemory, is_answer};
+use hwp_check_rules::{Command, CpuLine, OutOfMemory, is_answer, seq_of};
 use std::alloc::Global;
-
-/// The number of the command that a line is of.
-fn seq_of(row: &CpuLine) -> u32
-    ensures { result ≡ seq_of row.now }
-{
-    match row {
-        CpuLine::Event(event) => event.seq,
-        CpuLine::Offlined(offlined) => offlined.seq,
-        CpuLine::Guest(guest) => guest.seq,
-        CpuLine::Answer { seq, .. } => *seq,
-    }
-}
 
 /// Whether the row behind one is an answer.
 fn answers_next(rows: &[CpuLine], row: usize) -> bool

@@ -1,5 +1,5 @@
 -- Whether a frame's record may have ended in a poisoning, or not, while a command ran, mark by mark.
-use Rattle.std.specs.Prelude.{◌==◌, nat_lt, ◌&&◌, ◌||◌, not, Bool, true, false, List, [], ◌∷◌}
+use Rattle.std.specs.Prelude.{◌==◌, nat_lt, ◌&&◌, ◌||◌, not, Bool, List, [], ◌∷◌}
 use Rattle.hwp_banks.specs.hwp_geom.declared.Who.{Who}
 use Rattle.hwp_law.specs.hwp_report_text.declared.MarkLine.{MarkLine}
 use Rattle.hwp_law.specs.Records.{who_in}

@@ -150,7 +150,7 @@ fn add_marks(
 }
 
 /// The record of a frame. One that isn't shown has none.
-fn marks_at(frames: &[FrameLine], frame: usize) -> &[MarkLine]
+pub(crate) fn marks_at(frames: &[FrameLine], frame: usize) -> &[MarkLine]
     ensures { result.now ≡ marks_at frames.now frame }
 {
     match frames.get(frame) {

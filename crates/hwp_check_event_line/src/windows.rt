@@ -6,6 +6,7 @@ ghost use Rattle.hwp_check_event_line.specs.Nears.{AreNears, IsPast, run, runs};
 ghost use Rattle.hwp_check_event_line.specs.Windows.{IsEdge, may_end, same};
 
 use crate::nears::{MarkIndex, Nears, is_poisoning, says};
+use crate::results::marks_at;
 use hwp_law::{MarkLine, Report, Who};
 
 /// The first place of a rising list whose number isn't below the bound.
@@ -86,10 +87,7 @@ fn was_poisoned_by(marks: &[MarkLine], nears: &Nears, who: Who, poisoned: bool) 
 pub(crate) fn marks_of(report: &Report, frame: u64) -> &[MarkLine]
     ensures { result.now ≡ marks_of report.now frame }
 {
-    match report.frames.as_slice().get(frame as usize) {
-        Some(line) => line.marks.as_slice(),
-        None => &[],
-    }
+    marks_at(report.frames.as_slice(), frame as usize)
 }
 
 /// What is kept of a frame's record.

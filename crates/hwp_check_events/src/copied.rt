@@ -1,11 +1,13 @@
-ghost use Rattle.std.specs.Prelude.{◌≡◌, ◌<◌, ◌≤◌, ◌^◌, ◌++◌, ◌∷◌, [], cond, false, IfOk, OnOk, get_or, length, map};
+ghost use Rattle.std.specs.Prelude.{◌≡◌, ◌<◌, ◌≤◌, ◌^◌, ◌++◌, ◌∷◌, [], cond, false, IfOk, OnOk, get_or, length, map, slice_get, unwrap_or};
 ghost use Rattle.hwp_law.specs.Copies.{checks_by, copy_checks, lines_at};
 ghost use Rattle.hwp_law.specs.Lines.{is_same_command};
 ghost use Rattle.hwp_check_acting.specs.ActedOn.{copies_in};
 ghost use Rattle.hwp_check_events.specs.Copied.{AreCopied, checks_in, copied_by, entries_through, is_counted, own_whats, pair_of, test_of};
 
 use hwp_check_acting::copy_of;
-use hwp_law::{Command, Cpu, Entry, Layout, Line, List, OutOfMemory, Report, VSlot, What, Who};
+use hwp_law::{
+    Command, Cpu, Entry, Layout, Line, List, OutOfMemory, Page, Report, VSlot, What, Who,
+};
 use std::alloc::Global;
 
 /// A machine check of a copy: how many loads, or stores, stand before it in its page, and its line.
@@ -111,15 +113,22 @@ fn own_count(who: Who, entries: &[Entry]) -> u64
     own
 }
 
+/// The entries of a page; none where the report has no such page.
+pub fn entries_on(report: &Report, page: Page) -> &[Entry]
+    ensures { result.now ≡ unwrap_or (slice_get report.now.pages page.0) [] }
+{
+    match report.pages.as_slice().get(usize::from(page.0)) {
+        Some(entries) => entries.as_slice(),
+        None => &[],
+    }
+}
+
 /// The entries of the page of a translation.
 pub fn entries_through<'a>(layout: &Layout, report: &'a Report, slot: VSlot) -> &'a [Entry]
     ensures { result.now ≡ entries_through layout.now report.now slot }
 {
-    let Some(translation) = layout.trans.as_slice().get(usize::from(slot.0)) else {
-        return &[];
-    };
-    match report.pages.as_slice().get(usize::from(translation.page.0)) {
-        Some(entries) => entries.as_slice(),
+    match layout.trans.as_slice().get(usize::from(slot.0)) {
+        Some(translation) => entries_on(report, translation.page),
         None => &[],
     }
 }

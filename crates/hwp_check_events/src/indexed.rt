@@ -10,7 +10,7 @@ use crate::index::{answers_by_command, events_by_command};
 use crate::known::Known;
 use hwp_check_acting::rows_on;
 use hwp_check_event_line::{Shown, Traced};
-use hwp_law::{Answer, Command, Cpu, Line, List, OutOfMemory, Report, Script, VSlot, Who};
+use hwp_law::{Answer, Command, Cpu, Line, List, OutOfMemory, Script, VSlot, Who};
 use std::alloc::Global;
 use std::marker::Model;
 

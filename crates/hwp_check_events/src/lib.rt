@@ -17,7 +17,7 @@ mod tables;
 mod walk;
 
 pub use checks::checkers_of;
-pub use copied::entries_through;
+pub use copied::{entries_on, entries_through};
 pub use hwp_check_acting::{
     ActedScript, acted_on, answers_to, copy_of, freezes_slot, has_fork, has_watch, pairs_of,
     rows_on, watches,

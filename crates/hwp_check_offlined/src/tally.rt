@@ -7,20 +7,8 @@ ghost use Rattle.hwp_check_rules.specs.hwp_check_events.Indexed.{AreShown};
 ghost use Rattle.hwp_check_rules.specs.hwp_check_event_line.Firsts.{first_of};
 ghost use Rattle.hwp_check_offlined.specs.Judged.{IsScanned};
 
-use hwp_check_rules::{CpuLine, Frame, List, Misfits, OfflinedLine, OutOfMemory, Shown};
+use hwp_check_rules::{CpuLine, Frame, List, Misfits, OfflinedLine, OutOfMemory, Shown, seq_of};
 use std::alloc::Global;
-
-/// The number of the command that a line is of.
-fn seq_of(row: &CpuLine) -> u32
-    ensures { result ≡ seq_of row.now }
-{
-    match row {
-        CpuLine::Event(event) => event.seq,
-        CpuLine::Offlined(offlined) => offlined.seq,
-        CpuLine::Guest(guest) => guest.seq,
-        CpuLine::Answer { seq, .. } => *seq,
-    }
-}
 
 /// Whether the line is an event line.
 fn is_event(row: &CpuLine) -> bool

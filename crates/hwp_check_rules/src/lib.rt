@@ -12,9 +12,9 @@ mod verdicts;
 
 pub use first::{sooner, sooner_if, soonest};
 pub use hwp_check_events::{
-    ActedScript, Misfits, Shown, acted_on, answers_to, checkers_of, copy_of, entries_through,
-    events_by_command, freezes_slot, has_fork, has_watch, pairs_of, processor_faults, rows_on,
-    small_masks, watches,
+    ActedScript, Misfits, Shown, acted_on, answers_to, checkers_of, copy_of, entries_on,
+    entries_through, events_by_command, freezes_slot, has_fork, has_watch, pairs_of,
+    processor_faults, rows_on, small_masks, watches,
 };
 pub use hwp_law::{
     Access, Acted, Admit, Answer, At, Code, Command, Cpu, CpuLine, Entry, EventLine, FileNo, Frame,
@@ -27,7 +27,7 @@ pub use hwp_law::{
 pub use making::{command_of, is_made_by, leads_to};
 pub use pasts::{ThreadPolicies, done_of, pasts_of};
 pub use policies::policy_before;
-pub use rows::{answer_among, answer_of, commands_of, is_answer, rows_of};
+pub use rows::{answer_among, answer_of, commands_of, is_answer, rows_of, seq_of};
 pub use standing::{
     cpu_at, entries_height, entry_height, file_at, first_page_line, frame_at, page_at, row_at,
 };

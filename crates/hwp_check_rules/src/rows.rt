@@ -1,5 +1,5 @@
 ghost use Rattle.std.specs.Prelude.{◌≡◌, [], slice_get, unwrap_or};
-ghost use Rattle.hwp_law.specs.Lines.{answer_among, answer_of, rows_of};
+ghost use Rattle.hwp_law.specs.Lines.{answer_among, answer_of, rows_of, seq_of};
 ghost use Rattle.hwp_check_rules.specs.Answered.{is_answer};
 
 use hwp_check_events::rows_on;
@@ -20,6 +20,18 @@ pub fn rows_of(report: &Report, who: Who) -> &[CpuLine]
     ensures { result.now ≡ rows_of report.now who }
 {
     rows_on(report, who.cpu)
+}
+
+/// The number of the command that a line is of.
+pub fn seq_of(row: &CpuLine) -> u32
+    ensures { result ≡ seq_of row.now }
+{
+    match row {
+        CpuLine::Event(event) => event.seq,
+        CpuLine::Offlined(offlined) => offlined.seq,
+        CpuLine::Guest(guest) => guest.seq,
+        CpuLine::Answer { seq, .. } => *seq,
+    }
 }
 
 /// Whether the line is an answer.

@@ -16,17 +16,17 @@ use Rattle.hwp_check_rules.specs.hwp_report_text.declared.CpuLine.{CpuLine}
 use Rattle.hwp_check_rules.specs.hwp_report_text.declared.CpuLine.TheVariants as lines
 use Rattle.hwp_check_rules.specs.hwp_report_text.declared.Report.{Report}
 use Rattle.hwp_check_rules.specs.hwp_law.Causes.{AreCaused}
-use Rattle.hwp_check_rules.specs.hwp_law.Lines.{answered}
+use Rattle.hwp_check_rules.specs.hwp_law.Lines.{answered, seq_of}
 use Rattle.hwp_check_rules.specs.hwp_law.Losses.{is_lost, is_lost_before, losses_such, number_by, numbers_after, tells_number}
 use Rattle.hwp_check_rules.specs.Firsts.{soonest}
 use Rattle.hwp_check_rules.proofs.of_hwp_law.AnswersInOrder.{answers_in, in-order}
 use Rattle.hwp_check_state.specs.declared.told.Told.{Told}
 use Rattle.hwp_check_state.specs.Handles.{IsFirst, IsToldWrong}
-use Rattle.hwp_check_state.specs.Told.{capped, fault_by, is_good, number_with, raised_by, seq_in, telling, telling_all, told_by, told_in, told_to, walk}
+use Rattle.hwp_check_state.specs.Told.{capped, fault_by, is_good, number_with, raised_by, telling, telling_all, told_by, told_in, told_to, walk}
 use Rattle.hwp_check_state.proofs.FirstFound.{first-both, first-same}
 
 -- a line more
-pub walk-next : (script : Script) (report : Report) (cpu : Cpu) (list : List Command) (rows : List CpuLine) (i : ℕ) (d row : CpuLine) (numbers new : List ℕ) (found next fault : Option ℕ) (told : Option Told) (seq : ℕ) → i < length rows → row ≡ get_or rows i d → told ≡ told_in list row → seq ≡ seq_in row
+pub walk-next : (script : Script) (report : Report) (cpu : Cpu) (list : List Command) (rows : List CpuLine) (i : ℕ) (d row : CpuLine) (numbers new : List ℕ) (found next fault : Option ℕ) (told : Option Told) (seq : ℕ) → i < length rows → row ≡ get_or rows i d → told ≡ told_in list row → seq ≡ seq_of row
     → new ≡ raised_by numbers told → fault ≡ fault_by script report (record { cpu = cpu; seq = seq }) numbers told → next ≡ soonest found fault
     → walk script report cpu list new next (drop (i + 1) rows) ≡ walk script report cpu list numbers found (drop i rows)
 walk-next script report cpu list rows i d row numbers new found next fault told seq within is tells numbered raises faults finds =

@@ -11,6 +11,7 @@ use Rattle.hwp_check_rules.specs.hwp_report_text.declared.Answer.TheVariants as 
 use Rattle.hwp_check_rules.specs.hwp_report_text.declared.CpuLine.{CpuLine}
 use Rattle.hwp_check_rules.specs.hwp_report_text.declared.CpuLine.TheVariants as lines
 use Rattle.hwp_check_rules.specs.hwp_report_text.declared.Report.{Report}
+use Rattle.hwp_check_rules.specs.hwp_law.Lines.{seq_of}
 use Rattle.hwp_check_rules.specs.hwp_law.Losses.{is_lost, is_lost_before, losses_such}
 use Rattle.hwp_check_rules.specs.Firsts.{soonest}
 use Rattle.hwp_check_state.specs.declared.told.Told.{Told}
@@ -38,13 +39,7 @@ abbrev pub told_to : Option Command → Answer → Option Told
 told_to None answer = None
 told_to (Some command) answer = told_by command answer
 
--- the command of a line, and what the line told
-abbrev pub seq_in : CpuLine → ℕ
-seq_in (lines.Event event) = event.seq
-seq_in (lines.Offlined offlined) = offlined.seq
-seq_in (lines.Guest guest) = guest.seq
-seq_in (lines.Answer seq answer) = seq
-
+-- what a line told
 abbrev pub told_in : List Command → CpuLine → Option Told
 told_in list (lines.Event event) = None
 told_in list (lines.Offlined offlined) = None
@@ -80,4 +75,4 @@ fault_by script report who numbers (Some t) = fault_of script report who numbers
 abbrev pub walk : Script → Report → Cpu → List Command → List ℕ → Option ℕ → List CpuLine → Option ℕ
 walk script report cpu list numbers found [] = found
 walk script report cpu list numbers found (row ∷ rows) =
-    walk script report cpu list (raised_by numbers (told_in list row)) (soonest found (fault_by script report (record { cpu = cpu; seq = seq_in row }) numbers (told_in list row))) rows
+    walk script report cpu list (raised_by numbers (told_in list row)) (soonest found (fault_by script report (record { cpu = cpu; seq = seq_of row }) numbers (told_in list row))) rows

@@ -1,10 +1,10 @@
 ghost use Rattle.std.specs.Prelude.{◌≡◌, ◌↔◌, None, length, replicate, IfOk, IsTrue};
 ghost use Rattle.hwp_check_state.specs.Lost.{AreLosses};
-ghost use Rattle.hwp_check_state.specs.Told.{capped, fault_by, fault_of, is_good, number_with, raised, raised_by, seq_in, telling, told_by, told_in, told_to, walk};
+ghost use Rattle.hwp_check_state.specs.Told.{capped, fault_by, fault_of, is_good, number_with, raised, raised_by, telling, told_by, told_in, told_to, walk};
 
 use crate::lost::{Loss, lost, lost_before};
 use hwp_check_rules::{
-    Answer, Command, Cpu, CpuLine, FileNo, OutOfMemory, Report, Script, Who, soonest,
+    Answer, Command, Cpu, CpuLine, FileNo, OutOfMemory, Report, Script, Who, seq_of, soonest,
 };
 use std::alloc::Global;
 
@@ -61,18 +61,6 @@ fn told_in(commands: &[Command], row: &CpuLine) -> Option<Told>
             None => None,
             Some(command) => told_by(command, answer),
         },
-    }
-}
-
-/// The number of the command that a line is of.
-fn seq_in(row: &CpuLine) -> u32
-    ensures { result ≡ seq_in row.now }
-{
-    match row {
-        CpuLine::Event(event) => event.seq,
-        CpuLine::Offlined(offlined) => offlined.seq,
-        CpuLine::Guest(guest) => guest.seq,
-        CpuLine::Answer { seq, .. } => *seq,
     }
 }
 
@@ -168,7 +156,7 @@ pub(crate) fn told_fault(
     for row in rows {
         let who = Who {
             cpu,
-            seq: seq_in(row),
+            seq: seq_of(row),
         };
         let told = told_in(commands, row);
         found = soonest(

@@ -7,7 +7,7 @@ use Rattle.hwp_check_state.proofs.told.told_fault.Goals as goal
 pub loop-row-preserved : goal.loop-row-preserved
 loop-row-preserved c =
     walk-next c.args.script.now c.args.report.now c.args.cpu c.args.commands.now c.args.rows.now c.loop-row.row-index _ _ c.loop-row.numbers.items _ c.loop-row.found _ _ _ _
-    c.loop-row-test.true refl c.told_in-told.ensures c.seq_in.ensures c.raise_by.ensures.numbers c.raise_by.ensures.fault c.soonest-found.ensures
+    c.loop-row-test.true refl c.told_in-told.ensures c.seq_of.ensures c.raise_by.ensures.numbers c.raise_by.ensures.fault c.soonest-found.ensures
     ∙ c.loop-row.invariant
 
 pub returns : goal.returns
