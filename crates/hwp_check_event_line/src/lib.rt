@@ -25,6 +25,7 @@ pub use lines::is_bad_at;
 pub use marked::{came_to, was_moved, was_taken_back, was_taken_free};
 pub use nears::{MarkIndex, Nears, past_of};
 pub use reach::{Reach, Turn};
+pub use records::is_same_command;
 pub use results::{Results, has_result, results_of};
 pub use shown::Shown;
 pub use traced::Traced;

@@ -48,7 +48,7 @@ fn tells(outcome: Outcome, acted: Acted) -> bool
 }
 
 /// Whether the two are one command of one processor.
-fn is_same_command(a: Who, b: Who) -> bool
+pub fn is_same_command(a: Who, b: Who) -> bool
     ensures { result ≡ is_same_command a b }
 {
     a.cpu.0 == b.cpu.0 && a.seq == b.seq

@@ -5,6 +5,7 @@ ghost use Rattle.hwp_check_acting.specs.ActedOn.{copies_in};
 ghost use Rattle.hwp_check_events.specs.Copied.{AreCopied, checks_in, copied_by, entries_through, is_counted, own_whats, pair_of, test_of};
 
 use hwp_check_acting::copy_of;
+use hwp_check_event_line::is_same_command;
 use hwp_law::{
     Command, Cpu, Entry, Layout, Line, List, OutOfMemory, Page, Report, VSlot, What, Who,
 };
@@ -22,13 +23,6 @@ pub struct CopyCheck {
 pub enum Counted {
     Loads,
     Stores,
-}
-
-/// Whether the two are one command.
-fn is_same_command(a: Who, b: Who) -> bool
-    ensures { result ≡ is_same_command a b }
-{
-    a.cpu.0 == b.cpu.0 && a.seq == b.seq
 }
 
 /// Whether the entry is one of those that are counted.
