@@ -1,4 +1,4 @@
-mod Lookups
+pub mod Lookups
 mod CowSteps
 mod PairLaws
 mod AnswerLaws

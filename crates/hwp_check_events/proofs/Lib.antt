@@ -1,4 +1,3 @@
-mod Lookups
 mod CopyLaws
 mod AccessLaws
 mod AccessScans

@@ -1,5 +1,4 @@
 pub mod AnswersByRow
-mod Lookups
 pub mod ActedLosses
 pub mod Lawful
 pub mod OfflinedFaults
