@@ -7,18 +7,18 @@ use Rattle.std.proofs.lemmas.Option.{none-some, same_Some}
 use Rattle.hwp_law.specs.hwp_geom.declared.Layout.{Layout}
 use Rattle.hwp_law.specs.hwp_geom.declared.Page.{Page}
 use Rattle.hwp_law.specs.hwp_page.declared.Entry.{Entry}
-use Rattle.hwp_plain_order.specs.hwp_core_rule.declared.InHand.{InHand}
-use Rattle.hwp_plain_order.specs.hwp_core_rule.declared.Log.{Log}
-use Rattle.hwp_plain_order.specs.hwp_core_rule.declared.Made.{Made}
-use Rattle.hwp_plain_order.specs.hwp_core_rule.declared.Sight.{Sight}
-use Rattle.hwp_plain_order.specs.hwp_core_rule.declared.State.{State}
-use Rattle.hwp_plain_order.specs.hwp_core_rule.declared.View.{View}
-use Rattle.hwp_plain_order.specs.hwp_core_rule.Lists.{EachMember, SomeMember, of_home, sum_all, sum_bodies}
-use Rattle.hwp_plain_order.specs.hwp_core_rule.Rule.{Holds, holder_of}
-use Rattle.hwp_plain_order.specs.hwp_core_rule.parts.Bodies.{Holder}
-use Rattle.hwp_plain_order.specs.hwp_core_rule.parts.Entries.{weigh, weigh_from}
-use Rattle.hwp_plain_order.proofs.of_hwp_core_rule.CountsBelow.{some-term}
-use Rattle.hwp_plain_order.proofs.of_hwp_core_rule.Lists.{each-map, same-or, sum-map, sum-zero, term-le, terms-le}
+use Rattle.hwp_plain.specs.hwp_core_rule.declared.InHand.{InHand}
+use Rattle.hwp_plain.specs.hwp_core_rule.declared.Log.{Log}
+use Rattle.hwp_plain.specs.hwp_core_rule.declared.Made.{Made}
+use Rattle.hwp_plain.specs.hwp_core_rule.declared.Sight.{Sight}
+use Rattle.hwp_plain.specs.hwp_core_rule.declared.State.{State}
+use Rattle.hwp_plain.specs.hwp_core_rule.declared.View.{View}
+use Rattle.hwp_plain.specs.hwp_core_rule.Lists.{EachMember, SomeMember, of_home, sum_all, sum_bodies}
+use Rattle.hwp_plain.specs.hwp_core_rule.Rule.{Holds, holder_of}
+use Rattle.hwp_plain.specs.hwp_core_rule.parts.Bodies.{Holder}
+use Rattle.hwp_plain.specs.hwp_core_rule.parts.Entries.{weigh, weigh_from}
+use Rattle.hwp_plain.proofs.of_hwp_core_rule.CountsBelow.{some-term}
+use Rattle.hwp_plain.proofs.of_hwp_core_rule.Lists.{each-map, same-or, sum-map, sum-zero, term-le, terms-le}
 use Rattle.hwp_law_run.proofs.SameEntries.{same_entry, same_entry-is, same_entry-self}
 
 -- ---- what a function says of a history

@@ -4,21 +4,21 @@ use Rattle.std.specs.List.{sum_by}
 use Rattle.std.proofs.lemmas.Bool.{cases_lt}
 use Rattle.std.proofs.lemmas.Option.{none-some, same_Some, slice_get_within}
 use Rattle.hwp_law.specs.hwp_geom.declared.Layout.{Layout}
-use Rattle.hwp_plain_order.specs.hwp_words.Frames.{is_locked, lock_of, owner_of}
-use Rattle.hwp_plain_order.specs.hwp_core_rule.declared.FrameLock.{FrameLock}
-use Rattle.hwp_plain_order.specs.hwp_core_rule.declared.Log.{Log}
-use Rattle.hwp_plain_order.specs.hwp_core_rule.declared.Ref.{Ref}
-use Rattle.hwp_plain_order.specs.hwp_core_rule.declared.State.{State}
-use Rattle.hwp_plain_order.specs.hwp_core_rule.declared.View.{View}
-use Rattle.hwp_plain_order.specs.hwp_core_rule.Rule.{Holds}
-use Rattle.hwp_plain_order.specs.hwp_core_rule.Views.{locks_on}
-use Rattle.hwp_plain_order.specs.hwp_core_rule.Words.{Words, words_of}
-use Rattle.hwp_plain_order.specs.hwp_core_rule.parts.Bodies.{IsAtHome, content_name}
-use Rattle.hwp_plain_order.specs.hwp_core_rule.parts.Owners.{HoldsBoth}
-use Rattle.hwp_plain_order.proofs.of_hwp_core_rule.Keeps.{IsShaped}
-use Rattle.hwp_plain_order.proofs.of_hwp_core_rule.Lists.{at_map, map-was, term-le}
-use Rattle.hwp_plain_order.proofs.of_hwp_core_rule.MetWords.{free-word, held-word}
-use Rattle.hwp_plain_order.proofs.of_hwp_core_rule.MoveKeeps.{shaped}
+use Rattle.hwp_plain.specs.hwp_words.Frames.{is_locked, lock_of, owner_of}
+use Rattle.hwp_plain.specs.hwp_core_rule.declared.FrameLock.{FrameLock}
+use Rattle.hwp_plain.specs.hwp_core_rule.declared.Log.{Log}
+use Rattle.hwp_plain.specs.hwp_core_rule.declared.Ref.{Ref}
+use Rattle.hwp_plain.specs.hwp_core_rule.declared.State.{State}
+use Rattle.hwp_plain.specs.hwp_core_rule.declared.View.{View}
+use Rattle.hwp_plain.specs.hwp_core_rule.Rule.{Holds}
+use Rattle.hwp_plain.specs.hwp_core_rule.Views.{locks_on}
+use Rattle.hwp_plain.specs.hwp_core_rule.Words.{Words, words_of}
+use Rattle.hwp_plain.specs.hwp_core_rule.parts.Bodies.{IsAtHome, content_name}
+use Rattle.hwp_plain.specs.hwp_core_rule.parts.Owners.{HoldsBoth}
+use Rattle.hwp_plain.proofs.of_hwp_core_rule.Keeps.{IsShaped}
+use Rattle.hwp_plain.proofs.of_hwp_core_rule.Lists.{at_map, map-was, term-le}
+use Rattle.hwp_plain.proofs.of_hwp_core_rule.MetWords.{free-word, held-word}
+use Rattle.hwp_plain.proofs.of_hwp_core_rule.MoveKeeps.{shaped}
 
 -- a member of a list at a place within it
 pub there-is : {A : Type 0} (list : List A) (i : ℕ) → i < length list → (x : A) × (slice_get list i ≡ Some x)

@@ -11,30 +11,30 @@ use Rattle.hwp_law.specs.hwp_page.declared.Entry.{Entry}
 use Rattle.hwp_law.specs.hwp_page.declared.PageState.{PageState}
 use Rattle.hwp_law.specs.hwp_page.History.{Leads}
 use Rattle.hwp_law.specs.hwp_page.Step.{after}
-use Rattle.hwp_plain_order.specs.hwp_core_rule.declared.InHand.{InHand}
-use Rattle.hwp_plain_order.specs.hwp_core_rule.declared.Log.{Log}
-use Rattle.hwp_plain_order.specs.hwp_core_rule.declared.SharedWord.{SharedWord}
-use Rattle.hwp_plain_order.specs.hwp_core_rule.declared.SharedWord.TheVariants as places
-use Rattle.hwp_plain_order.specs.hwp_core_rule.declared.Rec.{Rec}
-use Rattle.hwp_plain_order.specs.hwp_core_rule.declared.SlotMove.{SlotMove}
-use Rattle.hwp_plain_order.specs.hwp_core_rule.declared.SlotMove.TheVariants as moves
-use Rattle.hwp_plain_order.specs.hwp_core_rule.declared.State.{State}
-use Rattle.hwp_plain_order.specs.hwp_core_rule.declared.Step.{Step}
-use Rattle.hwp_plain_order.specs.hwp_core_rule.declared.Step.TheVariants as steps
-use Rattle.hwp_plain_order.specs.hwp_core_rule.declared.View.{View}
-use Rattle.hwp_plain_order.specs.hwp_core_rule.Asks.{AsksOf, CanPut, Extends}
-use Rattle.hwp_plain_order.specs.hwp_core_rule.Lists.{EachMember, Homes}
-use Rattle.hwp_plain_order.specs.hwp_core_rule.Logs.{log_of, opening_at, state_of}
-use Rattle.hwp_plain_order.specs.hwp_core_rule.Moves.{Move}
-use Rattle.hwp_plain_order.specs.hwp_core_rule.Opening.{below, opening, opening_log, opening_view}
-use Rattle.hwp_plain_order.specs.hwp_core_rule.SlotMoves.{MeetsSlot, frame_slot, homes_after, homes_moved, moved_out, shelf_slot, slot_move}
-use Rattle.hwp_plain_order.specs.hwp_core_rule.Steps.{goes}
-use Rattle.hwp_plain_order.specs.hwp_core_rule.Views.{body_of, is_body_of, killed_by, listed_of, loaded, lock_found, lock_of_page, more_of, noted, put_home, taken, view_after, view_by}
-use Rattle.hwp_plain_order.proofs.of_hwp_core_rule.AsksNoted.{asks-noted}
-use Rattle.hwp_plain_order.proofs.of_hwp_core_rule.Lists.{each-changed, each-map, each-push, each-set}
-use Rattle.hwp_plain_order.proofs.of_hwp_core_rule.MoreEntries.{each-append}
-use Rattle.hwp_plain_order.proofs.of_hwp_core_rule.ListDrops.{each-without, find-is}
-use Rattle.hwp_plain_order.specs.hwp_core_rule.Boards.{Played}
+use Rattle.hwp_plain.specs.hwp_core_rule.declared.InHand.{InHand}
+use Rattle.hwp_plain.specs.hwp_core_rule.declared.Log.{Log}
+use Rattle.hwp_plain.specs.hwp_core_rule.declared.SharedWord.{SharedWord}
+use Rattle.hwp_plain.specs.hwp_core_rule.declared.SharedWord.TheVariants as places
+use Rattle.hwp_plain.specs.hwp_core_rule.declared.Rec.{Rec}
+use Rattle.hwp_plain.specs.hwp_core_rule.declared.SlotMove.{SlotMove}
+use Rattle.hwp_plain.specs.hwp_core_rule.declared.SlotMove.TheVariants as moves
+use Rattle.hwp_plain.specs.hwp_core_rule.declared.State.{State}
+use Rattle.hwp_plain.specs.hwp_core_rule.declared.Step.{Step}
+use Rattle.hwp_plain.specs.hwp_core_rule.declared.Step.TheVariants as steps
+use Rattle.hwp_plain.specs.hwp_core_rule.declared.View.{View}
+use Rattle.hwp_plain.specs.hwp_core_rule.Asks.{AsksOf, CanPut, Extends}
+use Rattle.hwp_plain.specs.hwp_core_rule.Lists.{EachMember, Homes}
+use Rattle.hwp_plain.specs.hwp_core_rule.Logs.{log_of, opening_at, state_of}
+use Rattle.hwp_plain.specs.hwp_core_rule.Moves.{Move}
+use Rattle.hwp_plain.specs.hwp_core_rule.Opening.{below, opening, opening_log, opening_view}
+use Rattle.hwp_plain.specs.hwp_core_rule.SlotMoves.{MeetsSlot, frame_slot, homes_after, homes_moved, moved_out, shelf_slot, slot_move}
+use Rattle.hwp_plain.specs.hwp_core_rule.Steps.{goes}
+use Rattle.hwp_plain.specs.hwp_core_rule.Views.{body_of, is_body_of, killed_by, listed_of, loaded, lock_found, lock_of_page, more_of, noted, put_home, taken, view_after, view_by}
+use Rattle.hwp_plain.proofs.of_hwp_core_rule.AsksNoted.{asks-noted}
+use Rattle.hwp_plain.proofs.of_hwp_core_rule.Lists.{each-changed, each-map, each-push, each-set}
+use Rattle.hwp_plain.proofs.of_hwp_core_rule.MoreEntries.{each-append}
+use Rattle.hwp_plain.proofs.of_hwp_core_rule.ListDrops.{each-without, find-is}
+use Rattle.hwp_plain.specs.hwp_core_rule.Boards.{Played}
 use Rattle.hwp_law_run.specs.Turns.{Leads as LeadsTo}
 
 -- the entries lead from the opening of their page to its state

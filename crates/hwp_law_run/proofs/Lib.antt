@@ -10,5 +10,5 @@ pub mod Legal
 pub mod Placed
 pub mod Reported
 pub mod RunKeeps
-pub use Rattle.hwp_plain_order.proofs.of_hwp_core_rule as of_hwp_core_rule
+pub use Rattle.hwp_plain.proofs.of_hwp_core_rule as of_hwp_core_rule
 pub use Rattle.hwp_law.proofs as of_hwp_law

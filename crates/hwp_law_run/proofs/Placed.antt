@@ -7,20 +7,20 @@ use Rattle.std.proofs.lemmas.Option.{none-some, same_Some, slice_get_within}
 use Rattle.hwp_law.specs.hwp_geom.declared.Layout.{Layout}
 use Rattle.hwp_law.specs.hwp_geom.declared.Page.{Page}
 use Rattle.hwp_law.specs.hwp_geom.Limits.{page_limit}
-use Rattle.hwp_plain_order.specs.hwp_words.Frames.{handled_of, is_handled, is_kernel, owner_of}
-use Rattle.hwp_plain_order.specs.hwp_words.Names.{page_named}
-use Rattle.hwp_plain_order.specs.hwp_core_rule.declared.Log.{Log}
-use Rattle.hwp_plain_order.specs.hwp_core_rule.declared.State.{State}
-use Rattle.hwp_plain_order.specs.hwp_core_rule.declared.View.{View}
-use Rattle.hwp_plain_order.specs.hwp_core_rule.Lists.{EachMember}
-use Rattle.hwp_plain_order.specs.hwp_core_rule.Logs.{state_of}
-use Rattle.hwp_plain_order.specs.hwp_core_rule.Rule.{Holds}
-use Rattle.hwp_plain_order.specs.hwp_core_rule.Views.{locks_on}
-use Rattle.hwp_plain_order.specs.hwp_core_rule.Words.{words_of}
-use Rattle.hwp_plain_order.specs.hwp_core_rule.parts.Owners.{HoldsBoth, NamesOwn}
-use Rattle.hwp_plain_order.proofs.of_hwp_core_rule.Keeps.{IsShaped}
-use Rattle.hwp_plain_order.proofs.of_hwp_core_rule.Lists.{map-was, sum-zero}
-use Rattle.hwp_plain_order.proofs.of_hwp_core_rule.MoveKeeps.{shaped}
+use Rattle.hwp_plain.specs.hwp_words.Frames.{handled_of, is_handled, is_kernel, owner_of}
+use Rattle.hwp_plain.specs.hwp_words.Names.{page_named}
+use Rattle.hwp_plain.specs.hwp_core_rule.declared.Log.{Log}
+use Rattle.hwp_plain.specs.hwp_core_rule.declared.State.{State}
+use Rattle.hwp_plain.specs.hwp_core_rule.declared.View.{View}
+use Rattle.hwp_plain.specs.hwp_core_rule.Lists.{EachMember}
+use Rattle.hwp_plain.specs.hwp_core_rule.Logs.{state_of}
+use Rattle.hwp_plain.specs.hwp_core_rule.Rule.{Holds}
+use Rattle.hwp_plain.specs.hwp_core_rule.Views.{locks_on}
+use Rattle.hwp_plain.specs.hwp_core_rule.Words.{words_of}
+use Rattle.hwp_plain.specs.hwp_core_rule.parts.Owners.{HoldsBoth, NamesOwn}
+use Rattle.hwp_plain.proofs.of_hwp_core_rule.Keeps.{IsShaped}
+use Rattle.hwp_plain.proofs.of_hwp_core_rule.Lists.{map-was, sum-zero}
+use Rattle.hwp_plain.proofs.of_hwp_core_rule.MoveKeeps.{shaped}
 use Rattle.hwp_law.specs.hwp_report_text.declared.FrameLine.{FrameLine}
 use Rattle.hwp_law.specs.hwp_report_text.declared.Whereabouts.TheVariants as places
 use Rattle.hwp_law.specs.PageHistory.{is_of}

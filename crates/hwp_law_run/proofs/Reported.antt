@@ -13,18 +13,18 @@ use Rattle.hwp_law.specs.hwp_page.declared.Entry.{Entry}
 use Rattle.hwp_law.specs.hwp_page.declared.PageState.{PageState}
 use Rattle.hwp_law.specs.hwp_page.History.{Leads, state_after}
 use Rattle.hwp_law.specs.hwp_page.Step.{opening_of}
-use Rattle.hwp_plain_order.specs.hwp_core_rule.declared.Length.{Length}
-use Rattle.hwp_plain_order.specs.hwp_core_rule.declared.Log.{Log}
-use Rattle.hwp_plain_order.specs.hwp_core_rule.declared.Made.{Made}
-use Rattle.hwp_plain_order.specs.hwp_core_rule.declared.State.{State}
-use Rattle.hwp_plain_order.specs.hwp_core_rule.declared.View.{View}
-use Rattle.hwp_plain_order.specs.hwp_core_rule.Lists.{EachMember, SomeMember}
-use Rattle.hwp_plain_order.specs.hwp_core_rule.Logs.{opening_at, state_of}
-use Rattle.hwp_plain_order.specs.hwp_core_rule.Rule.{Holds}
-use Rattle.hwp_plain_order.specs.hwp_core_rule.Words.{words_of}
-use Rattle.hwp_plain_order.specs.hwp_core_rule.parts.Holdings.{IsPast}
-use Rattle.hwp_plain_order.proofs.of_hwp_core_rule.Lists.{at_map}
-use Rattle.hwp_plain_order.proofs.of_hwp_core_rule.NotLater.{one-view}
+use Rattle.hwp_plain.specs.hwp_core_rule.declared.Length.{Length}
+use Rattle.hwp_plain.specs.hwp_core_rule.declared.Log.{Log}
+use Rattle.hwp_plain.specs.hwp_core_rule.declared.Made.{Made}
+use Rattle.hwp_plain.specs.hwp_core_rule.declared.State.{State}
+use Rattle.hwp_plain.specs.hwp_core_rule.declared.View.{View}
+use Rattle.hwp_plain.specs.hwp_core_rule.Lists.{EachMember, SomeMember}
+use Rattle.hwp_plain.specs.hwp_core_rule.Logs.{opening_at, state_of}
+use Rattle.hwp_plain.specs.hwp_core_rule.Rule.{Holds}
+use Rattle.hwp_plain.specs.hwp_core_rule.Words.{words_of}
+use Rattle.hwp_plain.specs.hwp_core_rule.parts.Holdings.{IsPast}
+use Rattle.hwp_plain.proofs.of_hwp_core_rule.Lists.{at_map}
+use Rattle.hwp_plain.proofs.of_hwp_core_rule.NotLater.{one-view}
 use Rattle.hwp_law.specs.hwp_report_text.declared.FrameLine.{FrameLine}
 use Rattle.hwp_law.specs.hwp_report_text.declared.Report.{Report}
 use Rattle.hwp_law.specs.History.{AreOrdered}

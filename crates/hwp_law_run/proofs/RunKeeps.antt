@@ -2,14 +2,14 @@
 use Rattle.std.proofs.Common.{◌≡◌, ◌≢◌, ℕ, ◌⊎◌, inl, inr, List, [], ◌∷◌, set, refl, sym, ap, ◌∙◌, subst}
 use Rattle.std.proofs.lemmas.Bool.{cases_eq}
 use Rattle.hwp_law.specs.hwp_geom.declared.Layout.{Layout}
-use Rattle.hwp_plain_order.specs.hwp_core_rule.declared.State.{State}
+use Rattle.hwp_plain.specs.hwp_core_rule.declared.State.{State}
 use Rattle.hwp_law.specs.hwp_script_read.declared.Go.{Go}
-use Rattle.hwp_plain_order.specs.hwp_core_rule.declared.Turn.{Turn}
-use Rattle.hwp_plain_order.specs.hwp_core_rule.Boards.{Played}
-use Rattle.hwp_plain_order.specs.hwp_core_rule.Ranks.{Made}
-use Rattle.hwp_plain_order.specs.hwp_core_rule.Turns.{Member}
-use Rattle.hwp_plain_order.specs.Order.{Finishing, InOrder, IsAt, Running, Schedule, TurnOf, Word}
-use Rattle.hwp_plain_order.proofs.Chosen.{IsAt-before, IsAt-same, IsAt-set}
+use Rattle.hwp_plain.specs.hwp_core_rule.declared.Turn.{Turn}
+use Rattle.hwp_plain.specs.hwp_core_rule.Boards.{Played}
+use Rattle.hwp_plain.specs.hwp_core_rule.Ranks.{Made}
+use Rattle.hwp_plain.specs.hwp_core_rule.Turns.{Member}
+use Rattle.hwp_plain.specs.Order.{Finishing, InOrder, IsAt, Running, Schedule, TurnOf, Word}
+use Rattle.hwp_plain.proofs.Chosen.{IsAt-before, IsAt-same, IsAt-set}
 
 module _ {S : Type 0} (m : Member S) (P : Running S → Running S → Type 0) (none : (a : Running S) → P a a) (then : (a b c : Running S) → P a b → P b c → P a c)
     (turn : (a b : Running S) (cpu : ℕ) (p : Played) → TurnOf m a cpu p b → P a b) where

@@ -6,27 +6,27 @@ use Rattle.hwp_law.specs.hwp_geom.declared.Frame.{Frame}
 use Rattle.hwp_law.specs.hwp_geom.declared.Layout.{Layout}
 use Rattle.hwp_law.specs.hwp_geom.declared.Page.{Page}
 use Rattle.hwp_law.specs.hwp_geom.declared.Who.{Who}
-use Rattle.hwp_plain_order.specs.hwp_words.Frames.{cycle_of}
-use Rattle.hwp_plain_order.specs.hwp_core_rule.declared.FrameLock.{FrameLock}
-use Rattle.hwp_plain_order.specs.hwp_core_rule.declared.InHand.{InHand}
-use Rattle.hwp_plain_order.specs.hwp_core_rule.declared.Length.{Length}
-use Rattle.hwp_plain_order.specs.hwp_core_rule.declared.Log.{Log}
-use Rattle.hwp_plain_order.specs.hwp_core_rule.declared.Mark.{Mark}
-use Rattle.hwp_plain_order.specs.hwp_core_rule.declared.MarkKind.TheVariants as kinds
-use Rattle.hwp_plain_order.specs.hwp_core_rule.declared.PageLock.{PageLock}
-use Rattle.hwp_plain_order.specs.hwp_core_rule.declared.SharedWord.{SharedWord}
-use Rattle.hwp_plain_order.specs.hwp_core_rule.declared.SharedWord.TheVariants as places
-use Rattle.hwp_plain_order.specs.hwp_core_rule.declared.Sight.{Sight}
-use Rattle.hwp_plain_order.specs.hwp_core_rule.declared.Spoiled.{Spoiled}
-use Rattle.hwp_plain_order.specs.hwp_core_rule.declared.Step.{Step}
-use Rattle.hwp_plain_order.specs.hwp_core_rule.declared.Step.TheVariants as steps
-use Rattle.hwp_plain_order.specs.hwp_core_rule.declared.View.{View}
-use Rattle.hwp_plain_order.specs.hwp_core_rule.Lists.{EachMember, SomeMember}
-use Rattle.hwp_plain_order.specs.hwp_core_rule.Logs.{log_of}
-use Rattle.hwp_plain_order.specs.hwp_core_rule.Steps.{goes, place_of}
-use Rattle.hwp_plain_order.specs.hwp_core_rule.Views.{adopting, body_of, is_page_lock_of, knowing, listed_of, loaded, lock_found, lock_of_page, put_home, stamp_of, taken, view_by}
-use Rattle.hwp_plain_order.specs.hwp_core_rule.parts.Entries.{IsUnder as IsUnderLock}
-use Rattle.hwp_plain_order.proofs.of_hwp_core_rule.Lists.{each-push, some-changed, some-last}
+use Rattle.hwp_plain.specs.hwp_words.Frames.{cycle_of}
+use Rattle.hwp_plain.specs.hwp_core_rule.declared.FrameLock.{FrameLock}
+use Rattle.hwp_plain.specs.hwp_core_rule.declared.InHand.{InHand}
+use Rattle.hwp_plain.specs.hwp_core_rule.declared.Length.{Length}
+use Rattle.hwp_plain.specs.hwp_core_rule.declared.Log.{Log}
+use Rattle.hwp_plain.specs.hwp_core_rule.declared.Mark.{Mark}
+use Rattle.hwp_plain.specs.hwp_core_rule.declared.MarkKind.TheVariants as kinds
+use Rattle.hwp_plain.specs.hwp_core_rule.declared.PageLock.{PageLock}
+use Rattle.hwp_plain.specs.hwp_core_rule.declared.SharedWord.{SharedWord}
+use Rattle.hwp_plain.specs.hwp_core_rule.declared.SharedWord.TheVariants as places
+use Rattle.hwp_plain.specs.hwp_core_rule.declared.Sight.{Sight}
+use Rattle.hwp_plain.specs.hwp_core_rule.declared.Spoiled.{Spoiled}
+use Rattle.hwp_plain.specs.hwp_core_rule.declared.Step.{Step}
+use Rattle.hwp_plain.specs.hwp_core_rule.declared.Step.TheVariants as steps
+use Rattle.hwp_plain.specs.hwp_core_rule.declared.View.{View}
+use Rattle.hwp_plain.specs.hwp_core_rule.Lists.{EachMember, SomeMember}
+use Rattle.hwp_plain.specs.hwp_core_rule.Logs.{log_of}
+use Rattle.hwp_plain.specs.hwp_core_rule.Steps.{goes, place_of}
+use Rattle.hwp_plain.specs.hwp_core_rule.Views.{adopting, body_of, is_page_lock_of, knowing, listed_of, loaded, lock_found, lock_of_page, put_home, stamp_of, taken, view_by}
+use Rattle.hwp_plain.specs.hwp_core_rule.parts.Entries.{IsUnder as IsUnderLock}
+use Rattle.hwp_plain.proofs.of_hwp_core_rule.Lists.{each-push, some-changed, some-last}
 use Rattle.hwp_law_run.specs.Turns.{SeesPage}
 
 -- what is said of each sight, length, mark, stop and spoiled line that a view lists

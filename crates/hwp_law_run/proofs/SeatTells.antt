@@ -9,32 +9,32 @@ use Rattle.hwp_law.specs.hwp_geom.declared.Cpu.{Cpu}
 use Rattle.hwp_law.specs.hwp_geom.declared.Frame.{Frame}
 use Rattle.hwp_law.specs.hwp_geom.declared.Layout.{Layout}
 use Rattle.hwp_law.specs.hwp_geom.declared.Who.{Who}
-use Rattle.hwp_plain_order.specs.hwp_words.Frames.{lock_of}
-use Rattle.hwp_plain_order.specs.hwp_core_rule.declared.FrameLock.{FrameLock}
-use Rattle.hwp_plain_order.specs.hwp_core_rule.declared.Log.{Log}
-use Rattle.hwp_plain_order.specs.hwp_core_rule.declared.Rec.{Rec}
-use Rattle.hwp_plain_order.specs.hwp_core_rule.declared.Ref.{Ref}
-use Rattle.hwp_plain_order.specs.hwp_core_rule.declared.SharedWord.{SharedWord}
-use Rattle.hwp_plain_order.specs.hwp_core_rule.declared.SharedWord.TheVariants as places
-use Rattle.hwp_plain_order.specs.hwp_core_rule.declared.Sight.{Sight}
-use Rattle.hwp_plain_order.specs.hwp_core_rule.declared.State.{State}
-use Rattle.hwp_plain_order.specs.hwp_core_rule.declared.Step.{Step}
-use Rattle.hwp_plain_order.specs.hwp_core_rule.declared.Step.TheVariants as steps
-use Rattle.hwp_plain_order.specs.hwp_core_rule.declared.View.{View}
-use Rattle.hwp_plain_order.specs.hwp_core_rule.Asks.{AsksOf}
-use Rattle.hwp_plain_order.specs.hwp_core_rule.Lists.{EachMember, SomeMember}
-use Rattle.hwp_plain_order.specs.hwp_core_rule.Moves.{Move}
-use Rattle.hwp_plain_order.specs.hwp_core_rule.Opening.{below, opening, opening_view}
-use Rattle.hwp_plain_order.specs.hwp_core_rule.Rule.{Holds}
-use Rattle.hwp_plain_order.specs.hwp_core_rule.Steps.{place_of}
-use Rattle.hwp_plain_order.specs.hwp_core_rule.Views.{locks_on, noted, view_after}
-use Rattle.hwp_plain_order.specs.hwp_core_rule.Words.{index, words_of}
-use Rattle.hwp_plain_order.specs.hwp_core_rule.parts.Entries.{IsUnder as IsUnderLock}
-use Rattle.hwp_plain_order.specs.hwp_core_rule.parts.Locks.{IsLocked}
-use Rattle.hwp_plain_order.proofs.of_hwp_core_rule.Lists.{at_map, each-map, each-set, each-weaken, same-number, set_here, term-le}
-use Rattle.hwp_plain_order.proofs.of_hwp_core_rule.MetWords.{frame-word}
-use Rattle.hwp_plain_order.proofs.of_hwp_core_rule.MoveKeeps.{shaped}
-use Rattle.hwp_plain_order.specs.hwp_core_rule.Boards.{Played}
+use Rattle.hwp_plain.specs.hwp_words.Frames.{lock_of}
+use Rattle.hwp_plain.specs.hwp_core_rule.declared.FrameLock.{FrameLock}
+use Rattle.hwp_plain.specs.hwp_core_rule.declared.Log.{Log}
+use Rattle.hwp_plain.specs.hwp_core_rule.declared.Rec.{Rec}
+use Rattle.hwp_plain.specs.hwp_core_rule.declared.Ref.{Ref}
+use Rattle.hwp_plain.specs.hwp_core_rule.declared.SharedWord.{SharedWord}
+use Rattle.hwp_plain.specs.hwp_core_rule.declared.SharedWord.TheVariants as places
+use Rattle.hwp_plain.specs.hwp_core_rule.declared.Sight.{Sight}
+use Rattle.hwp_plain.specs.hwp_core_rule.declared.State.{State}
+use Rattle.hwp_plain.specs.hwp_core_rule.declared.Step.{Step}
+use Rattle.hwp_plain.specs.hwp_core_rule.declared.Step.TheVariants as steps
+use Rattle.hwp_plain.specs.hwp_core_rule.declared.View.{View}
+use Rattle.hwp_plain.specs.hwp_core_rule.Asks.{AsksOf}
+use Rattle.hwp_plain.specs.hwp_core_rule.Lists.{EachMember, SomeMember}
+use Rattle.hwp_plain.specs.hwp_core_rule.Moves.{Move}
+use Rattle.hwp_plain.specs.hwp_core_rule.Opening.{below, opening, opening_view}
+use Rattle.hwp_plain.specs.hwp_core_rule.Rule.{Holds}
+use Rattle.hwp_plain.specs.hwp_core_rule.Steps.{place_of}
+use Rattle.hwp_plain.specs.hwp_core_rule.Views.{locks_on, noted, view_after}
+use Rattle.hwp_plain.specs.hwp_core_rule.Words.{index, words_of}
+use Rattle.hwp_plain.specs.hwp_core_rule.parts.Entries.{IsUnder as IsUnderLock}
+use Rattle.hwp_plain.specs.hwp_core_rule.parts.Locks.{IsLocked}
+use Rattle.hwp_plain.proofs.of_hwp_core_rule.Lists.{at_map, each-map, each-set, each-weaken, same-number, set_here, term-le}
+use Rattle.hwp_plain.proofs.of_hwp_core_rule.MetWords.{frame-word}
+use Rattle.hwp_plain.proofs.of_hwp_core_rule.MoveKeeps.{shaped}
+use Rattle.hwp_plain.specs.hwp_core_rule.Boards.{Played}
 use Rattle.hwp_law_run.specs.Turns.{Leads, SawPage, TurnBy}
 use Rattle.hwp_law_run.proofs.SeatKnows.{IsStamped, IsUnder, Marks, Said, SaidOfStep, Sayings, Spoils, said-by}
 use Rattle.hwp_law_run.proofs.TurnLeads.{leads-on}

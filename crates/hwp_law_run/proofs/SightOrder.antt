@@ -12,33 +12,33 @@ use Rattle.hwp_law.specs.hwp_geom.declared.Page.{Page}
 use Rattle.hwp_law.specs.hwp_geom.declared.Who.{Who}
 use Rattle.hwp_law.specs.hwp_page.declared.Entry.{Entry}
 use Rattle.hwp_law.specs.hwp_page.Orders.{IsEarlier, IsNotLater}
-use Rattle.hwp_plain_order.specs.hwp_core_rule.declared.InHand.{InHand}
-use Rattle.hwp_plain_order.specs.hwp_core_rule.declared.Length.{Length}
-use Rattle.hwp_plain_order.specs.hwp_core_rule.declared.Log.{Log}
-use Rattle.hwp_plain_order.specs.hwp_core_rule.declared.Made.{Made}
-use Rattle.hwp_plain_order.specs.hwp_core_rule.declared.Rec.{Rec}
-use Rattle.hwp_plain_order.specs.hwp_core_rule.declared.Sight.{Sight}
-use Rattle.hwp_plain_order.specs.hwp_core_rule.declared.SlotMove.{SlotMove}
-use Rattle.hwp_plain_order.specs.hwp_core_rule.declared.Stamp.{Stamp}
-use Rattle.hwp_plain_order.specs.hwp_core_rule.declared.State.{State}
-use Rattle.hwp_plain_order.specs.hwp_core_rule.declared.View.{View}
-use Rattle.hwp_plain_order.specs.hwp_core_rule.Lists.{EachMember, of_home, sum_all, sum_bodies}
-use Rattle.hwp_plain_order.specs.hwp_core_rule.Moves.{Move}
-use Rattle.hwp_plain_order.specs.hwp_core_rule.Opening.{below, opening, opening_view}
-use Rattle.hwp_plain_order.specs.hwp_core_rule.Rule.{Holds, holder_of}
-use Rattle.hwp_plain_order.specs.hwp_core_rule.SlotMoves.{MeetsSlot}
-use Rattle.hwp_plain_order.specs.hwp_core_rule.Views.{is_body_of, made_from, more_of, noted, stamp_of, view_after}
-use Rattle.hwp_plain_order.specs.hwp_core_rule.Words.{words_of}
-use Rattle.hwp_plain_order.specs.hwp_core_rule.parts.Bodies.{Holder}
-use Rattle.hwp_plain_order.specs.hwp_core_rule.parts.Entries.{weigh, weigh_from}
-use Rattle.hwp_plain_order.specs.hwp_core_rule.parts.Holdings.{IsPast}
-use Rattle.hwp_plain_order.proofs.of_hwp_core_rule.AsksNoted.{asks-noted}
-use Rattle.hwp_plain_order.proofs.of_hwp_core_rule.CountsBelow.{some-term}
-use Rattle.hwp_plain_order.proofs.of_hwp_core_rule.Lists.{at_map, each-map, each-set, same-or, sum-map, term-le, terms-le}
-use Rattle.hwp_plain_order.proofs.of_hwp_core_rule.MoreEntries.{each-append}
-use Rattle.hwp_plain_order.proofs.of_hwp_core_rule.NotLater.{not-later}
-use Rattle.hwp_plain_order.proofs.of_hwp_core_rule.ListDrops.{find-is}
-use Rattle.hwp_plain_order.specs.hwp_core_rule.Boards.{Played}
+use Rattle.hwp_plain.specs.hwp_core_rule.declared.InHand.{InHand}
+use Rattle.hwp_plain.specs.hwp_core_rule.declared.Length.{Length}
+use Rattle.hwp_plain.specs.hwp_core_rule.declared.Log.{Log}
+use Rattle.hwp_plain.specs.hwp_core_rule.declared.Made.{Made}
+use Rattle.hwp_plain.specs.hwp_core_rule.declared.Rec.{Rec}
+use Rattle.hwp_plain.specs.hwp_core_rule.declared.Sight.{Sight}
+use Rattle.hwp_plain.specs.hwp_core_rule.declared.SlotMove.{SlotMove}
+use Rattle.hwp_plain.specs.hwp_core_rule.declared.Stamp.{Stamp}
+use Rattle.hwp_plain.specs.hwp_core_rule.declared.State.{State}
+use Rattle.hwp_plain.specs.hwp_core_rule.declared.View.{View}
+use Rattle.hwp_plain.specs.hwp_core_rule.Lists.{EachMember, of_home, sum_all, sum_bodies}
+use Rattle.hwp_plain.specs.hwp_core_rule.Moves.{Move}
+use Rattle.hwp_plain.specs.hwp_core_rule.Opening.{below, opening, opening_view}
+use Rattle.hwp_plain.specs.hwp_core_rule.Rule.{Holds, holder_of}
+use Rattle.hwp_plain.specs.hwp_core_rule.SlotMoves.{MeetsSlot}
+use Rattle.hwp_plain.specs.hwp_core_rule.Views.{is_body_of, made_from, more_of, noted, stamp_of, view_after}
+use Rattle.hwp_plain.specs.hwp_core_rule.Words.{words_of}
+use Rattle.hwp_plain.specs.hwp_core_rule.parts.Bodies.{Holder}
+use Rattle.hwp_plain.specs.hwp_core_rule.parts.Entries.{weigh, weigh_from}
+use Rattle.hwp_plain.specs.hwp_core_rule.parts.Holdings.{IsPast}
+use Rattle.hwp_plain.proofs.of_hwp_core_rule.AsksNoted.{asks-noted}
+use Rattle.hwp_plain.proofs.of_hwp_core_rule.CountsBelow.{some-term}
+use Rattle.hwp_plain.proofs.of_hwp_core_rule.Lists.{at_map, each-map, each-set, same-or, sum-map, term-le, terms-le}
+use Rattle.hwp_plain.proofs.of_hwp_core_rule.MoreEntries.{each-append}
+use Rattle.hwp_plain.proofs.of_hwp_core_rule.NotLater.{not-later}
+use Rattle.hwp_plain.proofs.of_hwp_core_rule.ListDrops.{find-is}
+use Rattle.hwp_plain.specs.hwp_core_rule.Boards.{Played}
 use Rattle.hwp_law_run.specs.Turns.{Leads}
 use Rattle.hwp_law_run.proofs.StepAdds.{AddsLength, AddsMade, AddsNothing, adds}
 use Rattle.hwp_law_run.proofs.Homes.{home-within}

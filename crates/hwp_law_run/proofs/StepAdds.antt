@@ -4,20 +4,20 @@ use Rattle.std.proofs.Common.{◌≡◌, ℕ, ◌==◌, ◌⊎◌, Bool, true, f
 use Rattle.hwp_law.specs.hwp_geom.declared.Frame.{Frame}
 use Rattle.hwp_law.specs.hwp_geom.declared.Layout.{Layout}
 use Rattle.hwp_law.specs.hwp_geom.declared.Who.{Who}
-use Rattle.hwp_plain_order.specs.hwp_core_rule.declared.InHand.{InHand}
-use Rattle.hwp_plain_order.specs.hwp_core_rule.declared.Length.{Length}
-use Rattle.hwp_plain_order.specs.hwp_core_rule.declared.Log.{Log}
-use Rattle.hwp_plain_order.specs.hwp_core_rule.declared.SharedWord.{SharedWord}
-use Rattle.hwp_plain_order.specs.hwp_core_rule.declared.SharedWord.TheVariants as places
-use Rattle.hwp_plain_order.specs.hwp_core_rule.declared.SlotMove.TheVariants as moves
-use Rattle.hwp_plain_order.specs.hwp_core_rule.declared.Step.{Step}
-use Rattle.hwp_plain_order.specs.hwp_core_rule.declared.Step.TheVariants as steps
-use Rattle.hwp_plain_order.specs.hwp_core_rule.declared.View.{View}
-use Rattle.hwp_plain_order.specs.hwp_core_rule.Asks.{AsksOf, CanPut, Extends}
-use Rattle.hwp_plain_order.specs.hwp_core_rule.Logs.{log_of}
-use Rattle.hwp_plain_order.specs.hwp_core_rule.SlotMoves.{frame_slot, moved_out, shelf_slot, slot_move}
-use Rattle.hwp_plain_order.specs.hwp_core_rule.Steps.{goes}
-use Rattle.hwp_plain_order.specs.hwp_core_rule.Views.{body_of, listed_of, loaded, lock_found, lock_of_page, made_from, more_of, put_home, stamp_of, taken, view_by}
+use Rattle.hwp_plain.specs.hwp_core_rule.declared.InHand.{InHand}
+use Rattle.hwp_plain.specs.hwp_core_rule.declared.Length.{Length}
+use Rattle.hwp_plain.specs.hwp_core_rule.declared.Log.{Log}
+use Rattle.hwp_plain.specs.hwp_core_rule.declared.SharedWord.{SharedWord}
+use Rattle.hwp_plain.specs.hwp_core_rule.declared.SharedWord.TheVariants as places
+use Rattle.hwp_plain.specs.hwp_core_rule.declared.SlotMove.TheVariants as moves
+use Rattle.hwp_plain.specs.hwp_core_rule.declared.Step.{Step}
+use Rattle.hwp_plain.specs.hwp_core_rule.declared.Step.TheVariants as steps
+use Rattle.hwp_plain.specs.hwp_core_rule.declared.View.{View}
+use Rattle.hwp_plain.specs.hwp_core_rule.Asks.{AsksOf, CanPut, Extends}
+use Rattle.hwp_plain.specs.hwp_core_rule.Logs.{log_of}
+use Rattle.hwp_plain.specs.hwp_core_rule.SlotMoves.{frame_slot, moved_out, shelf_slot, slot_move}
+use Rattle.hwp_plain.specs.hwp_core_rule.Steps.{goes}
+use Rattle.hwp_plain.specs.hwp_core_rule.Views.{body_of, listed_of, loaded, lock_found, lock_of_page, made_from, more_of, put_home, stamp_of, taken, view_by}
 
 -- nothing was added
 pub record AddsNothing (v x : View) : Type 0 where

@@ -1,13 +1,13 @@
 -- Turns in the order of a schedule lead from board to board.
 use Rattle.std.proofs.Common.{◌≡◌, ℕ, List, [], ◌∷◌, ◌++◌, refl, sym, ap, ◌∙◌, subst, inl, inr}
 use Rattle.hwp_law.specs.hwp_geom.declared.Layout.{Layout}
-use Rattle.hwp_plain_order.specs.hwp_core_rule.declared.State.{State}
-use Rattle.hwp_plain_order.specs.hwp_core_rule.Moves.{Move}
-use Rattle.hwp_plain_order.specs.hwp_core_rule.Rule.{Holds}
+use Rattle.hwp_plain.specs.hwp_core_rule.declared.State.{State}
+use Rattle.hwp_plain.specs.hwp_core_rule.Moves.{Move}
+use Rattle.hwp_plain.specs.hwp_core_rule.Rule.{Holds}
 use Rattle.hwp_law.specs.hwp_script_read.declared.Go.{Go}
-use Rattle.hwp_plain_order.specs.hwp_core_rule.Boards.{Played}
-use Rattle.hwp_plain_order.specs.hwp_core_rule.Turns.{Member}
-use Rattle.hwp_plain_order.specs.Order.{Finishing, InOrder, Running, Schedule, TurnOf, Word}
+use Rattle.hwp_plain.specs.hwp_core_rule.Boards.{Played}
+use Rattle.hwp_plain.specs.hwp_core_rule.Turns.{Member}
+use Rattle.hwp_plain.specs.Order.{Finishing, InOrder, Running, Schedule, TurnOf, Word}
 use Rattle.hwp_law_run.specs.Turns.{Leads}
 
 -- turns, and then others

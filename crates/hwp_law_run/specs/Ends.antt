@@ -6,17 +6,17 @@ use Rattle.hwp_law.specs.hwp_geom.declared.Layout.{Layout}
 use Rattle.hwp_law.specs.hwp_geom.declared.Page.{Page}
 use Rattle.hwp_law.specs.hwp_geom.declared.Who.{Who}
 use Rattle.hwp_law.specs.hwp_page.declared.Entry.{Entry}
-use Rattle.hwp_plain_order.specs.hwp_words.Counters.{biased_poisoned_of}
-use Rattle.hwp_plain_order.specs.hwp_words.Frames.{is_handled, is_kernel, owner_of, poison_of}
-use Rattle.hwp_plain_order.specs.hwp_words.Names.{page_named}
-use Rattle.hwp_plain_order.specs.hwp_words.Stops.{stopper_of}
-use Rattle.hwp_plain_order.specs.hwp_core_rule.declared.Log.{Log}
-use Rattle.hwp_plain_order.specs.hwp_core_rule.declared.Mark.{Mark}
-use Rattle.hwp_plain_order.specs.hwp_core_rule.declared.MarkKind.TheVariants as kinds
-use Rattle.hwp_plain_order.specs.hwp_core_rule.declared.State.{State}
-use Rattle.hwp_plain_order.specs.hwp_core_rule.declared.View.{View}
-use Rattle.hwp_plain_order.specs.hwp_core_rule.Lists.{SomeListed, SomeMember}
-use Rattle.hwp_plain_order.specs.hwp_core_rule.Words.{Words, words_of}
+use Rattle.hwp_plain.specs.hwp_words.Counters.{biased_poisoned_of}
+use Rattle.hwp_plain.specs.hwp_words.Frames.{is_handled, is_kernel, owner_of, poison_of}
+use Rattle.hwp_plain.specs.hwp_words.Names.{page_named}
+use Rattle.hwp_plain.specs.hwp_words.Stops.{stopper_of}
+use Rattle.hwp_plain.specs.hwp_core_rule.declared.Log.{Log}
+use Rattle.hwp_plain.specs.hwp_core_rule.declared.Mark.{Mark}
+use Rattle.hwp_plain.specs.hwp_core_rule.declared.MarkKind.TheVariants as kinds
+use Rattle.hwp_plain.specs.hwp_core_rule.declared.State.{State}
+use Rattle.hwp_plain.specs.hwp_core_rule.declared.View.{View}
+use Rattle.hwp_plain.specs.hwp_core_rule.Lists.{SomeListed, SomeMember}
+use Rattle.hwp_plain.specs.hwp_core_rule.Words.{Words, words_of}
 use Rattle.hwp_law.specs.hwp_report_text.declared.FrameLine.{FrameLine}
 use Rattle.hwp_law.specs.hwp_report_text.declared.How.{How}
 use Rattle.hwp_law.specs.hwp_report_text.declared.How.TheVariants as hows

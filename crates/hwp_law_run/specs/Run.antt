@@ -1,11 +1,11 @@
 -- The law of a run: the report of a script is that of some list of atomic steps.
 use Rattle.std.specs.Prelude.{ℕ, List}
 use Rattle.hwp_law.specs.hwp_geom.declared.Cpu.{Cpu}
-use Rattle.hwp_plain_order.specs.hwp_core_rule.Opening.{opening}
-use Rattle.hwp_plain_order.specs.hwp_core_rule.Rule.{Holds}
-use Rattle.hwp_plain_order.specs.hwp_core_rule.Boards.{AreSeated, Played}
-use Rattle.hwp_plain_order.specs.hwp_core_rule.Turns.{Member}
-use Rattle.hwp_plain_order.specs.Order.{InOrder, Running, running}
+use Rattle.hwp_plain.specs.hwp_core_rule.Opening.{opening}
+use Rattle.hwp_plain.specs.hwp_core_rule.Rule.{Holds}
+use Rattle.hwp_plain.specs.hwp_core_rule.Boards.{AreSeated, Played}
+use Rattle.hwp_plain.specs.hwp_core_rule.Turns.{Member}
+use Rattle.hwp_plain.specs.Order.{InOrder, Running, running}
 use Rattle.hwp_law.specs.hwp_script_read.declared.Script.{Script}
 use Rattle.hwp_law.specs.hwp_report_text.declared.Report.{Report}
 use Rattle.hwp_law.specs.Acting.{acting_script, copied_at}

@@ -9,10 +9,10 @@ use Rattle.hwp_law.specs.hwp_banks.declared.Origin.{Origin}
 use Rattle.hwp_law.specs.hwp_banks.declared.Origin.TheVariants as origins
 use Rattle.hwp_law.specs.hwp_banks.Addresses.{line_address}
 use Rattle.hwp_law.specs.hwp_banks.Events.{bank_of, own_status}
-use Rattle.hwp_plain_order.specs.hwp_core_rule.declared.SharedWord.{SharedWord}
-use Rattle.hwp_plain_order.specs.hwp_core_rule.declared.SharedWord.TheVariants as places
-use Rattle.hwp_plain_order.specs.hwp_core_rule.Lists.{SomeMember}
-use Rattle.hwp_plain_order.specs.hwp_core_rule.Boards.{Played}
+use Rattle.hwp_plain.specs.hwp_core_rule.declared.SharedWord.{SharedWord}
+use Rattle.hwp_plain.specs.hwp_core_rule.declared.SharedWord.TheVariants as places
+use Rattle.hwp_plain.specs.hwp_core_rule.Lists.{SomeMember}
+use Rattle.hwp_plain.specs.hwp_core_rule.Boards.{Played}
 use Rattle.hwp_law.specs.hwp_script_read.declared.Command.TheVariants as commands
 use Rattle.hwp_law.specs.hwp_script_read.declared.Script.{Script}
 use Rattle.hwp_law.specs.hwp_report_text.declared.Answer.TheVariants as answers

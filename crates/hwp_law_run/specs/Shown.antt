@@ -11,18 +11,18 @@ use Rattle.hwp_law.specs.hwp_geom.declared.Who.{Who}
 use Rattle.hwp_law.specs.hwp_banks.Addresses.{frame_at}
 use Rattle.hwp_law.specs.hwp_page.declared.At.{At}
 use Rattle.hwp_law.specs.hwp_page.Step.{IsOf}
-use Rattle.hwp_plain_order.specs.hwp_words.Counters.{hardware_of}
-use Rattle.hwp_plain_order.specs.hwp_words.Frames.{count_of, is_handled, is_kernel, is_poisoned, lock_of, owner_of}
-use Rattle.hwp_plain_order.specs.hwp_words.Stops.{stopper_of}
-use Rattle.hwp_plain_order.specs.hwp_core_rule.declared.Log.{Log}
-use Rattle.hwp_plain_order.specs.hwp_core_rule.declared.SharedWord.TheVariants as places
-use Rattle.hwp_plain_order.specs.hwp_core_rule.declared.Rec.{Rec}
-use Rattle.hwp_plain_order.specs.hwp_core_rule.declared.Step.TheVariants as steps
-use Rattle.hwp_plain_order.specs.hwp_core_rule.declared.View.{View}
-use Rattle.hwp_plain_order.specs.hwp_core_rule.Lists.{EachMember}
-use Rattle.hwp_plain_order.specs.hwp_core_rule.Logs.{state_of}
-use Rattle.hwp_plain_order.specs.hwp_core_rule.parts.Places.{IsBare}
-use Rattle.hwp_plain_order.specs.hwp_core_rule.Boards.{Played}
+use Rattle.hwp_plain.specs.hwp_words.Counters.{hardware_of}
+use Rattle.hwp_plain.specs.hwp_words.Frames.{count_of, is_handled, is_kernel, is_poisoned, lock_of, owner_of}
+use Rattle.hwp_plain.specs.hwp_words.Stops.{stopper_of}
+use Rattle.hwp_plain.specs.hwp_core_rule.declared.Log.{Log}
+use Rattle.hwp_plain.specs.hwp_core_rule.declared.SharedWord.TheVariants as places
+use Rattle.hwp_plain.specs.hwp_core_rule.declared.Rec.{Rec}
+use Rattle.hwp_plain.specs.hwp_core_rule.declared.Step.TheVariants as steps
+use Rattle.hwp_plain.specs.hwp_core_rule.declared.View.{View}
+use Rattle.hwp_plain.specs.hwp_core_rule.Lists.{EachMember}
+use Rattle.hwp_plain.specs.hwp_core_rule.Logs.{state_of}
+use Rattle.hwp_plain.specs.hwp_core_rule.parts.Places.{IsBare}
+use Rattle.hwp_plain.specs.hwp_core_rule.Boards.{Played}
 use Rattle.hwp_law.specs.hwp_script_read.declared.Command.{Command}
 use Rattle.hwp_law.specs.hwp_script_read.declared.Command.TheVariants as commands
 use Rattle.hwp_law.specs.hwp_script_read.declared.Script.{Script}

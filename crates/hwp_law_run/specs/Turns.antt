@@ -4,21 +4,21 @@ use Rattle.hwp_law.specs.hwp_geom.declared.Frame.{Frame}
 use Rattle.hwp_law.specs.hwp_geom.declared.Layout.{Layout}
 use Rattle.hwp_law.specs.hwp_geom.declared.Page.{Page}
 use Rattle.hwp_law.specs.hwp_geom.declared.Who.{Who}
-use Rattle.hwp_plain_order.specs.hwp_core_rule.declared.FrameLock.{FrameLock}
-use Rattle.hwp_plain_order.specs.hwp_core_rule.declared.InHand.{InHand}
-use Rattle.hwp_plain_order.specs.hwp_core_rule.declared.Log.{Log}
-use Rattle.hwp_plain_order.specs.hwp_core_rule.declared.PageLock.{PageLock}
-use Rattle.hwp_plain_order.specs.hwp_core_rule.declared.SharedWord.{SharedWord}
-use Rattle.hwp_plain_order.specs.hwp_core_rule.declared.SharedWord.TheVariants as places
-use Rattle.hwp_plain_order.specs.hwp_core_rule.declared.Rec.{Rec}
-use Rattle.hwp_plain_order.specs.hwp_core_rule.declared.State.{State}
-use Rattle.hwp_plain_order.specs.hwp_core_rule.declared.View.{View}
-use Rattle.hwp_plain_order.specs.hwp_core_rule.Lists.{SomeMember}
-use Rattle.hwp_plain_order.specs.hwp_core_rule.Moves.{Move}
-use Rattle.hwp_plain_order.specs.hwp_core_rule.Opening.{opening}
-use Rattle.hwp_plain_order.specs.hwp_core_rule.Rule.{Holds}
-use Rattle.hwp_plain_order.specs.hwp_core_rule.Steps.{place_of}
-use Rattle.hwp_plain_order.specs.hwp_core_rule.Boards.{Played}
+use Rattle.hwp_plain.specs.hwp_core_rule.declared.FrameLock.{FrameLock}
+use Rattle.hwp_plain.specs.hwp_core_rule.declared.InHand.{InHand}
+use Rattle.hwp_plain.specs.hwp_core_rule.declared.Log.{Log}
+use Rattle.hwp_plain.specs.hwp_core_rule.declared.PageLock.{PageLock}
+use Rattle.hwp_plain.specs.hwp_core_rule.declared.SharedWord.{SharedWord}
+use Rattle.hwp_plain.specs.hwp_core_rule.declared.SharedWord.TheVariants as places
+use Rattle.hwp_plain.specs.hwp_core_rule.declared.Rec.{Rec}
+use Rattle.hwp_plain.specs.hwp_core_rule.declared.State.{State}
+use Rattle.hwp_plain.specs.hwp_core_rule.declared.View.{View}
+use Rattle.hwp_plain.specs.hwp_core_rule.Lists.{SomeMember}
+use Rattle.hwp_plain.specs.hwp_core_rule.Moves.{Move}
+use Rattle.hwp_plain.specs.hwp_core_rule.Opening.{opening}
+use Rattle.hwp_plain.specs.hwp_core_rule.Rule.{Holds}
+use Rattle.hwp_plain.specs.hwp_core_rule.Steps.{place_of}
+use Rattle.hwp_plain.specs.hwp_core_rule.Boards.{Played}
 
 -- the turns lead, move by move, from one board to another, and each keeps the frame rule
 abbrev pub Leads : Layout → State → List Played → State → Type 0

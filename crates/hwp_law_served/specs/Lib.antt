@@ -23,7 +23,7 @@ pub use Rattle.hwp_law_run.specs.hwp_law as hwp_law
 pub use Rattle.hwp_law_run.specs.hwp_law_commands as hwp_law_commands
 pub use Rattle.hwp_law_run.specs as hwp_law_run
 pub use Rattle.hwp_law_run.specs.hwp_page as hwp_page
-pub use Rattle.hwp_law_run.specs.hwp_plain_order as hwp_plain_order
+pub use Rattle.hwp_law_run.specs.hwp_plain as hwp_plain
 pub use Rattle.hwp_law_run.specs.hwp_report_text as hwp_report_text
 pub use Rattle.hwp_law_run.specs.hwp_script_lines as hwp_script_lines
 pub use Rattle.hwp_law_run.specs.hwp_script_read as hwp_script_read

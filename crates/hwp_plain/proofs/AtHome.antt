@@ -12,8 +12,8 @@ use Rattle.hwp_core_rule.specs.SlotMoves.{IsIn}
 use Rattle.hwp_core_rule.specs.parts.Holdings.{HoldsNothing}
 use Rattle.hwp_core_rule.proofs.Lists.{each-map}
 use Rattle.hwp_core_rule.specs.Calls.{FitsLayout}
-use Rattle.hwp_plain_words.specs.Openings.{home_with}
-use Rattle.hwp_plain_words.proofs.AllHome.{all-home}
+use Rattle.hwp_plain.specs.Openings.{home_with}
+use Rattle.hwp_plain.proofs.AllHome.{all-home}
 use Rattle.hwp_plain.specs.declared.slot.Slot.{Slot}
 use Rattle.hwp_plain.specs.declared.slot.Slot.TheVariants.{Home, Out}
 use Rattle.hwp_plain.specs.Slots.{home_of, in_slot, body_in, IsSlotOf, AreOfLayout}

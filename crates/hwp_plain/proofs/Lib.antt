@@ -1,3 +1,15 @@
+mod Exits
+pub mod Gaps
+pub mod Chosen
+pub mod Seats
+pub mod RankFalls
+pub mod LowestLevel
+pub mod ScheduleTells
+pub mod TurnTells
+pub mod CrewOpens
+pub mod SlotLists
+pub mod AllHome
+mod TakenHistories
 mod BoardOpens
 mod CacheRange
 mod AtHome
@@ -5,6 +17,6 @@ mod Carried
 pub mod TrailViews
 mod Stepped
 pub mod BoardTurns
-pub use Rattle.hwp_plain_order.proofs as of_hwp_plain_order
-pub use Rattle.hwp_plain_order.proofs.of_hwp_script_lines as of_hwp_script_lines
-pub use Rattle.hwp_plain_order.proofs.of_hwp_script_read as of_hwp_script_read
+pub use Rattle.hwp_core_rule.proofs as of_hwp_core_rule
+pub use Rattle.hwp_script_read.proofs.of_hwp_script_lines as of_hwp_script_lines
+pub use Rattle.hwp_script_read.proofs as of_hwp_script_read

@@ -1,6 +1,14 @@
+pub mod Order
+pub mod Rank
+pub mod Ready
+pub mod Openings
+pub mod Ends
 pub mod Slots
 pub mod Trails
 pub mod Boards
-pub use Rattle.hwp_plain_order.specs as hwp_plain_order
-pub use Rattle.hwp_plain_order.specs.hwp_script_lines as hwp_script_lines
-pub use Rattle.hwp_plain_order.specs.hwp_script_read as hwp_script_read
+pub use Rattle.hwp_core_rule.specs as hwp_core_rule
+pub use Rattle.hwp_core_rule.specs.hwp_geom as hwp_geom
+pub use Rattle.hwp_core_rule.specs.hwp_page as hwp_page
+pub use Rattle.hwp_script_read.specs.hwp_script_lines as hwp_script_lines
+pub use Rattle.hwp_script_read.specs as hwp_script_read
+pub use Rattle.hwp_core_rule.specs.hwp_words as hwp_words

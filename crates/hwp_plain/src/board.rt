@@ -5,17 +5,20 @@ ghost use Rattle.hwp_core_rule.specs.Opening.{opening};
 ghost use Rattle.hwp_core_rule.specs.parts.Holdings.{HoldsNothing};
 ghost use Rattle.hwp_core_rule.specs.Calls.{CanMake, Steps, logs, rec_of};
 ghost use Rattle.hwp_plain.specs.Boards.{IsReached, Moves, own_view, with_turn};
-ghost use Rattle.hwp_plain_words.specs.Ends.{AreHistories, IsMachineOf};
+ghost use Rattle.hwp_plain.specs.Ends.{AreHistories, IsMachineOf};
 ghost use Rattle.hwp_core_rule.specs.Boards.{AreSeated};
 
 use crate::bodies::{bodies_of, slots_of};
+use crate::closing::histories;
+use crate::machine::{Machine, machine_of};
+use crate::opening::opening_bodies;
 use crate::slot::{Slot, carry};
 use crate::trail::{Trail, tell};
+use crate::words::opening_words;
 use hwp_core_rule::{
     Body, Cpu, Entry, Kind, Layout, List, Met, OutOfMemory, Page, SharedWord, Step, Turn, Who,
     index,
 };
-use hwp_plain_words::{Machine, histories, machine_of, opening_bodies, opening_words};
 use std::alloc::Global;
 use std::marker::Model;
 use std::snapshot::Snapshot;

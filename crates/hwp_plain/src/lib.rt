@@ -1,15 +1,24 @@
 //! The machine in plain vectors: words, page bodies, and a trail of the moves that brought them about, which clauses alone
 //! read. Tasks advance on it turn by turn. That the board was reached by these moves, and that the frame rule holds of it,
-//! stands in its type.
+//! stands in its type. Beside it stands what every board needs: the order of turns, the words and the bodies at opening, and,
+//! when nothing is held, what the machine came to and the histories of its pages.
 #![tactic(auto)]
 
 mod board;
 mod bodies;
+mod closing;
+mod machine;
+mod opening;
 mod ops;
+mod scheduler;
 mod slot;
 mod trail;
 mod turns;
+mod words;
 
 pub use board::PlainBoard;
-pub use hwp_plain_order::step_all;
-pub use hwp_plain_words::Machine;
+pub use closing::histories;
+pub use machine::{Machine, machine_of};
+pub use opening::opening_bodies;
+pub use scheduler::step_all;
+pub use words::opening_words;

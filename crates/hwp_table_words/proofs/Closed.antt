@@ -19,8 +19,8 @@ use Rattle.hwp_core_rule.specs.parts.Holdings.{HoldsNothing}
 use Rattle.hwp_core_rule.specs.Words.{size, words_of}
 use Rattle.hwp_core_rule.proofs.CountsBelow.{some-term}
 use Rattle.hwp_core_rule.proofs.Lists.{at_map}
-use Rattle.hwp_plain_words.specs.Openings.{home_with}
-use Rattle.hwp_plain_words.proofs.AllHome.{all-home}
+use Rattle.hwp_plain.specs.Openings.{home_with}
+use Rattle.hwp_plain.proofs.AllHome.{all-home}
 use Rattle.hwp_table_words.specs.Ends.{HasAll, IsEnd, board_of}
 use Rattle.hwp_table_words.specs.Known.{Knowing}
 use Rattle.hwp_table_words.specs.Order.{in_rule}

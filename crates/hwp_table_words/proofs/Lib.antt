@@ -24,4 +24,4 @@ mod OrderLocks
 mod Guarded
 mod SeatMakes
 pub use Rattle.hwp_core_rule.proofs as of_hwp_core_rule
-pub use Rattle.hwp_plain_words.proofs as of_hwp_plain_words
+pub use Rattle.hwp_plain.proofs as of_hwp_plain

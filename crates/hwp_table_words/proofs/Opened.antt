@@ -20,7 +20,7 @@ use Rattle.hwp_core_rule.proofs.Lists.{same-or, map-was, at_map, at_push, sum-ma
 use Rattle.hwp_core_rule.proofs.BoardOpens.{opening-holds, homes-length}
 use Rattle.hwp_core_rule.proofs.WordsOpen.{below-at}
 use Rattle.hwp_core_rule.specs.Calls.{FitsLayout}
-use Rattle.hwp_plain_words.specs.Openings.{home_with}
+use Rattle.hwp_plain.specs.Openings.{home_with}
 use Rattle.hwp_table_words.specs.Known.{Known, Whole, first_known, first_knowing, times, views_for}
 use Rattle.hwp_table_words.specs.Order.{IsOpened, in_rule}
 use Rattle.hwp_table_words.specs.Rules.{IsOwn, IsWhole, Kept, Reached, Ruled}

@@ -10,7 +10,7 @@ use Rattle.hwp_core_rule.specs.Opening.{opening}
 use Rattle.hwp_core_rule.specs.Rule.{Holds}
 use Rattle.hwp_core_rule.specs.Words.{words_of}
 use Rattle.hwp_core_rule.specs.parts.Holdings.{HoldsNothing}
-use Rattle.hwp_plain_words.specs.Openings.{home_with}
+use Rattle.hwp_plain.specs.Openings.{home_with}
 use Rattle.hwp_table_words.specs.Known.{Known, Whole, moves_by, views_for}
 use Rattle.hwp_table_words.specs.Rules.{IsWhole}
 use Rattle.hwp_table_words.specs.Stands.{Content}

@@ -15,5 +15,5 @@ pub use Rattle.hwp_core_rule.specs as hwp_core_rule
 pub use Rattle.hwp_core_rule.specs.hwp_geom as hwp_geom
 pub use Rattle.hwp_core_rule.specs.hwp_kill as hwp_kill
 pub use Rattle.hwp_core_rule.specs.hwp_page as hwp_page
-pub use Rattle.hwp_plain_words.specs as hwp_plain_words
+pub use Rattle.hwp_plain.specs as hwp_plain
 pub use Rattle.hwp_core_rule.specs.hwp_words as hwp_words

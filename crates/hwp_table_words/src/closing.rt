@@ -1,7 +1,7 @@
 ghost use Rattle.std.specs.Prelude.{◌≡◌, ◌<◌, ◌≤◌, ℕ, [], false, length, map, take, slice_index_or, vec_capacity, vec_len, IfErr, IfOk};
 ghost use Rattle.std.specs.Slots.{slots_items, slots_filled, slots_len, IsFull};
-ghost use Rattle.hwp_plain_words.specs.Openings.{home_with};
-ghost use Rattle.hwp_plain_words.specs.Ends.{IsMachineOf};
+ghost use Rattle.hwp_plain.specs.Openings.{home_with};
+ghost use Rattle.hwp_plain.specs.Ends.{IsMachineOf};
 ghost use Rattle.hwp_table_words.specs.Ends.{HasAll, IsEnd};
 ghost use Rattle.hwp_table_words.specs.Order.{in_rule};
 ghost use Rattle.hwp_table_words.specs.Seats.{IsTableOf};
@@ -10,7 +10,7 @@ use crate::plays::{Pass, Slot, WordTable};
 use crate::ways::Ways;
 use atomic_table::Closed;
 use hwp_core_rule::{Layout, OutOfMemory};
-use hwp_plain_words::{Machine, machine_of};
+use hwp_plain::{Machine, machine_of};
 use std::alloc::Global;
 use std::marker::Model;
 use std::snapshot::Snapshot;

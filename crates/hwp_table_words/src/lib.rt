@@ -27,7 +27,7 @@ pub use baton::{join, let_go, split};
 pub use closing::{Ended, close};
 pub use counts::TlbCounts;
 pub use entry::EntryWord;
-pub use hwp_plain_words::Machine;
+pub use hwp_plain::Machine;
 pub use knowledge::Knowledge;
 pub use opening::begin;
 pub use plays::{Pass, Rule, Sheet, Slot, WordTable};

@@ -10,7 +10,7 @@ use crate::plays::{Pass, WordTable};
 use crate::ways::Ways;
 use atomic_table::Table;
 use hwp_core_rule::{Layout, OutOfMemory};
-use hwp_plain_words::{opening_bodies, opening_words};
+use hwp_plain::{opening_bodies, opening_words};
 use std::alloc::{AllocError, Global};
 use std::sync::Arc;
 

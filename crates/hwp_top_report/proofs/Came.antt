@@ -6,8 +6,8 @@ use Rattle.hwp_table_words.specs.hwp_core_rule.declared.State.{State}
 use Rattle.hwp_table_words.specs.hwp_core_rule.Lists.{EachMember, Homes}
 use Rattle.hwp_table_words.specs.hwp_core_rule.parts.Holdings.{HoldsNothing}
 use Rattle.hwp_table_words.specs.hwp_core_rule.Boards.{Played}
-use Rattle.hwp_table_words.specs.hwp_plain_words.Openings.{home_with}
-use Rattle.hwp_table_words.specs.hwp_plain_words.Ends.{AreHistories}
+use Rattle.hwp_table_words.specs.hwp_plain.Openings.{home_with}
+use Rattle.hwp_table_words.specs.hwp_plain.Ends.{AreHistories}
 use Rattle.hwp_cpu_row.specs.hwp_script_read.declared.Command.{Command}
 use Rattle.hwp_cpu_row.specs.hwp_script_read.declared.Script.{Script}
 use Rattle.hwp_cpu_row.specs.hwp_script_read.Valid.{IsValid}

@@ -4,25 +4,25 @@ use Rattle.std.specs.List.{sum_by}
 use Rattle.std.specs.Option.{option_or}
 use Rattle.std.proofs.lemmas.Bool.{cases_lt}
 use Rattle.std.proofs.lemmas.Option.{none-some, same_Some, slice_get_within}
-use Rattle.hwp_plain_words.specs.hwp_geom.declared.Frame.{Frame}
-use Rattle.hwp_plain_words.specs.hwp_geom.declared.Layout.{Layout}
-use Rattle.hwp_plain_words.specs.hwp_geom.declared.Who.{Who}
-use Rattle.hwp_plain_words.specs.hwp_page.declared.Entry.{Entry}
-use Rattle.hwp_plain_words.specs.hwp_words.Counters.{biased_poisoned_of}
-use Rattle.hwp_plain_words.specs.hwp_words.Frames.{poison_of}
-use Rattle.hwp_plain_words.specs.hwp_words.Stops.{stopper_of}
-use Rattle.hwp_plain_words.specs.hwp_core_rule.declared.State.{State}
-use Rattle.hwp_plain_words.specs.hwp_core_rule.declared.View.{View}
-use Rattle.hwp_plain_words.specs.hwp_core_rule.Lists.{SomeMember}
-use Rattle.hwp_plain_words.specs.hwp_core_rule.Rule.{Holds, count_debts_of}
-use Rattle.hwp_plain_words.specs.hwp_core_rule.Words.{words_of}
-use Rattle.hwp_plain_words.specs.hwp_core_rule.parts.Counter.{CountDebts}
-use Rattle.hwp_plain_words.specs.hwp_core_rule.parts.Holdings.{HoldsNothing}
-use Rattle.hwp_plain_words.specs.hwp_core_rule.declared.Debts.{Debts}
-use Rattle.hwp_plain_words.proofs.of_hwp_core_rule.CountsBelow.{some-term}
-use Rattle.hwp_plain_words.proofs.of_hwp_core_rule.Lists.{at_map, each-map, each-weaken, map-was, sum-zero}
-use Rattle.hwp_plain_words.proofs.of_hwp_core_rule.MoveKeeps.{shaped}
-use Rattle.hwp_plain_words.proofs.of_hwp_core_rule.WordsByKind.{word-there}
+use Rattle.hwp_plain.specs.hwp_geom.declared.Frame.{Frame}
+use Rattle.hwp_plain.specs.hwp_geom.declared.Layout.{Layout}
+use Rattle.hwp_plain.specs.hwp_geom.declared.Who.{Who}
+use Rattle.hwp_plain.specs.hwp_page.declared.Entry.{Entry}
+use Rattle.hwp_plain.specs.hwp_words.Counters.{biased_poisoned_of}
+use Rattle.hwp_plain.specs.hwp_words.Frames.{poison_of}
+use Rattle.hwp_plain.specs.hwp_words.Stops.{stopper_of}
+use Rattle.hwp_plain.specs.hwp_core_rule.declared.State.{State}
+use Rattle.hwp_plain.specs.hwp_core_rule.declared.View.{View}
+use Rattle.hwp_plain.specs.hwp_core_rule.Lists.{SomeMember}
+use Rattle.hwp_plain.specs.hwp_core_rule.Rule.{Holds, count_debts_of}
+use Rattle.hwp_plain.specs.hwp_core_rule.Words.{words_of}
+use Rattle.hwp_plain.specs.hwp_core_rule.parts.Counter.{CountDebts}
+use Rattle.hwp_plain.specs.hwp_core_rule.parts.Holdings.{HoldsNothing}
+use Rattle.hwp_plain.specs.hwp_core_rule.declared.Debts.{Debts}
+use Rattle.hwp_plain.proofs.of_hwp_core_rule.CountsBelow.{some-term}
+use Rattle.hwp_plain.proofs.of_hwp_core_rule.Lists.{at_map, each-map, each-weaken, map-was, sum-zero}
+use Rattle.hwp_plain.proofs.of_hwp_core_rule.MoveKeeps.{shaped}
+use Rattle.hwp_plain.proofs.of_hwp_core_rule.WordsByKind.{word-there}
 use Rattle.hwp_cpu_row.specs.hwp_script_read.declared.Command.{Command}
 use Rattle.hwp_cpu_row.specs.hwp_script_read.declared.Command.TheVariants as commands
 use Rattle.hwp_cpu_row.specs.hwp_report_text.declared.FrameLine.{FrameLine}
@@ -40,7 +40,7 @@ use Rattle.hwp_cpu_row.specs.hwp_cpu_check.Told.{halts}
 use Rattle.hwp_law_served.specs.Rows.{Note, record_of}
 use Rattle.hwp_law_served.specs.Runs.{IsCauseOf, notes_of, panic_cause, row_at, severity_cause, told_cause}
 use Rattle.hwp_law_served.specs.Served.{CanStop, IsFirstStopped}
-use Rattle.hwp_plain_words.specs.Ends.{AreHistories}
+use Rattle.hwp_plain.specs.Ends.{AreHistories}
 use Rattle.hwp_top_report.specs.Closing.{AreLinesBy, AreWordsOf, HasStopper, IsClosing, IsEnded, IsHalter, IsLineBy, IsOutcome, IsStopBy, IsStopCause, IsStopper, cause_in, cause_of, lines_of_all}
 use Rattle.hwp_top_report.proofs.Noted.{marks-moved}
 

@@ -3,9 +3,9 @@ use Rattle.std.proofs.Common.{◌≡◌, ℕ, ◌+◌, ◌-◌, List, length, ma
 use Rattle.hwp_table_words.specs.hwp_geom.declared.Layout.{Layout}
 use Rattle.hwp_table_words.specs.hwp_core_rule.Rule.{Holds}
 use Rattle.hwp_table_words.specs.hwp_core_rule.Words.{caches_from}
-use Rattle.hwp_table_words.specs.hwp_plain_words.Openings.{home_with}
-use Rattle.hwp_table_words.specs.hwp_plain_words.Ends.{AreLed}
-use Rattle.hwp_table_words.proofs.of_hwp_plain_words.AllHome.{led-here}
+use Rattle.hwp_table_words.specs.hwp_plain.Openings.{home_with}
+use Rattle.hwp_table_words.specs.hwp_plain.Ends.{AreLed}
+use Rattle.hwp_table_words.proofs.of_hwp_plain.AllHome.{led-here}
 use Rattle.hwp_table_words.specs.Ends.{EndValue, IsEnd, board_of}
 use Rattle.hwp_table_words.specs.Stands.{Content}
 

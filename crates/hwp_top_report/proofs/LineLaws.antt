@@ -2,9 +2,9 @@
 use Rattle.std.proofs.Common.{◌≡◌, ◌≢◌, ◌⊎◌, inl, inr, ℕ, ◌+◌, ◌<◌, List, [], ◌∷◌, ◌++◌, Some, get_or, length, slice_get, slice_index_or, sym, ap, ◌∙◌, subst, arith}
 use Rattle.std.proofs.lemmas.List.{length-append}
 use Rattle.std.proofs.lemmas.Option.{same_Some, slice_get-get_or, slice_get_within}
-use Rattle.hwp_plain_words.specs.hwp_geom.declared.Frame.{Frame}
-use Rattle.hwp_plain_words.specs.hwp_core_rule.Words.{Words}
-use Rattle.hwp_plain_words.proofs.of_hwp_core_rule.Lists.{at_last, at_longer, same-or}
+use Rattle.hwp_plain.specs.hwp_geom.declared.Frame.{Frame}
+use Rattle.hwp_plain.specs.hwp_core_rule.Words.{Words}
+use Rattle.hwp_plain.proofs.of_hwp_core_rule.Lists.{at_last, at_longer, same-or}
 use Rattle.hwp_cpu_row.specs.hwp_report_text.declared.FrameLine.{FrameLine}
 use Rattle.hwp_cpu_row.specs.hwp_report_text.declared.MarkLine.{MarkLine}
 use Rattle.hwp_law_served.proofs.of_hwp_law_run.Homes.{there-is}

@@ -4,18 +4,18 @@ use Rattle.std.proofs.lemmas.Bool.{eq-eqb, eqb-true}
 use Rattle.std.specs.List.Sorted.{IsPermutation}
 use Rattle.std.proofs.lemmas.List.Sorted.{IsPermutation-sym}
 use Rattle.std.proofs.lemmas.Option.{none-some, same_Some, slice_get_within}
-use Rattle.hwp_plain_words.specs.hwp_geom.declared.Cpu.{Cpu}
-use Rattle.hwp_plain_words.specs.hwp_geom.declared.Frame.{Frame}
-use Rattle.hwp_plain_words.specs.hwp_geom.declared.Layout.{Layout}
-use Rattle.hwp_plain_words.specs.hwp_core_rule.declared.Mark.{Mark}
-use Rattle.hwp_plain_words.specs.hwp_core_rule.declared.MarkKind.{MarkKind}
-use Rattle.hwp_plain_words.specs.hwp_core_rule.declared.MarkKind.TheVariants as kinds
-use Rattle.hwp_plain_words.specs.hwp_core_rule.declared.State.{State}
-use Rattle.hwp_plain_words.specs.hwp_core_rule.declared.View.{View}
-use Rattle.hwp_plain_words.specs.hwp_core_rule.Lists.{SomeMember}
-use Rattle.hwp_plain_words.specs.hwp_core_rule.Rule.{Holds}
-use Rattle.hwp_plain_words.proofs.of_hwp_core_rule.Lists.{at_longer, at_map, map-was}
-use Rattle.hwp_plain_words.specs.hwp_core_rule.Boards.{AreSeated, view_of}
+use Rattle.hwp_plain.specs.hwp_geom.declared.Cpu.{Cpu}
+use Rattle.hwp_plain.specs.hwp_geom.declared.Frame.{Frame}
+use Rattle.hwp_plain.specs.hwp_geom.declared.Layout.{Layout}
+use Rattle.hwp_plain.specs.hwp_core_rule.declared.Mark.{Mark}
+use Rattle.hwp_plain.specs.hwp_core_rule.declared.MarkKind.{MarkKind}
+use Rattle.hwp_plain.specs.hwp_core_rule.declared.MarkKind.TheVariants as kinds
+use Rattle.hwp_plain.specs.hwp_core_rule.declared.State.{State}
+use Rattle.hwp_plain.specs.hwp_core_rule.declared.View.{View}
+use Rattle.hwp_plain.specs.hwp_core_rule.Lists.{SomeMember}
+use Rattle.hwp_plain.specs.hwp_core_rule.Rule.{Holds}
+use Rattle.hwp_plain.proofs.of_hwp_core_rule.Lists.{at_longer, at_map, map-was}
+use Rattle.hwp_plain.specs.hwp_core_rule.Boards.{AreSeated, view_of}
 use Rattle.hwp_cpu_row.specs.hwp_report_text.declared.How.{How}
 use Rattle.hwp_cpu_row.specs.hwp_report_text.declared.How.TheVariants as hows
 use Rattle.hwp_cpu_row.specs.hwp_report_text.declared.MarkLine.{MarkLine}

@@ -5,7 +5,7 @@ use Rattle.std.proofs.lemmas.List.{append_assoc, get_or-set_other, get_or-set_sa
 use Rattle.std.proofs.lemmas.List.Concat.{flat_map-append}
 use Rattle.std.proofs.lemmas.List.Elements.{filter-append}
 use Rattle.std.proofs.lemmas.Option.{get_or_from_slice_get, none-some, same_Some, slice_get-get_or, slice_get_within}
-use Rattle.hwp_plain_words.specs.hwp_geom.declared.Frame.{Frame}
+use Rattle.hwp_plain.specs.hwp_geom.declared.Frame.{Frame}
 use Rattle.hwp_cpu_row.specs.hwp_report_text.declared.MarkLine.{MarkLine}
 use Rattle.hwp_law_served.specs.Rows.{Note, lines_of, record_of}
 use Rattle.hwp_top_report.specs.Records.{AreGathered, GoOn, with_note}

@@ -5,9 +5,9 @@ use Rattle.hwp_law_served.specs.hwp_core_rule.Boards.{view_of}
 use Rattle.hwp_law_served.specs.hwp_core_rule.Classes.{TellsClass}
 use Rattle.hwp_law_served.specs.hwp_core_rule.Ranks.{Pending}
 use Rattle.hwp_law_served.specs.hwp_core_rule.Turns.{Member}
-use Rattle.hwp_law_served.specs.hwp_plain_order.Order.{AreOver, Running, seat_of}
-use Rattle.hwp_law_served.specs.hwp_plain_order.Rank.{words_in}
-use Rattle.hwp_law_served.specs.hwp_plain_order.Ready.{IsCrew}
+use Rattle.hwp_law_served.specs.hwp_plain.Order.{AreOver, Running, seat_of}
+use Rattle.hwp_law_served.specs.hwp_plain.Rank.{words_in}
+use Rattle.hwp_law_served.specs.hwp_plain.Ready.{IsCrew}
 
 pub settled-when-over : {S : Type 0} (m : Member S) (a : Running S) → TellsClass m → IsCrew m a → AreOver m a.tasks → (frame : Frame) (cycle : ℕ) → Pending (words_in a) frame cycle → ⊥
 settled-when-over m a tells crew over frame cycle pending =

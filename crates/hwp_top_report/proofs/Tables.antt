@@ -2,8 +2,8 @@
 use Rattle.std.proofs.Common.{◌≡◌, ℕ, suc, ◌+◌, ◌-◌, ◌<◌, min, List, [], ◌∷◌, ◌++◌, length, take, drop, slice_index, sym, ap, ◌∙◌, arith}
 use Rattle.std.proofs.lemmas.List.{length-drop, length-take}
 use Rattle.std.proofs.Math.Seq.{take-suc}
-use Rattle.hwp_plain_words.specs.hwp_geom.declared.Layout.{Layout}
-use Rattle.hwp_plain_words.specs.hwp_core_rule.Words.{losses_from, size, words_of}
+use Rattle.hwp_plain.specs.hwp_geom.declared.Layout.{Layout}
+use Rattle.hwp_plain.specs.hwp_core_rule.Words.{losses_from, size, words_of}
 use Rattle.hwp_top_report.specs.Closing.{AreWordsOf}
 
 -- the first words of a list, with the next one

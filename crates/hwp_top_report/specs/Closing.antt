@@ -1,19 +1,19 @@
 -- The report of a run, from what the board on which it ends came to and from the rows of its processors.
 use Rattle.std.specs.Prelude.{◌≡◌, ◌≢◌, ℕ, ◌+◌, ◌^◌, ◌<◌, ◌≤◌, ◌==◌, ◌||◌, Bool, true, false, List, Option, Some, None, length, map, option_and_then, slice_get, slice_index, unwrap_or, IfSome}
-use Rattle.hwp_plain_words.specs.hwp_geom.declared.Frame.{Frame}
-use Rattle.hwp_plain_words.specs.hwp_geom.declared.Layout.{Layout}
-use Rattle.hwp_plain_words.specs.hwp_geom.declared.Who.{Who}
-use Rattle.hwp_plain_words.specs.hwp_geom.Layout.{IsSound}
-use Rattle.hwp_plain_words.specs.hwp_geom.Limits.{command_limit, cpu_limit}
-use Rattle.hwp_plain_words.specs.hwp_page.declared.Entry.{Entry}
-use Rattle.hwp_plain_words.specs.hwp_words.Stops.{stopper_of}
-use Rattle.hwp_plain_words.specs.hwp_core_rule.declared.State.{State}
-use Rattle.hwp_plain_words.specs.hwp_core_rule.declared.View.{View}
-use Rattle.hwp_plain_words.specs.hwp_core_rule.Lists.{EachMember}
-use Rattle.hwp_plain_words.specs.hwp_core_rule.Rule.{Holds}
-use Rattle.hwp_plain_words.specs.hwp_core_rule.Words.{Words, size}
-use Rattle.hwp_plain_words.specs.hwp_core_rule.parts.Holdings.{HoldsNothing}
-use Rattle.hwp_plain_words.specs.Ends.{AreHistories}
+use Rattle.hwp_plain.specs.hwp_geom.declared.Frame.{Frame}
+use Rattle.hwp_plain.specs.hwp_geom.declared.Layout.{Layout}
+use Rattle.hwp_plain.specs.hwp_geom.declared.Who.{Who}
+use Rattle.hwp_plain.specs.hwp_geom.Layout.{IsSound}
+use Rattle.hwp_plain.specs.hwp_geom.Limits.{command_limit, cpu_limit}
+use Rattle.hwp_plain.specs.hwp_page.declared.Entry.{Entry}
+use Rattle.hwp_plain.specs.hwp_words.Stops.{stopper_of}
+use Rattle.hwp_plain.specs.hwp_core_rule.declared.State.{State}
+use Rattle.hwp_plain.specs.hwp_core_rule.declared.View.{View}
+use Rattle.hwp_plain.specs.hwp_core_rule.Lists.{EachMember}
+use Rattle.hwp_plain.specs.hwp_core_rule.Rule.{Holds}
+use Rattle.hwp_plain.specs.hwp_core_rule.Words.{Words, size}
+use Rattle.hwp_plain.specs.hwp_core_rule.parts.Holdings.{HoldsNothing}
+use Rattle.hwp_plain.specs.Ends.{AreHistories}
 use Rattle.hwp_cpu_row.specs.hwp_script_read.declared.Command.{Command}
 use Rattle.hwp_cpu_row.specs.hwp_script_read.declared.Command.TheVariants as commands
 use Rattle.hwp_cpu_row.specs.hwp_report_text.declared.CpuLine.{CpuLine}

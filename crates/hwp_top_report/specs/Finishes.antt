@@ -7,7 +7,7 @@ use Rattle.hwp_table_words.specs.hwp_core_rule.Opening.{opening}
 use Rattle.hwp_table_words.specs.hwp_core_rule.Rule.{Holds}
 use Rattle.hwp_table_words.specs.hwp_core_rule.Boards.{AreSeated, Played}
 use Rattle.hwp_table_words.specs.hwp_core_rule.Ranks.{Pending, words_at}
-use Rattle.hwp_table_words.specs.hwp_plain_words.Openings.{home_with}
+use Rattle.hwp_table_words.specs.hwp_plain.Openings.{home_with}
 use Rattle.hwp_table_words.specs.Ends.{EndValue}
 use Rattle.hwp_cpu_row.specs.hwp_script_read.declared.Script.{Script}
 use Rattle.hwp_cpu_row.specs.hwp_report_text.declared.Report.{Report}

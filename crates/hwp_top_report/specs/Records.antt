@@ -1,6 +1,6 @@
 -- The records of frames, gathered from what processors noted.
 use Rattle.std.specs.Prelude.{◌≡◌, ℕ, List, [], ◌∷◌, ◌++◌, Some, length, slice_get, slice_index_or, slice_set}
-use Rattle.hwp_plain_words.specs.hwp_geom.declared.Frame.{Frame}
+use Rattle.hwp_plain.specs.hwp_geom.declared.Frame.{Frame}
 use Rattle.hwp_cpu_row.specs.hwp_report_text.declared.MarkLine.{MarkLine}
 use Rattle.hwp_law_served.specs.Rows.{Note, lines_of, record_of}
 

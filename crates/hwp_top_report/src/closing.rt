@@ -1,6 +1,6 @@
 ghost use Rattle.std.specs.Prelude.{◌≡◌, IfOk};
-ghost use Rattle.hwp_plain_words.specs.hwp_core_rule.declared.State.{State};
-ghost use Rattle.hwp_plain_words.specs.hwp_core_rule.Words.{words_of};
+ghost use Rattle.hwp_plain.specs.hwp_core_rule.declared.State.{State};
+ghost use Rattle.hwp_plain.specs.hwp_core_rule.Words.{words_of};
 ghost use Rattle.hwp_top_report.specs.Closing.{AreWordsOf, IsClosing, IsOutcome};
 
 use crate::frames::{frame_lines, poisoned_frames};

@@ -2,14 +2,14 @@ ghost use Rattle.std.specs.Prelude.{◌≡◌, length, map, IfOk};
 ghost use Rattle.hwp_law_served.specs.hwp_law.Law.{IsLawful};
 ghost use Rattle.hwp_law_served.specs.hwp_law.Runs.{IsOfRun};
 ghost use Rattle.hwp_cpu_row.specs.hwp_script_read.Valid.{IsValid};
-ghost use Rattle.hwp_table_words.specs.hwp_plain_words.Openings.{home_with};
-ghost use Rattle.hwp_table_words.specs.hwp_plain_words.Ends.{AreHistories};
+ghost use Rattle.hwp_table_words.specs.hwp_plain.Openings.{home_with};
+ghost use Rattle.hwp_table_words.specs.hwp_plain.Ends.{AreHistories};
 ghost use Rattle.hwp_top_report.specs.Caches.{IsCachedEnd};
 ghost use Rattle.hwp_top_report.specs.Finishes.{HasEndedAt, IsFinished};
 
 use crate::closing::report;
 use hwp_cpu_row::{Entry, Layout, List, OutOfMemory, Page, Report, Row, Script, SharedWord, index};
-use hwp_plain_words::histories;
+use hwp_plain::histories;
 use hwp_table_words::{Ended, Slot, Ways};
 use std::alloc::Global;
 

@@ -19,4 +19,4 @@ pub use hwp_cpu_row::{
     SharedWord, StopWord, Task, Text, Turn, Who, index, is_text, kind_name, policy_word, print,
     read_number,
 };
-pub use hwp_plain_words::histories;
+pub use hwp_plain::histories;

@@ -1,7 +1,7 @@
 ghost use Rattle.std.specs.Prelude.{◌≡◌, ◌++◌, ◌≤◌, ◌<◌, ◌^◌, [], length, filter_map, IfOk, OnOk};
 ghost use Rattle.std.specs.List.{cons_option};
-ghost use Rattle.hwp_plain_words.specs.hwp_geom.Limits.{cpu_limit};
-ghost use Rattle.hwp_plain_words.specs.hwp_core_rule.Lists.{EachMember};
+ghost use Rattle.hwp_plain.specs.hwp_geom.Limits.{cpu_limit};
+ghost use Rattle.hwp_plain.specs.hwp_core_rule.Lists.{EachMember};
 ghost use Rattle.hwp_law_served.specs.Rows.{act_note, note_by, note_of, notes_from, offlined, own_note, told_note};
 ghost use Rattle.hwp_law_served.specs.Runs.{notes_of};
 ghost use Rattle.hwp_cpu_row.specs.Acts.{acts};

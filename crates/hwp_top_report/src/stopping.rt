@@ -1,8 +1,8 @@
 ghost use Rattle.std.specs.Prelude.{◌≡◌, ◌↔◌, ◌+◌, option_map, IsTrue, MatchOption};
 ghost use Rattle.std.specs.List.{find};
-ghost use Rattle.hwp_plain_words.specs.hwp_words.Stops.{stopper_of};
+ghost use Rattle.hwp_plain.specs.hwp_words.Stops.{stopper_of};
 ghost use Rattle.hwp_cpu_row.specs.hwp_report_text.declared.Answer.TheVariants as answers;
-ghost use Rattle.hwp_plain_words.specs.hwp_core_rule.Lists.{EachMember};
+ghost use Rattle.hwp_plain.specs.hwp_core_rule.Lists.{EachMember};
 ghost use Rattle.hwp_cpu_row.specs.hwp_report_text.Acts.{is_panic, is_stopping};
 ghost use Rattle.hwp_cpu_row.specs.hwp_law_commands.Commands.{arrival_of};
 ghost use Rattle.hwp_law_served.specs.Runs.{panic_cause, severity_cause, told_cause};

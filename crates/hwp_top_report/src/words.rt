@@ -1,5 +1,5 @@
 ghost use Rattle.std.specs.Prelude.{◌≡◌};
-ghost use Rattle.hwp_plain_words.specs.hwp_core_rule.Words.{IsPlace, read, words_of};
+ghost use Rattle.hwp_plain.specs.hwp_core_rule.Words.{IsPlace, read, words_of};
 ghost use Rattle.hwp_top_report.specs.Closing.{AreWordsOf};
 
 use hwp_cpu_row::{Layout, SharedWord, index};

@@ -26,8 +26,8 @@ use Rattle.hwp_threads.proofs.OwnKeeps.{own-keeps}
 use Rattle.hwp_top_turns.proofs.of_hwp_plain.TrailViews.{AreViews, view-there, views-more, views-open}
 use Rattle.hwp_top_turns.specs.hwp_script_read.declared.Script.{Script}
 use Rattle.hwp_top_turns.specs.hwp_script_read.Valid.{IsValid}
-use Rattle.hwp_top_turns.specs.hwp_plain_order.Order.{logged}
-use Rattle.hwp_top_turns.specs.hwp_plain_order.Ready.{Claimed}
+use Rattle.hwp_top_turns.specs.hwp_plain.Order.{logged}
+use Rattle.hwp_top_turns.specs.hwp_plain.Ready.{Claimed}
 use Rattle.hwp_top_turns.specs.hwp_law_run.Turns.{Leads}
 use Rattle.hwp_top_turns.proofs.of_hwp_law_run.Homes.{there-is}
 use Rattle.hwp_top_turns.proofs.of_hwp_law_run.TurnLeads.{leads-hold, leads-on}

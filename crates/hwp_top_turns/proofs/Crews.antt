@@ -16,9 +16,9 @@ use Rattle.hwp_plain.specs.hwp_script_read.declared.Command.{Command}
 use Rattle.hwp_plain.specs.hwp_script_read.declared.Script.{Script}
 use Rattle.hwp_plain.specs.hwp_script_read.Forks.{is_fork_of}
 use Rattle.hwp_plain.specs.hwp_script_read.Valid.{AreLists, IsCommandOf, IsValid}
-use Rattle.hwp_plain.specs.hwp_plain_order.Order.{InOrder, IsAt, Running, cpu_of, running}
-use Rattle.hwp_plain.specs.hwp_plain_order.Ready.{IsCrew}
-use Rattle.hwp_plain.proofs.of_hwp_plain_order.CrewOpens.{opening-crew}
+use Rattle.hwp_plain.specs.Order.{InOrder, IsAt, Running, cpu_of, running}
+use Rattle.hwp_plain.specs.Ready.{IsCrew}
+use Rattle.hwp_plain.proofs.CrewOpens.{opening-crew}
 use Rattle.hwp_top_report.proofs.of_hwp_law_run.Homes.{there-is}
 use Rattle.hwp_top_report.proofs.of_hwp_law_run.RunKeeps.{kept-ordered}
 use Rattle.hwp_top_report.specs.hwp_cpu_row.declared.Row.{Row}

@@ -10,8 +10,8 @@ use Rattle.hwp_table_words.specs.hwp_core_rule.Boards.{AreSeated, Played}
 use Rattle.hwp_plain.specs.hwp_script_read.declared.Go.{Go}
 use Rattle.hwp_plain.specs.hwp_script_read.declared.Script.{Script}
 use Rattle.hwp_plain.specs.hwp_script_read.Valid.{IsValid}
-use Rattle.hwp_plain.specs.hwp_plain_order.Order.{AreOver, Grows, InOrder, Running, logged, running}
-use Rattle.hwp_plain.specs.hwp_plain_order.Ready.{IsCrew}
+use Rattle.hwp_plain.specs.Order.{AreOver, Grows, InOrder, Running, logged, running}
+use Rattle.hwp_plain.specs.Ready.{IsCrew}
 use Rattle.hwp_top_report.specs.hwp_law_run.Turns.{Leads}
 use Rattle.hwp_top_report.proofs.of_hwp_law_run.RunKeeps.{same-ordered}
 use Rattle.hwp_top_report.proofs.of_hwp_law_run.TurnLeads.{leads-hold, leads-ordered}

@@ -7,7 +7,7 @@ use Rattle.hwp_top_report.specs.hwp_law.Acting.{acting_script, copied_at}
 use Rattle.hwp_table_words.specs.hwp_core_rule.declared.State.{State}
 use Rattle.hwp_table_words.specs.hwp_core_rule.Opening.{opening}
 use Rattle.hwp_table_words.specs.hwp_core_rule.Boards.{Played}
-use Rattle.hwp_plain.specs.hwp_plain_order.Order.{logged}
+use Rattle.hwp_plain.specs.Order.{logged}
 use Rattle.hwp_top_report.specs.hwp_law_run.Ends.{EndsWith}
 use Rattle.hwp_top_report.specs.hwp_law_run.Turns.{Leads}
 use Rattle.hwp_top_report.specs.hwp_cpu_row.declared.Row.{Row}

@@ -6,13 +6,13 @@ use Rattle.hwp_table_words.specs.hwp_core_rule.declared.State.{State}
 use Rattle.hwp_table_words.specs.hwp_core_rule.Opening.{opening}
 use Rattle.hwp_table_words.specs.hwp_core_rule.Boards.{AreSeated, Played}
 use Rattle.hwp_table_words.specs.hwp_core_rule.Turns.{Member}
-use Rattle.hwp_table_words.specs.hwp_plain_words.Openings.{home_with}
+use Rattle.hwp_table_words.specs.hwp_plain.Openings.{home_with}
 use Rattle.hwp_table_words.specs.Ends.{EndValue, HasAll}
 use Rattle.hwp_table_words.specs.Known.{Known}
 use Rattle.hwp_table.specs.Boards.{whole_then}
 use Rattle.hwp_plain.specs.hwp_script_read.declared.Command.{Command}
 use Rattle.hwp_plain.specs.hwp_script_read.declared.Script.{Script}
-use Rattle.hwp_plain.specs.hwp_plain_order.Order.{InOrder, Running, logged, running}
+use Rattle.hwp_plain.specs.Order.{InOrder, Running, logged, running}
 use Rattle.hwp_top_report.specs.hwp_report_text.declared.Report.{Report}
 use Rattle.hwp_top_report.specs.hwp_law.Law.{IsLawful}
 use Rattle.hwp_top_report.specs.hwp_law.Runs.{IsOfRun}

@@ -4,7 +4,7 @@ use Rattle.hwp_top_turns.specs.hwp_geom.Pairs.{Pairs}
 use Rattle.hwp_top_turns.specs.hwp_core_rule.Boards.{Played}
 use Rattle.hwp_top_turns.specs.hwp_plain.Boards.{Board}
 use Rattle.hwp_top_turns.specs.hwp_script_read.declared.Script.{Script}
-use Rattle.hwp_top_turns.specs.hwp_plain_order.Order.{logged}
+use Rattle.hwp_top_turns.specs.hwp_plain.Order.{logged}
 use Rattle.hwp_top_turns.specs.hwp_report_text.declared.Report.{Report}
 use Rattle.hwp_top_turns.specs.Runs.{IsReportOf}
 use Rattle.hwp_trace_run.specs.declared.line.TraceLine.{TraceLine}

@@ -1,5 +1,5 @@
 use Rattle.std.proofs.Common.{◌≡◌, ◌<◌, [], ◌∷◌, ◌++◌, refl, sym, ap, ◌∙◌, subst, arith}
-use Rattle.hwp_table_words.proofs.of_hwp_plain_words.SlotLists.{map-more}
+use Rattle.hwp_table_words.proofs.of_hwp_plain.SlotLists.{map-more}
 use Rattle.hwp_table_words.specs.Seats.{SeatValue, cpu_of, mine_of, slots_of, value_of}
 use Rattle.hwp_table_words.specs.Stands.{Me}
 use Rattle.hwp_table.specs.Seats.{seat_open}

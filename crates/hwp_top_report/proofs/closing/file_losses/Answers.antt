@@ -1,5 +1,5 @@
 use Rattle.std.proofs.Common.{◌≡◌, ◌<◌, length, arith}
-use Rattle.hwp_plain_words.specs.hwp_core_rule.Words.{words_of}
+use Rattle.hwp_plain.specs.hwp_core_rule.Words.{words_of}
 use Rattle.hwp_top_report.proofs.Tables.{losses-count, take-next}
 use Rattle.hwp_top_report.proofs.closing.file_losses.Goals as goal
 

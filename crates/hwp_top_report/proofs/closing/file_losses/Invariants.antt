@@ -1,5 +1,5 @@
 use Rattle.std.proofs.Common.{◌≡◌, take}
-use Rattle.hwp_plain_words.specs.hwp_core_rule.Words.{words_of}
+use Rattle.hwp_plain.specs.hwp_core_rule.Words.{words_of}
 use Rattle.hwp_top_report.proofs.closing.file_losses.Given as goal
 
 abbrev pub invariant-loop-file : goal.invariant-loop-file

@@ -1,5 +1,5 @@
 use Rattle.std.proofs.Common.{ℕ, List, refl, ◌∙◌, subst, sym}
-use Rattle.hwp_plain_words.specs.hwp_core_rule.Words.{words_of}
+use Rattle.hwp_plain.specs.hwp_core_rule.Words.{words_of}
 use Rattle.hwp_law_served.specs.Rows.{Note}
 use Rattle.hwp_top_report.specs.Closing.{AreLinesBy, HasStopper, IsStopBy}
 use Rattle.hwp_top_report.proofs.Ended.{outcome-closes, outcome-stopper, outcome-whole}

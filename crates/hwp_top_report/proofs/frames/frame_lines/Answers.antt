@@ -1,5 +1,5 @@
 use Rattle.std.proofs.Common.{◌≡◌, ℕ, ◌<◌, ◌≤◌, sym, subst, arith}
-use Rattle.hwp_plain_words.specs.hwp_core_rule.Words.{words_of}
+use Rattle.hwp_plain.specs.hwp_core_rule.Words.{words_of}
 use Rattle.hwp_top_report.specs.Closing.{AreLinesBy}
 use Rattle.hwp_top_report.proofs.LineLaws.{line-next}
 use Rattle.hwp_top_report.proofs.frames.frame_lines.Goals as goal

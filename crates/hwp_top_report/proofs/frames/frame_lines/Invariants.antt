@@ -1,4 +1,4 @@
-use Rattle.hwp_plain_words.specs.hwp_core_rule.Words.{words_of}
+use Rattle.hwp_plain.specs.hwp_core_rule.Words.{words_of}
 use Rattle.hwp_top_report.specs.Closing.{AreLinesBy}
 use Rattle.hwp_top_report.proofs.frames.frame_lines.Given as goal
 

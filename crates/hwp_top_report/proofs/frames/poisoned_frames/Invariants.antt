@@ -1,7 +1,7 @@
 use Rattle.std.proofs.Common.{◌≡◌, ◌≤◌, take}
 use Rattle.std.specs.List.{sum_by}
-use Rattle.hwp_plain_words.specs.hwp_words.Frames.{poison_of}
-use Rattle.hwp_plain_words.specs.hwp_core_rule.Words.{words_of}
+use Rattle.hwp_plain.specs.hwp_words.Frames.{poison_of}
+use Rattle.hwp_plain.specs.hwp_core_rule.Words.{words_of}
 use Rattle.hwp_top_report.proofs.frames.poisoned_frames.Given as goal
 
 abbrev pub invariant-loop-frame : goal.invariant-loop-frame

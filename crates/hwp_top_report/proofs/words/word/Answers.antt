@@ -1,5 +1,5 @@
 use Rattle.std.proofs.Common.{slice_index, sym, ap, ◌∙◌}
-use Rattle.hwp_plain_words.proofs.of_hwp_core_rule.WordsByKind.{words-read}
+use Rattle.hwp_plain.proofs.of_hwp_core_rule.WordsByKind.{words-read}
 use Rattle.hwp_top_report.proofs.words.word.Goals as goal
 
 pub returns : goal.returns

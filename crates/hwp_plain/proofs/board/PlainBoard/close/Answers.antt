@@ -4,8 +4,8 @@ use Rattle.std.specs.Arc.{arc_value}
 use Rattle.hwp_core_rule.specs.hwp_geom.declared.Layout.{Layout}
 use Rattle.hwp_core_rule.specs.Lists.{EachMember, Homes}
 use Rattle.hwp_core_rule.specs.parts.Holdings.{HoldsNothing}
-use Rattle.hwp_plain_words.specs.Ends.{IsMachineOf}
-use Rattle.hwp_plain_words.specs.Openings.{home_with}
+use Rattle.hwp_plain.specs.Ends.{IsMachineOf}
+use Rattle.hwp_plain.specs.Openings.{home_with}
 use Rattle.hwp_plain.specs.Boards.{Board, state_of}
 use Rattle.hwp_plain.proofs.AtHome.{bodies-count, bodies-taken}
 use Rattle.hwp_plain.proofs.board.PlainBoard.close.Goals as goal

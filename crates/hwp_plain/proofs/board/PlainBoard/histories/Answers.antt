@@ -6,8 +6,8 @@ use Rattle.hwp_core_rule.specs.Lists.{EachMember, Homes}
 use Rattle.hwp_core_rule.specs.Words.{index}
 use Rattle.hwp_core_rule.specs.declared.SharedWord.TheVariants as places
 use Rattle.hwp_core_rule.specs.parts.Holdings.{HoldsNothing}
-use Rattle.hwp_plain_words.specs.Ends.{AreHistories, AreLed}
-use Rattle.hwp_plain_words.proofs.AllHome.{led-here}
+use Rattle.hwp_plain.specs.Ends.{AreHistories, AreLed}
+use Rattle.hwp_plain.proofs.AllHome.{led-here}
 use Rattle.hwp_plain.specs.Boards.{Board, state_of}
 use Rattle.hwp_plain.proofs.AtHome.{bodies-taken}
 use Rattle.hwp_plain.proofs.CacheRange.{caches-many, range-fits}

@@ -2,8 +2,8 @@ use Rattle.std.proofs.Common.{◌≡◌, ◌+◌, List, length, map, ap, sym, �
 use Rattle.std.specs.Prelude.{IfOk}
 use Rattle.std.proofs.lemmas.List.{length-map}
 use Rattle.hwp_core_rule.specs.hwp_geom.declared.Layout.{Layout}
-use Rattle.hwp_plain_words.specs.Ends.{IsMachineOf}
-use Rattle.hwp_plain_words.specs.Openings.{home_with}
+use Rattle.hwp_plain.specs.Ends.{IsMachineOf}
+use Rattle.hwp_plain.specs.Openings.{home_with}
 use Rattle.hwp_table_words.specs.Ends.{EndValue}
 use Rattle.hwp_table_words.specs.Stands.{Content}
 use Rattle.hwp_table_words.proofs.closing.Ended.machine.Goals as goal

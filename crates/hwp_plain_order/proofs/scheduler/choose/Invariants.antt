@@ -1,5 +1,0 @@
-use Rattle.hwp_plain_order.proofs.LowestLevel.{Best}
-use Rattle.hwp_plain_order.proofs.scheduler.choose.Given as goal
-
-abbrev pub invariant-loop-i : goal.invariant-loop-i
-invariant-loop-i l = Best l.levels l.i l.least l.chosen

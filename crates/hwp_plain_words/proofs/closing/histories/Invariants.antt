@@ -1,7 +1,0 @@
-use Rattle.std.proofs.Common.{map}
-use Rattle.hwp_plain_words.specs.Openings.{home_with}
-use Rattle.hwp_plain_words.proofs.TakenHistories.{Taken}
-use Rattle.hwp_plain_words.proofs.closing.histories.Given as goal
-
-abbrev pub invariant-loop-page : goal.invariant-loop-page
-invariant-loop-page l = Taken l.fn.frames l.fn.caches (map home_with l.fn.bodies.items) (map home_with l.bodies.items) l.page l.pages.items

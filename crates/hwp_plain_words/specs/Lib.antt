@@ -1,6 +1,0 @@
-pub mod Openings
-pub mod Ends
-pub use Rattle.hwp_core_rule.specs as hwp_core_rule
-pub use Rattle.hwp_core_rule.specs.hwp_geom as hwp_geom
-pub use Rattle.hwp_core_rule.specs.hwp_page as hwp_page
-pub use Rattle.hwp_core_rule.specs.hwp_words as hwp_words
