@@ -23,9 +23,9 @@ use Rattle.hwp_top_turns.specs.hwp_law_served.Runs.{IsRunOf}
 use Rattle.hwp_top_turns.proofs.of_hwp_top_report.AnswerSights.{report-shown, scrubs-shown}
 use Rattle.hwp_top_turns.specs.hwp_cpu.declared.Processor.{Processor}
 use Rattle.hwp_top_turns.specs.hwp_cpu.Serving.{Fits, FitsAt, IsDone}
-use Rattle.hwp_threads_seats.specs.hwp_table_words.Ends.{EndValue, HasAll, IsEnd, board_of}
-use Rattle.hwp_threads_seats.specs.hwp_table_words.Known.{Known, moves_by}
-use Rattle.hwp_threads_seats.specs.hwp_table_words.Stands.{Content}
+use Rattle.hwp_threads.specs.hwp_table_words.Ends.{EndValue, HasAll, IsEnd, board_of}
+use Rattle.hwp_threads.specs.hwp_table_words.Known.{Known, moves_by}
+use Rattle.hwp_threads.specs.hwp_table_words.Stands.{Content}
 use Rattle.hwp_top_turns.specs.hwp_top_report.Closing.{IsClosing}
 use Rattle.hwp_top_turns.specs.hwp_cpu.Processors.{AreFinished}
 use Rattle.hwp_top_turns.specs.hwp_top_report.Finishes.{HasEnded, HasEndedAt, IsFinished, own_seat}

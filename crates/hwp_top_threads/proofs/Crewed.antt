@@ -2,11 +2,11 @@
 use Rattle.std.proofs.Common.{◌≡◌, ℕ, ◌++◌, List, All, length, map, take, drop, sym, ap, ◌∙◌, subst}
 use Rattle.atomic_table.specs.Seated.{TableId}
 use Rattle.hwp_threads.specs.Workers.{AllRan, CanRun}
-use Rattle.hwp_threads_seats.specs.hwp_table_words.Known.{Known}
-use Rattle.hwp_threads_seats.specs.hwp_table_words.Seats.{HasRight, Moves, SeatValue, mine}
-use Rattle.hwp_threads_seats.specs.hwp_table_words.Stands.{Me}
-use Rattle.hwp_threads_seats.specs.Dealing.{IsUnused, workers_at}
-use Rattle.hwp_threads_seats.specs.Gathering.{AreBare, AreGathered}
+use Rattle.hwp_threads.specs.hwp_table_words.Known.{Known}
+use Rattle.hwp_threads.specs.hwp_table_words.Seats.{HasRight, Moves, SeatValue, mine}
+use Rattle.hwp_threads.specs.hwp_table_words.Stands.{Me}
+use Rattle.hwp_threads.specs.Dealing.{IsUnused, workers_at}
+use Rattle.hwp_threads.specs.Gathering.{AreBare, AreGathered}
 use Rattle.hwp_top_turns.specs.hwp_script_read.declared.Script.{Script}
 use Rattle.hwp_top_turns.specs.hwp_script_read.Valid.{IsValid}
 use Rattle.hwp_top_turns.specs.hwp_cpu.declared.Processor.{Processor}

@@ -7,7 +7,7 @@ use Rattle.hwp_top_turns.specs.hwp_top_report.Loads.{AreGoodLoads}
 use Rattle.hwp_top_turns.specs.hwp_top_report.Retired.{AreHandledRetired, IsBoardOf}
 use Rattle.hwp_top_turns.proofs.of_hwp_top_report.Retired.{handled-out-of-use}
 use Rattle.hwp_top_turns.proofs.of_hwp_top_report.loads.GoodLoads.{no-bad-bytes}
-use Rattle.hwp_threads_seats.specs.hwp_table_words.Ends.{EndValue}
+use Rattle.hwp_threads.specs.hwp_table_words.Ends.{EndValue}
 use Rattle.hwp_top_threads.specs.Runs.{IsThreadRun, last_of}
 
 -- On every board of the run, before, between and after its steps, a handled frame is out of use.

@@ -5,7 +5,7 @@ use Rattle.std.proofs.lemmas.List.Concat.{flat_map-cons}
 use Rattle.std.proofs.lemmas.Option.{none-some, same_Some}
 use Rattle.hwp_threads.specs.hwp_core_rule.declared.Rec.{Rec}
 use Rattle.hwp_threads.proofs.of_hwp_core_rule.Lists.{same-number}
-use Rattle.hwp_threads_seats.specs.hwp_table_words.Known.{moves_by}
+use Rattle.hwp_threads.specs.hwp_table_words.Known.{moves_by}
 
 -- what there is for each number below n, as a list
 pub record Chosen {A : Type 0} (P : ℕ → A → Type 0) (n : ℕ) : Type 0 where

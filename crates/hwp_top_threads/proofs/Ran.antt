@@ -19,12 +19,12 @@ use Rattle.hwp_threads.specs.Own.{IsOwnRun, Standing, made_of}
 use Rattle.hwp_threads.specs.Parts.{Own}
 use Rattle.hwp_threads.specs.declared.Worker.{Worker}
 use Rattle.hwp_threads.specs.Workers.{AllRan, CanRun, RanToEnd, recs_of, standing}
-use Rattle.hwp_threads_seats.specs.hwp_table_words.Known.{Known, moves_by}
-use Rattle.hwp_threads_seats.specs.hwp_table_words.Seats.{HasRight, Moves, SeatValue, cpu, cpu_of, mine}
-use Rattle.hwp_threads_seats.specs.hwp_table_words.Stands.{Me}
-use Rattle.hwp_threads_seats.specs.Dealing.{HasMoved, IsUnused, seat_at, workers_at}
-use Rattle.hwp_threads_seats.specs.Gathering.{AreBare, AreGathered, mine_in, own_in}
-use Rattle.hwp_threads_seats.proofs.SeatMoves.{bare-when-over, dealt-moved, have-moved}
+use Rattle.hwp_threads.specs.hwp_table_words.Known.{Known, moves_by}
+use Rattle.hwp_threads.specs.hwp_table_words.Seats.{HasRight, Moves, SeatValue, cpu, cpu_of, mine}
+use Rattle.hwp_threads.specs.hwp_table_words.Stands.{Me}
+use Rattle.hwp_threads.specs.Dealing.{HasMoved, IsUnused, seat_at, workers_at}
+use Rattle.hwp_threads.specs.Gathering.{AreBare, AreGathered, mine_in, own_in}
+use Rattle.hwp_threads.proofs.SeatMoves.{bare-when-over, dealt-moved, have-moved}
 use Rattle.hwp_top_turns.specs.hwp_script_read.declared.Script.{Script}
 use Rattle.hwp_top_turns.specs.hwp_script_read.Valid.{IsValid}
 use Rattle.hwp_top_turns.specs.hwp_plain.Order.{cpu_of as number_of}

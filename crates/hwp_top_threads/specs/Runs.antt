@@ -25,8 +25,8 @@ use Rattle.hwp_top_turns.specs.hwp_cpu_row.declared.Row.{Row}
 use Rattle.hwp_top_turns.specs.hwp_law_served.Runs.{AreRecords, HaveServed, notes_of}
 use Rattle.hwp_top_turns.specs.hwp_cpu.declared.Processor.{Processor}
 use Rattle.hwp_top_turns.specs.hwp_cpu.Serving.{Fits}
-use Rattle.hwp_threads_seats.specs.hwp_table_words.Ends.{EndValue, HasAll, board_of}
-use Rattle.hwp_threads_seats.specs.hwp_table_words.Known.{Known, moves_by}
+use Rattle.hwp_threads.specs.hwp_table_words.Ends.{EndValue, HasAll, board_of}
+use Rattle.hwp_threads.specs.hwp_table_words.Known.{Known, moves_by}
 use Rattle.hwp_top_turns.specs.hwp_cpu.Processors.{AreFinished}
 use Rattle.hwp_top_turns.specs.hwp_top_report.Finishes.{own_seat}
 use Rattle.hwp_top_turns.specs.Runs.{AreAtBeginning, processors}

@@ -2,13 +2,12 @@ ghost use Rattle.std.specs.Prelude.{◌≡◌, [], IfOk};
 ghost use Rattle.hwp_top_turns.specs.hwp_law.Law.{IsLawful};
 ghost use Rattle.hwp_top_turns.specs.hwp_law.Runs.{IsOfRun};
 ghost use Rattle.hwp_top_turns.specs.hwp_script_read.Valid.{IsValid};
-ghost use Rattle.hwp_threads_seats.specs.hwp_table_words.Known.{first_knowing};
-ghost use Rattle.hwp_threads_seats.specs.hwp_table_words.Seats.{IsTableOf};
+ghost use Rattle.hwp_threads.specs.hwp_table_words.Known.{first_knowing};
+ghost use Rattle.hwp_threads.specs.hwp_table_words.Seats.{IsTableOf};
 ghost use Rattle.hwp_top_turns.specs.hwp_top_report.Caches.{IsCachedEnd};
 ghost use Rattle.hwp_top_threads.specs.Runs.{HaveRun, IsThreadPlayed, IsThreadRun};
 
-use hwp_threads::{Gate, run_all};
-use hwp_threads_seats::{deal, gather};
+use hwp_threads::{Gate, deal, gather, run_all};
 use hwp_top_turns::{
     Ended, Finished, OutOfMemory, Pass, Processor, Rows, Script, Sheet, Slot, Ways, begin, close,
     crew_of, finish_run, rows_of,

@@ -1,5 +1,5 @@
 use Rattle.std.proofs.Common.{sym, subst}
-use Rattle.hwp_threads_seats.specs.hwp_table_words.Known.{Known}
+use Rattle.hwp_threads.specs.hwp_table_words.Known.{Known}
 use Rattle.hwp_top_threads.specs.Runs.{HaveRun}
 use Rattle.hwp_top_threads.proofs.Closed.{closed-run, has-all}
 use Rattle.hwp_top_threads.proofs.running.play_on_threads.Goals as goal

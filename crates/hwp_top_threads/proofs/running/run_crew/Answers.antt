@@ -1,10 +1,10 @@
 use denote.Param.Send.{sendable}
 use Rattle.std.proofs.Common.{◌≡◌, length, sym, ap, subst, arith}
 use Rattle.std.proofs.lemmas.Result.{IfOk-weaker}
-use Rattle.hwp_threads_seats.specs.hwp_table_words.Stands.{Me}
-use Rattle.hwp_threads_seats.specs.Dealing.{CanDeal}
-use Rattle.hwp_threads_seats.proofs.SeatMoves.{stays-ready}
-use Rattle.hwp_threads_seats.proofs.SeatDeals.{first-deals}
+use Rattle.hwp_threads.specs.hwp_table_words.Stands.{Me}
+use Rattle.hwp_threads.specs.Dealing.{CanDeal}
+use Rattle.hwp_threads.proofs.SeatMoves.{stays-ready}
+use Rattle.hwp_threads.proofs.SeatDeals.{first-deals}
 use Rattle.hwp_top_threads.proofs.Crewed.{bare-then, can-run-all, run-then}
 use Rattle.hwp_top_threads.proofs.ProcessorSends.{processor-sent}
 use Rattle.hwp_top_threads.proofs.running.run_crew.Goals as goal

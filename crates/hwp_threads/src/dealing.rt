@@ -1,12 +1,12 @@
 ghost use Rattle.std.specs.Prelude.{◌≡◌, ◌<◌, [], length, map, IfOk};
 ghost use Rattle.crossbeam_utils.specs.Padded.{padded_value};
 ghost use Rattle.hwp_table_words.specs.Seats.{IsTableOf};
-ghost use Rattle.hwp_threads_seats.specs.Dealing.{CanDeal, IsLeft, workers_at};
+ghost use Rattle.hwp_threads.specs.Dealing.{CanDeal, IsLeft, workers_at};
 
+use crate::worker::Worker;
 use crossbeam_utils::CachePadded;
 use hwp_core_rule::{Cpu, Layout, OutOfMemory, Scheduled};
 use hwp_table_words::{Pass, SeatOps, Sheet, Ways, split};
-use hwp_threads::Worker;
 use std::alloc::Global;
 
 /// A worker whose seat is at a table.

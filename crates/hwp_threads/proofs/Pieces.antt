@@ -7,8 +7,8 @@ use Rattle.crossbeam_utils.specs.declared.CachePadded.{CachePadded}
 use Rattle.crossbeam_utils.specs.Padded.{padded_value}
 use Rattle.hwp_core_rule.specs.hwp_geom.declared.Layout.{Layout}
 use Rattle.hwp_table_words.specs.Seats.{SeatValue}
-use Rattle.hwp_threads.specs.declared.Worker.{Worker}
-use Rattle.hwp_threads_seats.specs.Dealing.{seat_at, workers_at}
+use Rattle.hwp_threads.specs.declared.worker.Worker.{Worker}
+use Rattle.hwp_threads.specs.Dealing.{seat_at, workers_at}
 
 module _ {A : Type 0} where
   pub push-front : (xs : List A) (x : A) (ys : List A) → (xs ++ x ∷ []) ++ ys ≡ xs ++ x ∷ ys

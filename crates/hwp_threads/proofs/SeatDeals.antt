@@ -9,7 +9,7 @@ use Rattle.hwp_core_rule.specs.Opening.{below, opening_view}
 use Rattle.hwp_core_rule.specs.parts.Holdings.{HoldsNothing}
 use Rattle.hwp_core_rule.proofs.Lists.{each-map, same-number, same-or}
 use Rattle.hwp_table_words.specs.Known.{Known, dealt, first_known, kept}
-use Rattle.hwp_threads_seats.specs.Dealing.{CanDeal}
+use Rattle.hwp_threads.specs.Dealing.{CanDeal}
 
 abbrev pair : ℕ → ℕ × View
 pair c = (c, opening_view c)

@@ -5,10 +5,10 @@ use Rattle.crossbeam_utils.specs.Padded.{padded_value}
 use Rattle.hwp_table_words.specs.Known.{idling}
 use Rattle.hwp_table_words.specs.Seats.{cpu_of, mine_of, slots_of, value_of}
 use Rattle.hwp_table_words.specs.Stands.{Me}
-use Rattle.hwp_threads_seats.specs.Dealing.{CanDeal, seat_at, seat_known, workers_at}
-use Rattle.hwp_threads_seats.proofs.Pieces.{deal-more, none-here, taken-first}
-use Rattle.hwp_threads_seats.proofs.SeatDeals.{deals-on}
-use Rattle.hwp_threads_seats.proofs.dealing.deal.Goals as goal
+use Rattle.hwp_threads.specs.Dealing.{CanDeal, seat_at, seat_known, workers_at}
+use Rattle.hwp_threads.proofs.Pieces.{deal-more, none-here, taken-first}
+use Rattle.hwp_threads.proofs.SeatDeals.{deals-on}
+use Rattle.hwp_threads.proofs.dealing.deal.Goals as goal
 
 pub loop-cpu-preserved : goal.loop-cpu-preserved
 loop-cpu-preserved g c =

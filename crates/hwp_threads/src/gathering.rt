@@ -1,11 +1,11 @@
 ghost use Rattle.std.specs.Prelude.{◌≡◌, ◌++◌, ◌∷◌, [], ◌<◌, false, map, IfOk, OnOk};
 ghost use Rattle.crossbeam_utils.specs.Padded.{padded_value};
-ghost use Rattle.hwp_threads_seats.specs.Gathering.{AreBare, AreGathered, IsBare, IsBrought};
+ghost use Rattle.hwp_threads.specs.Gathering.{AreBare, AreGathered, IsBare, IsBrought};
 
 use crate::dealing::SeatWorker;
+use crate::worker::Worker;
 use hwp_core_rule::OutOfMemory;
 use hwp_table_words::{Pass, Sheet, Ways, join};
-use hwp_threads::Worker;
 use std::alloc::{AllocError, Global};
 
 /// The one seat that has what all workers' seats have, none of which lists a lock, and the workers' tasks in their order.

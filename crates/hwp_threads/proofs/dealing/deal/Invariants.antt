@@ -1,7 +1,7 @@
 use Rattle.std.proofs.Common.{◌≡◌, ◌+◌, ◌++◌, [], length, map}
 use Rattle.crossbeam_utils.specs.Padded.{padded_value}
-use Rattle.hwp_threads_seats.specs.Dealing.{CanDeal, workers_at}
-use Rattle.hwp_threads_seats.proofs.dealing.deal.Given as goal
+use Rattle.hwp_threads.specs.Dealing.{CanDeal, workers_at}
+use Rattle.hwp_threads.proofs.dealing.deal.Given as goal
 
 abbrev pub invariant-loop-cpu : goal.invariant-loop-cpu
 invariant-loop-cpu g l = record {

@@ -1,9 +1,9 @@
 use Rattle.std.proofs.Common.{◌<◌, ◌++◌, length, slice_get, refl, sym, ap, ◌∙◌, subst, arith}
 use Rattle.std.proofs.lemmas.Bool.{eqb-true}
 use Rattle.std.proofs.lemmas.Result.{IfOk-from_err}
-use Rattle.hwp_threads_seats.proofs.Pieces.{none-here, taken-first}
-use Rattle.hwp_threads_seats.proofs.SeatJoins.{SoFar, taking-ends, taking-more, tasks_in}
-use Rattle.hwp_threads_seats.proofs.gathering.gather.Goals as goal
+use Rattle.hwp_threads.proofs.Pieces.{none-here, taken-first}
+use Rattle.hwp_threads.proofs.SeatJoins.{SoFar, taking-ends, taking-more, tasks_in}
+use Rattle.hwp_threads.proofs.gathering.gather.Goals as goal
 
 pub loop-workers-preserved : goal.loop-workers-preserved
 loop-workers-preserved g c =

@@ -11,7 +11,7 @@ use Rattle.hwp_table_words.specs.tlb.Caching.{idle_caching}
 use Rattle.hwp_table_words.specs.Known.{Known, dealt}
 use Rattle.hwp_table_words.specs.Seats.{SeatValue, mine}
 use Rattle.hwp_table_words.specs.Stands.{Me}
-use Rattle.hwp_threads.specs.declared.Worker.{Worker}
+use Rattle.hwp_threads.specs.declared.worker.Worker.{Worker}
 
 -- what the seat of one processor knows at opening: its view, and it has the right
 abbrev pub seat_known : ℕ → Known

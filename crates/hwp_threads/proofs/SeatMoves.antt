@@ -11,7 +11,7 @@ use Rattle.hwp_core_rule.specs.Turns.{Member}
 use Rattle.hwp_table_words.specs.Known.{mine_after, times}
 use Rattle.hwp_table_words.specs.Seats.{HasRight, Moves, SeatValue, cpu, cpu_of, mine, mine_of, slots_of}
 use Rattle.hwp_threads.specs.Workers.{Moved, StaysReady}
-use Rattle.hwp_threads_seats.specs.Dealing.{HasMoved, seat_at}
+use Rattle.hwp_threads.specs.Dealing.{HasMoved, seat_at}
 
 -- a step leaves whose view it is
 same-cpu : (layout : Layout) (c : ℕ) (r : Rec) (mines : List (ℕ × View)) → cpu_of (map (mine_after layout c r) mines) ≡ cpu_of mines

@@ -12,9 +12,9 @@ use Rattle.hwp_core_rule.specs.Lists.{EachMember}
 use Rattle.hwp_table_words.specs.Known.{Known}
 use Rattle.hwp_table_words.specs.Seats.{SeatValue}
 use Rattle.hwp_table_words.specs.Stands.{Me}
-use Rattle.hwp_threads.specs.declared.Worker.{Worker}
-use Rattle.hwp_threads_seats.specs.Gathering.{AreBare, AreGathered, IsBrought, mine_in, own_in}
-use Rattle.hwp_threads_seats.proofs.Pieces.{append-on, push-front}
+use Rattle.hwp_threads.specs.declared.worker.Worker.{Worker}
+use Rattle.hwp_threads.specs.Gathering.{AreBare, AreGathered, IsBrought, mine_in, own_in}
+use Rattle.hwp_threads.proofs.Pieces.{append-on, push-front}
 
 abbrev Places : Type 0 → Type 0
 Places T = List (CachePadded (Worker SeatValue T))

@@ -10,7 +10,7 @@ use Rattle.hwp_core_rule.specs.Lists.{EachMember}
 use Rattle.hwp_table_words.specs.Known.{Known}
 use Rattle.hwp_table_words.specs.Seats.{SeatValue, cpu, mine, slots_of}
 use Rattle.hwp_table_words.specs.Stands.{Me}
-use Rattle.hwp_threads.specs.declared.Worker.{Worker}
+use Rattle.hwp_threads.specs.declared.worker.Worker.{Worker}
 
 -- the seat is at this table, and lists no lock
 pub record IsBare (id : TableId) (s : SeatValue) : Type 0 where

@@ -1,4 +1,0 @@
-pub mod SeatDeals
-pub mod SeatMoves
-pub mod Pieces
-pub mod SeatJoins
