@@ -3,7 +3,7 @@ use Rattle.std.proofs.Common.{◌≡◌, false, List, [], Option, ap, subst, sym
 use Rattle.std.proofs.Math.Path.{fun_ext}
 use Rattle.hwp_check_rules.specs.hwp_geom.declared.VSlot.{VSlot}
 use Rattle.hwp_check_rules.specs.hwp_law.Acting.{acting_script, copied_at}
-use Rattle.hwp_check_rules.specs.hwp_law_commands.Commands.{has_fork}
+use Rattle.hwp_check_rules.specs.hwp_law.Commands.{has_fork}
 use Rattle.hwp_check_rules.specs.hwp_report_text.declared.Report.{Report}
 use Rattle.hwp_check_rules.specs.hwp_script_read.Valid.{IsValid}
 use Rattle.hwp_check_rules.specs.hwp_script_read.declared.Script.{Script}

@@ -13,12 +13,12 @@ use Rattle.hwp_check_rules.specs.hwp_law.Acting.{acting_script, copied_at}
 use Rattle.hwp_check_rules.specs.hwp_law.Guests.{AreGuestsKept, DoesNothing, IsDenied}
 use Rattle.hwp_check_rules.specs.hwp_law.Lines.{answer_among, answer_of, answered, events_of, guests_among, guests_told}
 use Rattle.hwp_check_rules.specs.hwp_law.Policies.{answered_before}
-use Rattle.hwp_check_rules.specs.hwp_law_commands.Commands.{command_at}
-use Rattle.hwp_check_rules.specs.hwp_law_commands.declared.GuestAccess.{GuestAccess}
-use Rattle.hwp_check_rules.specs.hwp_law_commands.Guests.{denial, denied, guest_access, guest_line, guest_lines, guest_of}
-use Rattle.hwp_check_rules.specs.hwp_law_commands.hwp_guest.GuestState.{admitted}
-use Rattle.hwp_check_rules.specs.hwp_law_commands.hwp_guest.declared.Admit.{Admit}
-use Rattle.hwp_check_rules.specs.hwp_law_commands.hwp_guest.declared.Admit.TheVariants as admissions
+use Rattle.hwp_check_rules.specs.hwp_law.Commands.{command_at}
+use Rattle.hwp_check_rules.specs.hwp_law.declared.GuestAccess.{GuestAccess}
+use Rattle.hwp_check_rules.specs.hwp_law.GuestRule.{denial, denied, guest_access, guest_line, guest_lines, guest_of}
+use Rattle.hwp_check_rules.specs.hwp_law.hwp_guest.GuestState.{admitted}
+use Rattle.hwp_check_rules.specs.hwp_law.hwp_guest.declared.Admit.{Admit}
+use Rattle.hwp_check_rules.specs.hwp_law.hwp_guest.declared.Admit.TheVariants as admissions
 use Rattle.hwp_check_rules.specs.hwp_report_text.declared.Answer.{Answer}
 use Rattle.hwp_check_rules.specs.hwp_report_text.declared.Answer.TheVariants as answers
 use Rattle.hwp_check_rules.specs.hwp_report_text.declared.CpuLine.{CpuLine}

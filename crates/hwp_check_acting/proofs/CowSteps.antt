@@ -3,7 +3,7 @@ use Rattle.std.proofs.Common.{◌≡◌, ℕ, refl}
 use Rattle.hwp_law.specs.hwp_geom.declared.Layout.{Layout}
 use Rattle.hwp_law.specs.hwp_geom.declared.Thread.{Thread}
 use Rattle.hwp_law.specs.hwp_geom.declared.VSlot.{VSlot}
-use Rattle.hwp_law.specs.hwp_law_commands.Cows.{Cow, cow_after}
+use Rattle.hwp_law.specs.Cows.{Cow, cow_after}
 use Rattle.hwp_law.specs.hwp_report_text.declared.Answer.{Answer}
 use Rattle.hwp_law.specs.hwp_report_text.declared.Answer.TheVariants as answers
 use Rattle.hwp_law.specs.hwp_script_read.declared.Command.TheVariants as commands

@@ -10,7 +10,7 @@ use Rattle.hwp_law.specs.hwp_geom.declared.Thread.{Thread}
 use Rattle.hwp_law.specs.hwp_geom.declared.ThreadDecl.{ThreadDecl}
 use Rattle.hwp_law.specs.hwp_geom.declared.TransDecl.{TransDecl}
 use Rattle.hwp_law.specs.hwp_geom.declared.VSlot.{VSlot}
-use Rattle.hwp_law.specs.hwp_law_commands.Cows.{acting, cow_of, twin_or}
+use Rattle.hwp_law.specs.Cows.{acting, cow_of, twin_or}
 use Rattle.hwp_law.specs.hwp_report_text.declared.Answer.{Answer}
 use Rattle.hwp_law.specs.hwp_report_text.declared.CpuLine.{CpuLine}
 use Rattle.hwp_law.specs.hwp_report_text.declared.Report.{Report}

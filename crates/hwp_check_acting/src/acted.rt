@@ -1,7 +1,7 @@
 ghost use Rattle.std.specs.Prelude.{◌≡◌, [], ◌∷◌, ◌++◌, IfOk, OnOk, length, slice_get, take, unwrap_or};
 ghost use Rattle.std.specs.List.{list_any};
 ghost use Rattle.hwp_law.specs.Acting.{acting_script, copied_at};
-ghost use Rattle.hwp_law.specs.hwp_law_commands.Commands.{has_fork, has_watch, is_fork, is_watch};
+ghost use Rattle.hwp_law.specs.Commands.{has_fork, has_watch, is_fork, is_watch};
 ghost use Rattle.hwp_check_acting.specs.ActedOn.{AreActed, AreCopied, IsActedOn, copies_in};
 
 use crate::acting::{acting, copied_from};

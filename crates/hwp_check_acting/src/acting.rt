@@ -1,5 +1,5 @@
 ghost use Rattle.std.specs.Prelude.{◌≡◌, ◌&&◌, Some, None, not, if◌then◌else◌};
-ghost use Rattle.hwp_law.specs.hwp_law_commands.Cows.{acting, copied_from, cow_of, through, twin_or, written_through};
+ghost use Rattle.hwp_law.specs.Cows.{acting, copied_from, cow_of, through, twin_or, written_through};
 
 use crate::cows::cow_of;
 use hwp_law::{Answer, Command, Layout, VSlot};

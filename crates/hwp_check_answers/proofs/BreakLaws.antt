@@ -21,7 +21,7 @@ use Rattle.hwp_check_rules.specs.Answered.{is_answer}
 use Rattle.hwp_check_rules.specs.Rules.{AnswersFit}
 use Rattle.hwp_check_answers.specs.Disorders.{AreOrderly}
 use Rattle.hwp_check_rules.proofs.OfflinedFaults.{line-caused}
-use Rattle.hwp_check_evidence.specs.hwp_law_commands.Commands.{command_at}
+use Rattle.hwp_check_evidence.specs.hwp_law.Commands.{command_at}
 use Rattle.hwp_check_answers.specs.Facts.{IsBadOf, at_number}
 use Rattle.hwp_check_answers.specs.Sifting.{IsAnswerLine}
 use Rattle.hwp_check_answers.proofs.NextLaws.{count-rises, next_of}

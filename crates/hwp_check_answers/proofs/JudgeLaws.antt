@@ -15,7 +15,7 @@ use Rattle.hwp_check_evidence.specs.hwp_report_text.declared.Answer.{Answer}
 use Rattle.hwp_check_evidence.specs.hwp_report_text.declared.Answer.TheVariants as answers
 use Rattle.hwp_check_evidence.specs.hwp_report_text.declared.CpuLine.{CpuLine}
 use Rattle.hwp_check_evidence.specs.hwp_report_text.declared.Report.{Report}
-use Rattle.hwp_check_evidence.specs.hwp_law_commands.Commands.{process_at}
+use Rattle.hwp_check_evidence.specs.hwp_law.Commands.{process_at}
 use Rattle.hwp_check_evidence.specs.hwp_law.Endings.{IsOver}
 use Rattle.hwp_check_evidence.specs.hwp_law.Causes.{IsCaused}
 use Rattle.hwp_check_evidence.specs.hwp_law.Lines.{rows_of}

@@ -13,7 +13,7 @@ use Rattle.hwp_check_evidence.specs.hwp_report_text.declared.CpuLine.TheVariants
 use Rattle.hwp_check_evidence.specs.hwp_report_text.declared.Report.{Report}
 use Rattle.hwp_check_evidence.specs.hwp_law.Lines.{offlined_among, offlined_of, rows_of}
 use Rattle.hwp_check_evidence.specs.hwp_law.Offlined.{due_of}
-use Rattle.hwp_check_evidence.specs.hwp_law_commands.Commands.{command_at, is_watch}
+use Rattle.hwp_check_evidence.specs.hwp_law.Commands.{command_at, is_watch}
 use Rattle.hwp_check_evidence.proofs.ListItems.{item_at}
 use Rattle.hwp_check_rules.specs.AnswerFaults.{IsDue, IsUnanswered, LacksOfflined}
 use Rattle.hwp_check_rules.specs.Answered.{IsBehindEvents}

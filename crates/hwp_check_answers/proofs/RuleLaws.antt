@@ -18,7 +18,7 @@ use Rattle.hwp_check_evidence.specs.hwp_report_text.declared.CpuLine.TheVariants
 use Rattle.hwp_check_evidence.specs.hwp_report_text.declared.OfflinedLine.{OfflinedLine}
 use Rattle.hwp_check_evidence.specs.hwp_report_text.declared.Report.{Report}
 use Rattle.hwp_check_evidence.specs.hwp_law.Answers.{AreInWindows, IsNamed}
-use Rattle.hwp_check_evidence.specs.hwp_law_commands.Commands.{command_at, process_at, process_of_thread, thread_of}
+use Rattle.hwp_check_evidence.specs.hwp_law.Commands.{command_at, process_at, process_of_thread, thread_of}
 use Rattle.hwp_check_evidence.specs.hwp_law.Endings.{EndingsStay, IsOver}
 use Rattle.hwp_check_evidence.specs.hwp_law.Lines.{answer_among, rows_of}
 use Rattle.hwp_check_evidence.specs.hwp_law.States.{IsInWindow, entry_named}

@@ -13,7 +13,7 @@ use Rattle.hwp_check_evidence.specs.hwp_report_text.declared.Answer.TheVariants 
 use Rattle.hwp_check_evidence.specs.hwp_report_text.declared.CpuLine.{CpuLine}
 use Rattle.hwp_check_evidence.specs.hwp_report_text.declared.CpuLine.TheVariants as lines
 use Rattle.hwp_check_evidence.specs.hwp_report_text.declared.Report.{Report}
-use Rattle.hwp_check_evidence.specs.hwp_law_commands.Commands.{process_at}
+use Rattle.hwp_check_evidence.specs.hwp_law.Commands.{process_at}
 use Rattle.hwp_check_evidence.specs.hwp_law.Endings.{WasGone}
 use Rattle.hwp_check_evidence.specs.hwp_law.Lines.{answer_among, rows_of, seq_of, is_same_command}
 use Rattle.hwp_check_evidence.specs.hwp_law.States.{entry_named}

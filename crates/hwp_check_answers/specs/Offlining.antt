@@ -8,7 +8,7 @@ use Rattle.hwp_check_evidence.specs.hwp_report_text.declared.CpuLine.{CpuLine}
 use Rattle.hwp_check_evidence.specs.hwp_report_text.declared.CpuLine.TheVariants as lines
 use Rattle.hwp_check_evidence.specs.hwp_report_text.declared.OfflinedLine.{OfflinedLine}
 use Rattle.hwp_check_evidence.specs.hwp_report_text.declared.Report.{Report}
-use Rattle.hwp_check_evidence.specs.hwp_law_commands.Commands.{is_watch}
+use Rattle.hwp_check_evidence.specs.hwp_law.Commands.{is_watch}
 use Rattle.hwp_check_evidence.specs.hwp_law.Lines.{offlined_of}
 use Rattle.hwp_check_evidence.specs.hwp_law.Offlined.{due_of}
 use Rattle.hwp_check_rules.specs.AnswerFaults.{IsDue, IsUnanswered, LacksOfflined}

@@ -1,5 +1,5 @@
 ghost use Rattle.std.specs.Prelude.{◌≡◌, ◌⊎◌, ◌↔◌, ◌<◌, ◌+◌, IsTrue, MatchBool, Some, drop, length, slice_index_or, false};
-ghost use Rattle.hwp_check_evidence.specs.hwp_law_commands.Commands.{process_at};
+ghost use Rattle.hwp_check_evidence.specs.hwp_law.Commands.{process_at};
 ghost use Rattle.hwp_check_evidence.specs.hwp_law.Endings.{IsOver};
 ghost use Rattle.hwp_check_evidence.specs.hwp_law.States.{IsInWindow, state_named};
 ghost use Rattle.hwp_check_evidence.specs.Ends.{HadEnded};

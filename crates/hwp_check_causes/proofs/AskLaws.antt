@@ -11,7 +11,7 @@ use Rattle.hwp_check_evidence.specs.hwp_script_read.declared.Script.{Script}
 use Rattle.hwp_check_evidence.specs.hwp_report_text.declared.Answer.{Answer}
 use Rattle.hwp_check_evidence.specs.hwp_report_text.declared.Answer.TheVariants as answers
 use Rattle.hwp_check_evidence.specs.hwp_report_text.declared.Report.{Report}
-use Rattle.hwp_check_evidence.specs.hwp_law_commands.Outcomes.{reply_answer}
+use Rattle.hwp_check_evidence.specs.hwp_law.Outcomes.{reply_answer}
 use Rattle.hwp_check_evidence.specs.hwp_law.Causes.{IsCaused}
 use Rattle.hwp_check_evidence.specs.hwp_law.States.{state_named}
 use Rattle.hwp_check_causes.specs.Asking.{IsAsked, is_by_state}

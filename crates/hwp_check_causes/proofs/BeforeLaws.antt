@@ -10,7 +10,7 @@ use Rattle.hwp_check_evidence.specs.hwp_kill.declared.Policy.TheVariants.{Defaul
 use Rattle.hwp_check_evidence.specs.hwp_script_read.declared.Command.{Command}
 use Rattle.hwp_check_evidence.specs.hwp_script_read.declared.Command.TheVariants as commands
 use Rattle.hwp_check_evidence.specs.hwp_report_text.declared.CpuLine.{CpuLine}
-use Rattle.hwp_check_evidence.specs.hwp_law_commands.Settings.{last_policy}
+use Rattle.hwp_check_evidence.specs.hwp_law.Settings.{last_policy}
 use Rattle.hwp_check_rules.specs.Pasts.{AreDone}
 use Rattle.hwp_check_rules.proofs.SettingLaws.{settings-flags}
 use Rattle.hwp_check_causes.specs.Befores.{AreBefore, AreBeforeBy, policy_at, policy_of}

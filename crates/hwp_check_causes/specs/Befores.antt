@@ -9,7 +9,7 @@ use Rattle.hwp_check_evidence.specs.hwp_script_read.declared.Command.{Command}
 use Rattle.hwp_check_evidence.specs.hwp_script_read.declared.Command.TheVariants as commands
 use Rattle.hwp_check_evidence.specs.hwp_script_read.declared.PrctlArgs.{PrctlArgs}
 use Rattle.hwp_check_evidence.specs.hwp_report_text.declared.CpuLine.{CpuLine}
-use Rattle.hwp_check_evidence.specs.hwp_law_commands.Settings.{last_policy, settings}
+use Rattle.hwp_check_evidence.specs.hwp_law.Settings.{last_policy, settings}
 use Rattle.hwp_check_evidence.specs.hwp_law.Lines.{answered}
 use Rattle.hwp_check_rules.specs.Pasts.{policy_by}
 

@@ -11,11 +11,11 @@ use Rattle.hwp_check_evidence.specs.hwp_script_read.declared.Script.{Script}
 use Rattle.hwp_check_evidence.specs.hwp_report_text.declared.Answer.{Answer}
 use Rattle.hwp_check_evidence.specs.hwp_report_text.declared.Answer.TheVariants as answers
 use Rattle.hwp_check_evidence.specs.hwp_report_text.declared.Report.{Report}
-use Rattle.hwp_check_evidence.specs.hwp_law_commands.Outcomes.{reply_answer}
+use Rattle.hwp_check_evidence.specs.hwp_law.Outcomes.{reply_answer}
 use Rattle.hwp_check_evidence.specs.hwp_law.Causes.{AreBadLines, HadBadLines, IsFailureAnswer, IsOfflineAnswer, IsUnpoisonAnswer}
-use Rattle.hwp_check_evidence.specs.hwp_law_commands.Commands.{is_kernels}
+use Rattle.hwp_check_evidence.specs.hwp_law.Commands.{is_kernels}
 use Rattle.hwp_check_evidence.specs.hwp_law.Lines.{bad_lines_of}
-use Rattle.hwp_check_evidence.specs.hwp_law_commands.Settings.{arguments}
+use Rattle.hwp_check_evidence.specs.hwp_law.Settings.{arguments}
 use Rattle.hwp_check_evidence.specs.hwp_law.Policies.{policy_before}
 use Rattle.hwp_check_causes.specs.Asking.{is_by_state}
 use Rattle.hwp_check_causes.specs.Plain.{is_plain}

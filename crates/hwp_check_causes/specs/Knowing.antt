@@ -7,7 +7,7 @@ use Rattle.hwp_check_evidence.specs.hwp_geom.declared.Who.{Who}
 use Rattle.hwp_check_evidence.specs.hwp_script_read.declared.Command.{Command}
 use Rattle.hwp_check_evidence.specs.hwp_script_read.declared.Command.TheVariants as commands
 use Rattle.hwp_check_evidence.specs.hwp_script_read.declared.PrctlArgs.{PrctlArgs}
-use Rattle.hwp_check_evidence.specs.hwp_law_commands.Notes.{ends_machine}
+use Rattle.hwp_check_evidence.specs.hwp_law.Notes.{ends_machine}
 use Rattle.hwp_check_evidence.specs.hwp_law.Lines.{events_of}
 use Rattle.hwp_check_evidence.specs.hwp_law.Policies.{policy_before}
 use Rattle.hwp_check_evidence.specs.Ends.{ArePageEnds, own_ends}

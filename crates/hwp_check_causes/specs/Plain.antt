@@ -9,7 +9,7 @@ use Rattle.hwp_check_evidence.specs.hwp_report_text.declared.Answer.TheVariants 
 use Rattle.hwp_check_evidence.specs.hwp_report_text.declared.Report.{Report}
 use Rattle.hwp_check_evidence.specs.hwp_law.Answers.{is_ample}
 use Rattle.hwp_check_evidence.specs.hwp_law.Causes.{AreBadLines, IsEventCount}
-use Rattle.hwp_check_evidence.specs.hwp_law_commands.Commands.{is_kernels}
+use Rattle.hwp_check_evidence.specs.hwp_law.Commands.{is_kernels}
 use Rattle.hwp_check_evidence.specs.hwp_law.Lines.{bad_lines_of}
 
 -- the command calls prctl(2), and so its answer is another matter; the same of one that takes back a failure, where it is done

@@ -1,10 +1,10 @@
 ghost use Rattle.std.specs.Prelude.{◌≡◌, ◌↔◌, IsTrue, length, true};
 ghost use Rattle.hwp_check_evidence.specs.hwp_kill.Prctl.{reply};
 ghost use Rattle.hwp_check_evidence.specs.hwp_page.declared.What.TheVariants as entries;
-ghost use Rattle.hwp_check_evidence.specs.hwp_law_commands.Outcomes.{reply_answer};
+ghost use Rattle.hwp_check_evidence.specs.hwp_law.Outcomes.{reply_answer};
 ghost use Rattle.hwp_check_evidence.specs.hwp_law.Answers.{StandsAt};
 ghost use Rattle.hwp_check_evidence.specs.hwp_law.Causes.{ComesTo, HasMark, IsFailureAnswer, IsOfflineAnswer, IsUnpoisonAnswer};
-ghost use Rattle.hwp_check_evidence.specs.hwp_law_commands.Settings.{arguments};
+ghost use Rattle.hwp_check_evidence.specs.hwp_law.Settings.{arguments};
 
 use crate::case::Case;
 use crate::plain::{are_bad_lines, bad_lines_of};

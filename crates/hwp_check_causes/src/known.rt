@@ -1,6 +1,6 @@
 ghost use Rattle.std.specs.Prelude.{◌≡◌, ◌↔◌, Any, IsTrue, true};
 ghost use Rattle.hwp_check_evidence.specs.hwp_law.Causes.{AreBadLines, HadBadLines, IsCaused};
-ghost use Rattle.hwp_check_evidence.specs.hwp_law_commands.Commands.{process_at, process_of_thread, thread_of};
+ghost use Rattle.hwp_check_evidence.specs.hwp_law.Commands.{process_at, process_of_thread, thread_of};
 ghost use Rattle.hwp_check_evidence.specs.hwp_law.Endings.{IsGone};
 ghost use Rattle.hwp_check_evidence.specs.hwp_law.States.{HadState};
 ghost use Rattle.hwp_check_evidence.specs.hwp_report_text.declared.Answer.TheVariants as answers;

@@ -1,7 +1,7 @@
 ghost use Rattle.std.specs.Prelude.{◌≡◌, ◌↔◌, IsTrue, false, true};
 ghost use Rattle.hwp_check_evidence.specs.hwp_law.Answers.{is_ample};
 ghost use Rattle.hwp_check_evidence.specs.hwp_law.Causes.{AreBadLines, IsCaused};
-ghost use Rattle.hwp_check_evidence.specs.hwp_law_commands.Commands.{is_kernels};
+ghost use Rattle.hwp_check_evidence.specs.hwp_law.Commands.{is_kernels};
 ghost use Rattle.hwp_check_evidence.specs.hwp_law.Lines.{bad_lines_of};
 ghost use Rattle.hwp_check_causes.specs.Plain.{AreRaised, AreScrubbed, HasTheseBad, IsAccess, IsDone, IsLossTold, IsOfKernel, IsOpening, IsPlain, IsShort, IsUsed, is_plain};
 

@@ -14,7 +14,7 @@ use Rattle.hwp_law.specs.hwp_report_text.declared.MarkLine.{MarkLine}
 use Rattle.hwp_law.specs.hwp_report_text.declared.MarkLine.TheVariants as marks
 use Rattle.hwp_law.specs.Checks.{IsResult}
 use Rattle.hwp_law.specs.Lines.{is_same_command}
-use Rattle.hwp_law.specs.hwp_law_commands.Outcomes.{outcome_act}
+use Rattle.hwp_law.specs.Outcomes.{outcome_act}
 use Rattle.hwp_law.specs.Records.{hardware_act, hardware_marks, is_by_hardware, mark_results, who_in}
 use Rattle.hwp_check_event_line.specs.Results.{has_result, tells, tells_mark}
 

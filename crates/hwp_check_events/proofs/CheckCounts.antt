@@ -7,7 +7,7 @@ use Rattle.std.proofs.lemmas.Option.{get_or_from_slice_get, slice_get-get_or, sl
 use Rattle.hwp_banks.specs.hwp_geom.declared.Cpu.{Cpu}
 use Rattle.hwp_banks.specs.hwp_geom.declared.Who.{Who}
 use Rattle.hwp_law.specs.hwp_page.declared.Entry.{Entry}
-use Rattle.hwp_law.specs.hwp_law_commands.Commands.{is_check}
+use Rattle.hwp_law.specs.Commands.{is_check}
 use Rattle.hwp_law.specs.Lines.{is_same_command}
 use Rattle.hwp_check_events.specs.Indexed.{AreAdded, AreChecks, AreFew, all_checkers, checker, checks_by, checks_in, page_checkers, with_check}
 

@@ -17,7 +17,7 @@ use Rattle.hwp_law.specs.hwp_report_text.declared.EventLine.{EventLine}
 use Rattle.hwp_law.specs.hwp_report_text.declared.Report.{Report}
 use Rattle.hwp_law.specs.Checks.{IsCheck}
 use Rattle.hwp_banks.specs.Banks.{Banks, empty_banks, raw_event}
-use Rattle.hwp_law.specs.hwp_law_commands.Commands.{arrival_of}
+use Rattle.hwp_law.specs.Commands.{arrival_of}
 use Rattle.hwp_law.specs.hwp_severity.declared.Arrival.{Arrival}
 use Rattle.hwp_law.specs.Events.{AreEventsOf, AreScrubbed, IsDamaged, IsRaise, is_raised, logged_if_done, AreAccessChecks, access_lines, store_lines}
 use Rattle.hwp_law.specs.Lines.{answer_of}

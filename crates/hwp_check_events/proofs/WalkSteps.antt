@@ -16,7 +16,7 @@ use Rattle.hwp_law.specs.hwp_report_text.declared.CpuLine.{CpuLine}
 use Rattle.hwp_law.specs.hwp_report_text.declared.EventLine.{EventLine}
 use Rattle.hwp_law.specs.hwp_report_text.declared.Report.{Report}
 use Rattle.hwp_law.specs.Lines.{answer_among, answer_of, events_among, events_of, is_same_command}
-use Rattle.hwp_law.specs.hwp_law_commands.Commands.{is_check}
+use Rattle.hwp_law.specs.Commands.{is_check}
 use Rattle.hwp_law.specs.Pairings.{entries_of}
 use Rattle.hwp_check_events.specs.Indexed.{AreChecks, AreFirst, checks_in, shown_from}
 use Rattle.hwp_check_events.specs.Judged.{IsJudged, IsTable}

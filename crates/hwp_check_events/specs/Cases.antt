@@ -9,7 +9,7 @@ use Rattle.hwp_law.specs.hwp_script_read.declared.Script.{Script}
 use Rattle.hwp_law.specs.hwp_report_text.declared.Answer.{Answer}
 use Rattle.hwp_law.specs.hwp_report_text.declared.CpuLine.{CpuLine}
 use Rattle.hwp_law.specs.hwp_report_text.declared.Report.{Report}
-use Rattle.hwp_law.specs.hwp_law_commands.Commands.{is_check}
+use Rattle.hwp_law.specs.Commands.{is_check}
 use Rattle.hwp_law.specs.Lines.{answer_of}
 use Rattle.hwp_law.specs.Pairings.{entries_of}
 use Rattle.hwp_check_acting.specs.ActedOn.{copies_in}

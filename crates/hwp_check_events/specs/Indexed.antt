@@ -6,7 +6,7 @@ use Rattle.hwp_law.specs.hwp_page.declared.Entry.{Entry}
 use Rattle.hwp_law.specs.hwp_report_text.declared.Answer.{Answer}
 use Rattle.hwp_law.specs.hwp_report_text.declared.CpuLine.{CpuLine}
 use Rattle.hwp_law.specs.hwp_report_text.declared.CpuLine.TheVariants as lines
-use Rattle.hwp_law.specs.hwp_law_commands.Commands.{is_check}
+use Rattle.hwp_law.specs.Commands.{is_check}
 use Rattle.hwp_law.specs.Lines.{answer_among, is_same_command}
 use Rattle.hwp_check_event_line.specs.declared.Shown.{Shown}
 

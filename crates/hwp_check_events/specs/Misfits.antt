@@ -16,7 +16,7 @@ use Rattle.hwp_law.specs.hwp_report_text.declared.Answer.{Answer}
 use Rattle.hwp_law.specs.hwp_report_text.declared.Answer.TheVariants as answers
 use Rattle.hwp_law.specs.hwp_report_text.declared.EventLine.{EventLine}
 use Rattle.hwp_law.specs.hwp_report_text.declared.Report.{Report}
-use Rattle.hwp_law.specs.hwp_law_commands.Commands.{arrival_of}
+use Rattle.hwp_law.specs.Commands.{arrival_of}
 use Rattle.hwp_law.specs.Events.{access_lines, is_raised, store_lines}
 use Rattle.hwp_banks.specs.Banks.{raw_event}
 use Rattle.hwp_law.specs.Lines.{answer_of, events_of}

@@ -1,5 +1,5 @@
 ghost use Rattle.std.specs.Prelude.{◌≡◌, ◌<◌, ◌^◌, ◌++◌, ◌∷◌, [], cond, length, sum_by, IfOk, OnOk};
-ghost use Rattle.hwp_law.specs.hwp_law_commands.Commands.{is_check};
+ghost use Rattle.hwp_law.specs.Commands.{is_check};
 ghost use Rattle.hwp_check_events.specs.Indexed.{AreAdded, AreChecks, AreFew, all_checkers, checker, checks_by, page_checkers, with_check};
 
 use hwp_law::{Cpu, Entry, List, OutOfMemory, Report, What, Who};

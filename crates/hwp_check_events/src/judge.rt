@@ -1,5 +1,5 @@
 ghost use Rattle.std.specs.Prelude.{◌≡◌, ◌≤◌, true, false, cond, is_some};
-ghost use Rattle.hwp_law.specs.hwp_law_commands.Commands.{arrival_of};
+ghost use Rattle.hwp_law.specs.Commands.{arrival_of};
 ghost use Rattle.hwp_banks.specs.declared.Origin.TheVariants.{Access};
 ghost use Rattle.hwp_law.specs.Events.{access_lines};
 ghost use Rattle.hwp_law.specs.Lines.{answer_of};

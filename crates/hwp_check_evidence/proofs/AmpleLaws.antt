@@ -6,7 +6,7 @@ use Rattle.std.proofs.lemmas.List.{get_or-set_same, get_or-set_other, get_or-rep
 use Rattle.std.proofs.lemmas.List.Folds.{list_any-append}
 use Rattle.hwp_law.specs.hwp_script_read.declared.Command.{Command}
 use Rattle.hwp_law.specs.hwp_script_read.declared.Script.{Script}
-use Rattle.hwp_law.specs.hwp_law_commands.Commands.{has_watch}
+use Rattle.hwp_law.specs.Commands.{has_watch}
 use Rattle.hwp_law.specs.Answers.{frame_named, named_frames, usable_frames, usable_from}
 use Rattle.hwp_check_evidence.specs.Ample.{flags_of, noted, noted_in, noted_list, usable_by}
 

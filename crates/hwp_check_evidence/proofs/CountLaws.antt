@@ -6,7 +6,7 @@ use Rattle.std.proofs.lemmas.List.{get_or-set_same, get_or-set_other, get_or-rep
 use Rattle.hwp_law.specs.hwp_report_text.declared.CpuLine.{CpuLine}
 use Rattle.hwp_law.specs.hwp_report_text.declared.CpuLine.TheVariants as lines
 use Rattle.hwp_law.specs.hwp_report_text.declared.EventLine.{EventLine}
-use Rattle.hwp_law.specs.hwp_law_commands.Notes.{ends_machine}
+use Rattle.hwp_law.specs.Notes.{ends_machine}
 use Rattle.hwp_law.specs.hwp_report_text.Acts.{is_panic, is_stopping}
 use Rattle.hwp_law.specs.Lines.{events_among}
 use Rattle.hwp_check_evidence.specs.Counts.{AreCounts, AreFew, AreFlags, counted, flagged_by}

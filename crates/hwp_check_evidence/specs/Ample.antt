@@ -2,7 +2,7 @@
 use Rattle.std.specs.Prelude.{ℕ, ◌+◌, ◌||◌, Bool, true, false, cond, List, [], ◌∷◌, Option, Some, None, fold, replicate, length, slice_index_or, slice_set}
 use Rattle.hwp_law.specs.hwp_script_read.declared.Command.{Command}
 use Rattle.hwp_law.specs.hwp_script_read.declared.Script.{Script}
-use Rattle.hwp_law.specs.hwp_law_commands.Commands.{has_watch}
+use Rattle.hwp_law.specs.Commands.{has_watch}
 use Rattle.hwp_law.specs.Answers.{frame_named}
 
 -- the flags after a frame was named, if one was

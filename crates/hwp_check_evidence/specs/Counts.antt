@@ -3,7 +3,7 @@ use Rattle.std.specs.Prelude.{◌≡◌, ℕ, ◌+◌, ◌<◌, ◌≤◌, ◌||
 use Rattle.std.specs.List.{list_any}
 use Rattle.hwp_law.specs.hwp_report_text.declared.CpuLine.{CpuLine}
 use Rattle.hwp_law.specs.hwp_report_text.declared.CpuLine.TheVariants as lines
-use Rattle.hwp_law.specs.hwp_law_commands.Notes.{ends_machine}
+use Rattle.hwp_law.specs.Notes.{ends_machine}
 use Rattle.hwp_law.specs.hwp_report_text.Acts.{is_panic, is_stopping}
 use Rattle.hwp_law.specs.Lines.{events_among}
 

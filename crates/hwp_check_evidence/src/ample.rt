@@ -1,5 +1,5 @@
 ghost use Rattle.std.specs.Prelude.{◌≡◌, ◌+◌, ◌*◌, nat_lt, false, IfOk, slice_index_or};
-ghost use Rattle.hwp_law.specs.hwp_law_commands.Commands.{has_watch};
+ghost use Rattle.hwp_law.specs.Commands.{has_watch};
 ghost use Rattle.hwp_law.specs.Answers.{frame_named, is_ample};
 ghost use Rattle.hwp_check_evidence.specs.Ample.{flags_of, noted, noted_in, noted_list, usable_by};
 

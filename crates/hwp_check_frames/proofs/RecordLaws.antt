@@ -18,7 +18,7 @@ use Rattle.hwp_check_rules.specs.hwp_report_text.declared.MarkLine.TheVariants a
 use Rattle.hwp_check_rules.specs.hwp_report_text.declared.Report.{Report}
 use Rattle.hwp_check_rules.specs.hwp_law.Lines.{is_same_command, marks_of, rows_of}
 use Rattle.hwp_check_rules.specs.hwp_law.Records.{IsAnswered, IsFound, IsFrameRecord, IsMarkAt, hardware_act, hardware_marks, how_in, is_by_hardware, line_results, result_lines, who_in}
-use Rattle.hwp_check_rules.specs.hwp_law_commands.Outcomes.{outcome_act}
+use Rattle.hwp_check_rules.specs.hwp_law.Outcomes.{outcome_act}
 use Rattle.hwp_check_rules.specs.MarkFaults.{HasNoEvent, IsEventBeyond, IsMisfound, IsUnsaid}
 use Rattle.hwp_check_frames.specs.MarkScans.{AreRightMarks, FindsRight, FrameFits, HasEvent, IsFrameFaultAt, IsRecordFault, IsRecordWrong, IsRightMark, IsWrongMark, NoneBeyond, RecordFits, RecordsFit, results_in}
 use Rattle.hwp_check_rules.specs.Rules.{ShapeFits}

@@ -21,7 +21,7 @@ use Rattle.hwp_check_rules.specs.hwp_report_text.declared.MarkLine.{MarkLine}
 use Rattle.hwp_check_rules.specs.hwp_report_text.declared.MarkLine.TheVariants as marks
 use Rattle.hwp_check_rules.specs.hwp_report_text.declared.Report.{Report}
 use Rattle.hwp_check_rules.specs.hwp_law.Lines.{events_among, is_same_command, rows_of}
-use Rattle.hwp_check_rules.specs.hwp_law_commands.Outcomes.{outcome_act}
+use Rattle.hwp_check_rules.specs.hwp_law.Outcomes.{outcome_act}
 use Rattle.hwp_check_rules.specs.hwp_law.Records.{hardware_act, hardware_marks, is_by_hardware, line_results, mark_results, result_lines, result_of, who_in}
 use Rattle.hwp_check_frames.specs.MarkScans.{HasEvent, IsNextResult, is_beyond, result_in, results_in, row_beyond, rows_beyond}
 use Rattle.hwp_check_frames.proofs.FramePlaces.{and-right, or-left, or-right}

@@ -12,7 +12,7 @@ use Rattle.hwp_check_rules.specs.hwp_report_text.declared.MarkLine.TheVariants a
 use Rattle.hwp_check_rules.specs.hwp_report_text.declared.Report.{Report}
 use Rattle.hwp_check_rules.specs.hwp_law.Lines.{answer_of, is_same_command, marks_of}
 use Rattle.hwp_check_rules.specs.hwp_law.Pairings.{is_soft_mark, is_soft_of, says_soft, soft_lines}
-use Rattle.hwp_check_rules.specs.hwp_law_commands.Commands.{command_at}
+use Rattle.hwp_check_rules.specs.hwp_law.Commands.{command_at}
 use Rattle.hwp_check_rules.specs.hwp_law.Records.{who_in}
 use Rattle.hwp_check_rules.specs.MarkFaults.{IsUnsaid, lines_beside}
 use Rattle.hwp_check_frames.specs.MarkScans.{AreSaid, IsSaid, IsSaidMore}

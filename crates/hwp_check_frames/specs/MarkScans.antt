@@ -19,9 +19,9 @@ use Rattle.hwp_check_rules.specs.hwp_report_text.declared.MarkLine.TheVariants a
 use Rattle.hwp_check_rules.specs.hwp_report_text.declared.Report.{Report}
 use Rattle.hwp_check_rules.specs.hwp_law.Lines.{answer_of, marks_of, rows_of}
 use Rattle.hwp_check_rules.specs.hwp_law.Pairings.{is_soft_mark, soft_lines}
-use Rattle.hwp_check_rules.specs.hwp_law_commands.Commands.{command_at}
+use Rattle.hwp_check_rules.specs.hwp_law.Commands.{command_at}
 use Rattle.hwp_check_rules.specs.hwp_law.Records.{IsAnswered, IsFound, IsFrameRecord, IsMarkAt, hardware_marks, result_of}
-use Rattle.hwp_check_rules.specs.hwp_law_commands.Outcomes.{outcome_act, outcome_answer}
+use Rattle.hwp_check_rules.specs.hwp_law.Outcomes.{outcome_act, outcome_answer}
 use Rattle.hwp_check_rules.specs.MarkFaults.{HasNoEvent, IsEventBeyond, IsMisfound, IsUnsaid}
 use Rattle.hwp_check_rules.specs.Standing.{mark_line}
 

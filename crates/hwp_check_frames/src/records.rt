@@ -1,9 +1,9 @@
 ghost use Rattle.std.specs.Prelude.{◌≡◌, ◌≤◌, ◌↔◌, ◌&&◌, ℕ, Some, IsTrue, MatchBool, length, take};
 ghost use Rattle.hwp_check_rules.specs.hwp_law.Lines.{answer_of};
 ghost use Rattle.hwp_check_rules.specs.hwp_law.Pairings.{is_soft_of, says_soft, soft_lines};
-ghost use Rattle.hwp_check_rules.specs.hwp_law_commands.Commands.{command_at};
+ghost use Rattle.hwp_check_rules.specs.hwp_law.Commands.{command_at};
 ghost use Rattle.hwp_check_rules.specs.hwp_law.Records.{IsAnswered, IsFound, IsMarkAt, is_moved, is_taken};
-ghost use Rattle.hwp_check_rules.specs.hwp_law_commands.Outcomes.{outcome_act, outcome_answer};
+ghost use Rattle.hwp_check_rules.specs.hwp_law.Outcomes.{outcome_act, outcome_answer};
 ghost use Rattle.hwp_check_frames.specs.Counts.{at_key};
 ghost use Rattle.hwp_check_frames.specs.Given.{AreGiven};
 ghost use Rattle.hwp_check_frames.specs.Index.{IsIndex, acted_in};

@@ -20,7 +20,7 @@ use Rattle.hwp_check_rules.specs.hwp_report_text.declared.Report.{Report}
 use Rattle.hwp_check_rules.specs.hwp_law.Causes.{HasMark, IsCaused}
 use Rattle.hwp_check_rules.specs.hwp_law.Lines.{answer_among, answer_of, is_same_command, marks_of}
 use Rattle.hwp_check_rules.specs.hwp_law.Pairings.{is_move, is_soft_mark, is_soft_of, is_take, says_soft, soft_lines}
-use Rattle.hwp_check_rules.specs.hwp_law_commands.Commands.{command_at}
+use Rattle.hwp_check_rules.specs.hwp_law.Commands.{command_at}
 use Rattle.hwp_check_rules.specs.hwp_law.Records.{how_in, is_moved, is_taken}
 use Rattle.hwp_check_rules.proofs.of_hwp_law.Extents.{answer_there}
 use Rattle.hwp_check_rules.specs.MarkFaults.{IsSoftBeyond, lines_beside}

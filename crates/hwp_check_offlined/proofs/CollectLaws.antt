@@ -6,8 +6,8 @@ use Rattle.hwp_check_rules.specs.hwp_script_read.declared.Command.{Command}
 use Rattle.hwp_check_rules.specs.hwp_script_read.declared.Command.TheVariants as commands
 use Rattle.hwp_check_rules.specs.hwp_report_text.declared.Answer.{Answer}
 use Rattle.hwp_check_rules.specs.hwp_report_text.declared.Answer.TheVariants as answers
-use Rattle.hwp_check_rules.specs.hwp_law_commands.Watched.{Watched, due, offlining, told, watched_after}
-use Rattle.hwp_law_commands.proofs.NoteLaws.{offlining-append, told-more}
+use Rattle.hwp_check_rules.specs.hwp_law.Watched.{Watched, due, offlining, told, watched_after}
+use Rattle.hwp_law.proofs.NoteLaws.{offlining-append, told-more}
 use Rattle.hwp_cec.specs.Ages.{CecEvent, Note, Round, live}
 use Rattle.hwp_cec.specs.Counters.{Counters, StandsFor, answer, noted_in, noted_row, row_of}
 use Rattle.hwp_cec.specs.declared.collector.Noted.{Noted}

@@ -22,9 +22,9 @@ use Rattle.hwp_check_rules.specs.hwp_report_text.declared.Report.{Report}
 use Rattle.hwp_check_rules.specs.hwp_check_events.Indexed.{AreShown}
 use Rattle.hwp_check_rules.specs.hwp_check_event_line.Firsts.{shown_lines}
 use Rattle.hwp_check_rules.specs.hwp_check_event_line.declared.Shown.{Shown}
-use Rattle.hwp_check_rules.specs.hwp_law_commands.Commands.{is_kernels, is_watch}
-use Rattle.hwp_check_rules.specs.hwp_law_commands.Notes.{checks, ends_machine, frame_of, is_corrected, is_for_pages, noted_frame, notes, notes_of_check}
-use Rattle.hwp_check_rules.specs.hwp_law_commands.Watched.{Watched, due, watched_after}
+use Rattle.hwp_check_rules.specs.hwp_law.Commands.{is_kernels, is_watch}
+use Rattle.hwp_check_rules.specs.hwp_law.Notes.{checks, ends_machine, frame_of, is_corrected, is_for_pages, noted_frame, notes, notes_of_check}
+use Rattle.hwp_check_rules.specs.hwp_law.Watched.{Watched, due, watched_after}
 use Rattle.hwp_check_rules.specs.hwp_law.Lines.{answered, answers_to, events_among}
 use Rattle.hwp_check_rules.specs.hwp_law.Offlined.{due_of, watched_from}
 use Rattle.hwp_check_rules.proofs.of_hwp_law.OfflinedLaws.{watched-more}

@@ -12,7 +12,7 @@ use Rattle.hwp_check_rules.specs.hwp_report_text.declared.Report.{Report}
 use Rattle.hwp_check_rules.specs.hwp_check_events.declared.Misfits.{Misfits}
 use Rattle.hwp_check_rules.specs.hwp_law.Lines.{offlined_among}
 use Rattle.hwp_check_rules.specs.hwp_law.Offlined.{due_of}
-use Rattle.hwp_check_rules.specs.hwp_law_commands.Commands.{is_watch}
+use Rattle.hwp_check_rules.specs.hwp_law.Commands.{is_watch}
 use Rattle.hwp_check_rules.specs.Answered.{offlined_before}
 use Rattle.hwp_check_offlined.specs.Dues.{AreDues}
 use Rattle.hwp_check_offlined.specs.Judged.{AreSuch, IsFirstOther, IsJudged, IsScanned, IsTold, LacksNone, LacksOne, who_at}

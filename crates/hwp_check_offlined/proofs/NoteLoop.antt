@@ -7,8 +7,8 @@ use Rattle.std.proofs.lemmas.List.{append_assoc, append-nil, drop-drop, length-d
 use Rattle.hwp_check_rules.specs.hwp_geom.declared.Frame.{Frame}
 use Rattle.hwp_check_rules.specs.hwp_geom.declared.Layout.{Layout}
 use Rattle.hwp_check_rules.specs.hwp_report_text.declared.EventLine.{EventLine}
-use Rattle.hwp_check_rules.specs.hwp_law_commands.Notes.{AreApart, IsRising, ends_machine, noted_frame, notes, notes_of_check}
-use Rattle.hwp_law_commands.proofs.NoteLaws.{notes-append, notes-rising}
+use Rattle.hwp_check_rules.specs.hwp_law.Notes.{AreApart, IsRising, ends_machine, noted_frame, notes, notes_of_check}
+use Rattle.hwp_law.proofs.NoteLaws.{notes-append, notes-rising}
 use Rattle.hwp_check_rules.specs.hwp_check_event_line.Firsts.{shown_lines}
 use Rattle.hwp_check_rules.specs.hwp_check_event_line.declared.Shown.{Shown}
 use Rattle.hwp_check_offlined.specs.Noting.{AreNoted, ends, is_apart, is_last_of_check}

@@ -5,7 +5,7 @@ use Rattle.hwp_check_rules.specs.hwp_script_read.declared.Command.{Command}
 use Rattle.hwp_check_rules.specs.hwp_script_read.declared.Command.TheVariants as commands
 use Rattle.hwp_check_rules.specs.hwp_report_text.declared.Answer.{Answer}
 use Rattle.hwp_check_rules.specs.hwp_report_text.declared.Answer.TheVariants as answers
-use Rattle.hwp_check_rules.specs.hwp_law_commands.Watched.{Watched, offlining, told}
+use Rattle.hwp_check_rules.specs.hwp_law.Watched.{Watched, offlining, told}
 use Rattle.hwp_check_rules.specs.hwp_script_read.hwp_script_lines.Grammar.{IsCollectorWithin}
 use Rattle.hwp_cec.specs.Ages.{Note, Round, live}
 use Rattle.hwp_cec.specs.Counters.{Counters, StandsFor}

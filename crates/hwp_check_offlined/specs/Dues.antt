@@ -4,8 +4,8 @@ use Rattle.hwp_check_rules.specs.hwp_geom.declared.Frame.{Frame}
 use Rattle.hwp_check_rules.specs.hwp_geom.declared.Layout.{Layout}
 use Rattle.hwp_check_rules.specs.hwp_script_read.declared.Command.{Command}
 use Rattle.hwp_check_rules.specs.hwp_report_text.declared.CpuLine.{CpuLine}
-use Rattle.hwp_check_rules.specs.hwp_law_commands.Notes.{notes}
-use Rattle.hwp_check_rules.specs.hwp_law_commands.Watched.{Watched, due}
+use Rattle.hwp_check_rules.specs.hwp_law.Notes.{notes}
+use Rattle.hwp_check_rules.specs.hwp_law.Watched.{Watched, due}
 use Rattle.hwp_check_rules.specs.hwp_law.Lines.{answered, events_among}
 use Rattle.hwp_check_rules.specs.hwp_law.Offlined.{watched_from}
 

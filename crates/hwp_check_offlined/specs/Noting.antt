@@ -4,7 +4,7 @@ use Rattle.hwp_check_rules.specs.hwp_geom.declared.Frame.{Frame}
 use Rattle.hwp_check_rules.specs.hwp_geom.declared.Layout.{Layout}
 use Rattle.hwp_check_rules.specs.hwp_report_text.declared.EventLine.{EventLine}
 use Rattle.hwp_check_rules.specs.hwp_check_event_line.declared.Shown.{Shown}
-use Rattle.hwp_check_rules.specs.hwp_law_commands.Notes.{IsRising, ends_machine, notes}
+use Rattle.hwp_check_rules.specs.hwp_law.Notes.{IsRising, ends_machine, notes}
 
 -- the event that is shown stopped the machine, or was a panic
 abbrev pub ends : Shown → Bool

@@ -2,7 +2,7 @@ ghost use Rattle.std.specs.Prelude.{◌≡◌, ◌<◌, ◌+◌, ◌++◌, IfOk,
 ghost use Rattle.std.specs.List.{list_any};
 ghost use Rattle.std.specs.Option.{option_to_list};
 ghost use Rattle.hwp_check_rules.specs.hwp_check_event_line.Firsts.{shown_lines};
-ghost use Rattle.hwp_check_rules.specs.hwp_law_commands.Notes.{is_corrected, noted_frame, notes, notes_of_check};
+ghost use Rattle.hwp_check_rules.specs.hwp_law.Notes.{is_corrected, noted_frame, notes, notes_of_check};
 ghost use Rattle.hwp_check_offlined.specs.Noting.{AreNoted, ends, is_last_of_check};
 
 use hwp_banks::{Flags, Status};

@@ -20,8 +20,8 @@ use Rattle.hwp_check_rules.specs.hwp_geom.declared.VSlot.{VSlot}
 use Rattle.hwp_check_rules.specs.hwp_script_read.declared.Command.{Command}
 use Rattle.hwp_check_rules.specs.hwp_report_text.declared.Answer.{Answer}
 use Rattle.hwp_check_rules.specs.hwp_report_text.declared.Answer.TheVariants as answers
-use Rattle.hwp_check_rules.specs.hwp_law_commands.declared.GuestAccess.{GuestAccess}
-use Rattle.hwp_check_rules.specs.hwp_law_commands.Guests.{denial, denied, guest_access, guest_after, guest_taken, guest_of, new_guest}
+use Rattle.hwp_check_rules.specs.hwp_law.declared.GuestAccess.{GuestAccess}
+use Rattle.hwp_check_rules.specs.hwp_law.GuestRule.{denial, denied, guest_access, guest_after, guest_taken, guest_of, new_guest}
 use Rattle.hwp_check_processes.specs.Admission.{AreAdmissions, admission_of, is_spoil, is_spoil_by, is_spoil_in, is_stop, is_stop_by, is_stop_in, sigbus_by}
 
 -- ---- a command and its answer, as they were read

@@ -11,7 +11,7 @@ use Rattle.hwp_check_rules.specs.hwp_report_text.declared.Answer.TheVariants as 
 use Rattle.hwp_check_rules.specs.hwp_report_text.declared.CpuLine.{CpuLine}
 use Rattle.hwp_check_rules.specs.hwp_report_text.declared.CpuLine.TheVariants as lines
 use Rattle.hwp_check_rules.specs.hwp_report_text.declared.GuestLine.{GuestLine}
-use Rattle.hwp_check_rules.specs.hwp_law_commands.Guests.{denial, guest_lines}
+use Rattle.hwp_check_rules.specs.hwp_law.GuestRule.{denial, guest_lines}
 use Rattle.hwp_check_rules.specs.GuestFaults.{IsAdmitted, IsGuestLacking, IsMistold, LacksGuest}
 use Rattle.hwp_check_processes.specs.Judging.{AreEnough, AreRight, AreTold, IsFirstLacking, IsFirstWrong, IsLackingBy, IsMisadmittedBy, IsWrongBy, LacksGuestBy, answer_behind, answer_by, says_bad, says_denied, says_stopped}
 use Rattle.hwp_check_processes.specs.Telling.{due_by, is_told}

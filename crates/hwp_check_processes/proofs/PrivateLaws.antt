@@ -15,7 +15,7 @@ use Rattle.hwp_check_rules.specs.hwp_script_read.declared.Script.{Script}
 use Rattle.hwp_check_rules.specs.hwp_law.Lines.{answer_among, answered}
 use Rattle.hwp_check_rules.specs.hwp_law.Policies.{answered_before}
 use Rattle.hwp_check_rules.specs.hwp_law.Private.{ArePrivate, freeze_from, loaded, private_word}
-use Rattle.hwp_check_rules.specs.hwp_law_commands.Commands.{command_at}
+use Rattle.hwp_check_rules.specs.hwp_law.Commands.{command_at}
 use Rattle.hwp_check_rules.specs.AnswerFaults.{IsPrivateFault}
 use Rattle.hwp_check_rules.specs.Firsts.{IsLeast}
 use Rattle.hwp_check_rules.specs.Standing.{cpu_line, row_line}

@@ -16,10 +16,10 @@ use Rattle.hwp_check_rules.specs.hwp_script_read.declared.Command.{Command}
 use Rattle.hwp_check_rules.specs.hwp_script_read.declared.Script.{Script}
 use Rattle.hwp_check_rules.specs.hwp_law.Guests.{DoesNothing}
 use Rattle.hwp_check_rules.specs.hwp_law.Lines.{answered}
-use Rattle.hwp_check_rules.specs.hwp_law_commands.Commands as access
-use Rattle.hwp_check_rules.specs.hwp_law_commands.Commands.{access_of, arrival_of, process_of_thread}
-use Rattle.hwp_check_rules.specs.hwp_law_commands.declared.GuestAccess.{GuestAccess}
-use Rattle.hwp_check_rules.specs.hwp_law_commands.Guests.{denial, denied, guest_access, guest_line, guest_lines, guest_of, kind_of}
+use Rattle.hwp_check_rules.specs.hwp_law.Commands as access
+use Rattle.hwp_check_rules.specs.hwp_law.Commands.{access_of, arrival_of, process_of_thread}
+use Rattle.hwp_check_rules.specs.hwp_law.declared.GuestAccess.{GuestAccess}
+use Rattle.hwp_check_rules.specs.hwp_law.GuestRule.{denial, denied, guest_access, guest_line, guest_lines, guest_of, kind_of}
 use Rattle.hwp_check_rules.specs.Firsts.{IsLeast}
 use Rattle.hwp_check_rules.specs.GuestFaults.{IsAdmitted, IsGuestFault, IsGuestLacking, IsGuestWrong, IsMisadmitted}
 use Rattle.hwp_check_rules.specs.Standing.{cpu_line, row_line}

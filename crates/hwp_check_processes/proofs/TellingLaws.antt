@@ -13,8 +13,8 @@ use Rattle.hwp_check_rules.specs.hwp_report_text.declared.CpuLine.{CpuLine}
 use Rattle.hwp_check_rules.specs.hwp_report_text.declared.CpuLine.TheVariants as lines
 use Rattle.hwp_check_rules.specs.hwp_report_text.declared.GuestLine.{GuestLine}
 use Rattle.hwp_check_rules.specs.hwp_law.Lines.{guests_among}
-use Rattle.hwp_check_rules.specs.hwp_law_commands.declared.GuestAccess.{GuestAccess}
-use Rattle.hwp_check_rules.specs.hwp_law_commands.Guests.{guest_line, guest_lines, stops}
+use Rattle.hwp_check_rules.specs.hwp_law.declared.GuestAccess.{GuestAccess}
+use Rattle.hwp_check_rules.specs.hwp_law.GuestRule.{guest_line, guest_lines, stops}
 use Rattle.hwp_check_rules.specs.hwp_guest.Guests.{outcome, outcome_row}
 use Rattle.hwp_check_processes.specs.Telling.{due_by, has_event, has_outcome, is_guest_of, is_line, is_told}
 

@@ -8,7 +8,7 @@ use Rattle.hwp_check_rules.specs.hwp_geom.declared.Thread.{Thread}
 use Rattle.hwp_check_rules.specs.hwp_geom.declared.TransDecl.{TransDecl}
 use Rattle.hwp_check_rules.specs.hwp_geom.declared.VSlot.{VSlot}
 use Rattle.hwp_check_rules.specs.hwp_law.Private.{freeze_from, last_word, loaded, private_word, word_at_fork, word_before, word_stored}
-use Rattle.hwp_check_rules.specs.hwp_law_commands.Cows.{cow_after, own_page}
+use Rattle.hwp_check_rules.specs.hwp_law.Cows.{cow_after, own_page}
 use Rattle.hwp_check_rules.specs.hwp_report_text.declared.Answer.{Answer}
 use Rattle.hwp_check_rules.specs.hwp_report_text.declared.Answer.TheVariants as answers
 use Rattle.hwp_check_rules.specs.hwp_report_text.declared.Report.{Report}

@@ -12,8 +12,8 @@ use Rattle.hwp_check_rules.specs.hwp_geom.declared.VSlot.{VSlot}
 use Rattle.hwp_check_rules.specs.hwp_script_read.declared.Command.{Command}
 use Rattle.hwp_check_rules.specs.hwp_report_text.declared.Answer.{Answer}
 use Rattle.hwp_check_rules.specs.hwp_report_text.declared.Answer.TheVariants as answers
-use Rattle.hwp_check_rules.specs.hwp_law_commands.declared.GuestAccess.{GuestAccess}
-use Rattle.hwp_check_rules.specs.hwp_law_commands.Guests.{denial, denied, guest_access, guest_of}
+use Rattle.hwp_check_rules.specs.hwp_law.declared.GuestAccess.{GuestAccess}
+use Rattle.hwp_check_rules.specs.hwp_law.GuestRule.{denial, denied, guest_access, guest_of}
 
 -- the access of a command with this answer, where it was one of a guest that SIGBUS answered
 abbrev pub sigbus_by : Layout → Command × Answer → Option GuestAccess

@@ -15,7 +15,7 @@ use Rattle.hwp_check_rules.specs.hwp_report_text.declared.CpuLine.TheVariants as
 use Rattle.hwp_check_rules.specs.hwp_report_text.declared.Report.{Report}
 use Rattle.hwp_check_rules.specs.hwp_law.Guests.{DoesNothing}
 use Rattle.hwp_check_rules.specs.hwp_law.Lines.{answered}
-use Rattle.hwp_check_rules.specs.hwp_law_commands.Guests.{denial, denied, guest_lines}
+use Rattle.hwp_check_rules.specs.hwp_law.GuestRule.{denial, denied, guest_lines}
 use Rattle.hwp_check_rules.specs.GuestFaults.{IsAdmitted, IsGuestLacking, IsGuestWrong, IsMistold}
 use Rattle.hwp_check_rules.specs.Standing.{cpu_line, row_line}
 use Rattle.hwp_check_processes.specs.Telling.{is_guest_of}

@@ -1,6 +1,6 @@
 ghost use Rattle.std.specs.Prelude.{◌≡◌, IfOk, length, take};
 ghost use Rattle.std.specs.List.{list_any};
-ghost use Rattle.hwp_check_rules.specs.hwp_law_commands.Guests.{denial, denied};
+ghost use Rattle.hwp_check_rules.specs.hwp_law.GuestRule.{denial, denied};
 ghost use Rattle.hwp_check_processes.specs.Admission.{AreAdmissions, admission_of, is_spoil, is_spoil_by, is_stop, is_stop_by, sigbus_by};
 
 use hwp_check_rules::{

@@ -1,6 +1,6 @@
 ghost use Rattle.std.specs.Prelude.{◌≡◌, ◌<◌, MatchBool, MatchOption, length, slice_index_or, false};
 ghost use Rattle.hwp_check_rules.specs.GuestFaults.{IsAdmitted, IsMistold};
-ghost use Rattle.hwp_check_rules.specs.hwp_law_commands.Guests.{denial};
+ghost use Rattle.hwp_check_rules.specs.hwp_law.GuestRule.{denial};
 ghost use Rattle.hwp_check_processes.specs.Judging.{AreEnough, AreRight, AreTold, IsFirstLacking, IsFirstWrong, IsLackingBy, IsMisadmittedBy, IsWrongBy, LacksGuestBy, answer_behind, answer_by, says_bad, says_denied, says_stopped};
 
 use crate::telling::{is_due, is_told};

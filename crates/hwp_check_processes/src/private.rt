@@ -1,7 +1,7 @@
 ghost use Rattle.std.specs.Prelude.{◌≡◌, ◌<◌, ◌≤◌, ◌^◌, false, None, Ok, Some, IfOk, MatchOption, length};
 ghost use Rattle.hwp_check_rules.specs.hwp_check_acting.Scripts.{IsDeclared};
 ghost use Rattle.hwp_check_rules.specs.hwp_law.Private.{ArePrivate};
-ghost use Rattle.hwp_check_rules.specs.hwp_law_commands.Commands.{has_fork};
+ghost use Rattle.hwp_check_rules.specs.hwp_law.Commands.{has_fork};
 ghost use Rattle.hwp_check_rules.specs.AnswerFaults.{IsPrivateFault};
 ghost use Rattle.hwp_check_rules.specs.Firsts.{IsLeast};
 ghost use Rattle.hwp_check_rules.specs.Standing.{last_line};

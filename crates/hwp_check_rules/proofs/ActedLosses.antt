@@ -5,7 +5,7 @@ use Rattle.std.proofs.lemmas.Option.{none-some, same_Some}
 use Rattle.hwp_law.specs.hwp_geom.declared.Cpu.{Cpu}
 use Rattle.hwp_law.specs.hwp_geom.declared.FileNo.{FileNo}
 use Rattle.hwp_law.specs.hwp_geom.declared.Layout.{Layout}
-use Rattle.hwp_law.specs.hwp_law_commands.Cows.{acting}
+use Rattle.hwp_law.specs.Cows.{acting}
 use Rattle.hwp_law.specs.hwp_report_text.declared.Answer.{Answer}
 use Rattle.hwp_law.specs.hwp_report_text.declared.CpuLine.{CpuLine}
 use Rattle.hwp_law.specs.hwp_report_text.declared.Report.{Report}

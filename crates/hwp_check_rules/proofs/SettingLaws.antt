@@ -23,7 +23,7 @@ use Rattle.hwp_law.specs.hwp_report_text.declared.Answer.TheVariants as answers
 use Rattle.hwp_law.specs.hwp_report_text.declared.CpuLine.{CpuLine}
 use Rattle.hwp_law.specs.hwp_report_text.declared.Report.{Report}
 use Rattle.hwp_law.specs.Lines.{answer_among, answered, answers_to}
-use Rattle.hwp_law.specs.hwp_law_commands.Settings.{arguments, last_policy, set_after, set_behind, setting_of, settings, unset}
+use Rattle.hwp_law.specs.Settings.{arguments, last_policy, set_after, set_behind, setting_of, settings, unset}
 use Rattle.hwp_law.specs.Policies.{answered_on}
 use Rattle.hwp_law.specs.SeenPolicies.{cpu_of_thread}
 use Rattle.hwp_law.proofs.AnswersInOrder.{answer-from}

@@ -16,7 +16,7 @@ use Rattle.hwp_law.specs.hwp_report_text.declared.OfflinedLine.{OfflinedLine}
 use Rattle.hwp_law.specs.hwp_report_text.Offlines.{offline_answer}
 use Rattle.hwp_law.specs.hwp_report_text.declared.Report.{Report}
 use Rattle.hwp_law.specs.Copies.{is_store, must_be_named}
-use Rattle.hwp_law.specs.hwp_law_commands.Commands.{command_at, process_at}
+use Rattle.hwp_law.specs.Commands.{command_at, process_at}
 use Rattle.hwp_law.specs.Endings.{HasEnded, IsOver, WasGone}
 use Rattle.hwp_law.specs.Lines.{events_of, offlined_of, rows_of, seq_of, answer_of}
 use Rattle.hwp_law.specs.Offlined.{IsOffline, due_of}

@@ -10,7 +10,7 @@ use Rattle.hwp_law.specs.hwp_report_text.declared.CpuLine.{CpuLine}
 use Rattle.hwp_law.specs.hwp_report_text.declared.CpuLine.TheVariants as lines
 use Rattle.hwp_law.specs.hwp_report_text.declared.GuestLine.{GuestLine}
 use Rattle.hwp_law.specs.hwp_report_text.declared.Report.{Report}
-use Rattle.hwp_law.specs.hwp_law_commands.Guests.{denied, guest_lines}
+use Rattle.hwp_law.specs.GuestRule.{denied, guest_lines}
 use Rattle.hwp_law.specs.Guests.{DoesNothing}
 use Rattle.hwp_law.specs.Lines.{answered, guests_among}
 use Rattle.hwp_check_rules.specs.Standing.{cpu_line, row_line}

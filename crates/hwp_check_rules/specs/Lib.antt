@@ -15,8 +15,7 @@ pub use Rattle.hwp_check_events.specs as hwp_check_events
 pub use Rattle.hwp_law.specs.hwp_geom as hwp_geom
 pub use Rattle.hwp_law.specs.hwp_kill as hwp_kill
 pub use Rattle.hwp_law.specs as hwp_law
-pub use Rattle.hwp_law.specs.hwp_law_commands as hwp_law_commands
 pub use Rattle.hwp_law.specs.hwp_page as hwp_page
 pub use Rattle.hwp_law.specs.hwp_report_text as hwp_report_text
 pub use Rattle.hwp_law.specs.hwp_script_read as hwp_script_read
-pub use Rattle.hwp_law.specs.hwp_law_commands.hwp_guest as hwp_guest
+pub use Rattle.hwp_law.specs.hwp_guest as hwp_guest

@@ -20,7 +20,7 @@ use Rattle.hwp_law.specs.hwp_report_text.declared.EventLine.{EventLine}
 use Rattle.hwp_law.specs.Lines.{events_of, marks_of, offlined_of}
 use Rattle.hwp_law.specs.Pairings.{entries_of, has_page, is_commands, is_failure, is_failure_mark, is_move_mark, is_required, is_soft, is_soft_mark, marks_in, says_soft, soft_lines, urgent_from}
 use Rattle.hwp_law.specs.Places.{entry_at}
-use Rattle.hwp_law.specs.hwp_law_commands.Commands.{command_at}
+use Rattle.hwp_law.specs.Commands.{command_at}
 use Rattle.hwp_law.specs.Records.{IsAnswered, IsFound, IsMarkAt, hardware_act, hardware_marks, how_in, is_by_hardware, is_moved, line_results, result_lines, result_of, who_in}
 use Rattle.hwp_check_rules.specs.Standing.{entry_line, frame_line, mark_line}
 

@@ -15,7 +15,7 @@ use Rattle.hwp_law.specs.hwp_report_text.declared.CpuLine.{CpuLine}
 use Rattle.hwp_law.specs.hwp_report_text.declared.CpuLine.TheVariants as lines
 use Rattle.hwp_law.specs.hwp_report_text.declared.Report.{Report}
 use Rattle.hwp_law.specs.Lines.{answer_among}
-use Rattle.hwp_law.specs.hwp_law_commands.Settings.{arguments, last_policy, set_behind, setting_of, settings, unset}
+use Rattle.hwp_law.specs.Settings.{arguments, last_policy, set_behind, setting_of, settings, unset}
 use Rattle.hwp_law.specs.Policies.{answered_on}
 use Rattle.hwp_law.specs.SeenPolicies.{answered_around, cpu_of_thread}
 use Rattle.hwp_check_rules.specs.declared.pasts.ThreadPolicies.{ThreadPolicies}

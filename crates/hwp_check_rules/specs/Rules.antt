@@ -18,7 +18,7 @@ use Rattle.hwp_law.specs.hwp_report_text.declared.CpuLine.TheVariants as lines
 use Rattle.hwp_law.specs.hwp_report_text.declared.FrameLine.{FrameLine}
 use Rattle.hwp_law.specs.hwp_report_text.declared.Report.{Report}
 use Rattle.hwp_law.specs.hwp_report_text.declared.Stop.{Stop}
-use Rattle.hwp_law.specs.hwp_law_commands.Commands.{command_at}
+use Rattle.hwp_law.specs.Commands.{command_at}
 use Rattle.hwp_law.specs.Answers.{AreInWindows}
 use Rattle.hwp_law.specs.Endings.{EndingsStay}
 use Rattle.hwp_law.specs.Entries.{AreMadeBy}

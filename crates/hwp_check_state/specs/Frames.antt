@@ -17,7 +17,7 @@ use Rattle.hwp_check_rules.specs.hwp_report_text.declared.Whereabouts.TheVariant
 use Rattle.hwp_check_rules.specs.hwp_report_text.declared.Report.{Report}
 use Rattle.hwp_check_rules.specs.hwp_law.Frames.{WasDone}
 use Rattle.hwp_check_rules.specs.hwp_law.Lines.{answer_of}
-use Rattle.hwp_check_rules.specs.hwp_law_commands.Commands.{command_at}
+use Rattle.hwp_check_rules.specs.hwp_law.Commands.{command_at}
 use Rattle.hwp_check_rules.specs.hwp_law.Records.{ends_poisoned}
 use Rattle.hwp_check_rules.specs.Faults.{sayers}
 use Rattle.hwp_check_state.specs.declared.frames.Marked.{Marked}

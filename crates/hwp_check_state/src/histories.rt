@@ -1,7 +1,7 @@
 ghost use Rattle.std.specs.Prelude.{◌≡◌, ℕ, ◌+◌, ◌<◌, ◌^◌, length, sum_by, Some, slice_get, MatchBool, MatchOption, MatchResult};
 ghost use Rattle.hwp_check_rules.specs.hwp_geom.Layout.{IsSound};
 ghost use Rattle.hwp_check_rules.specs.hwp_check_acting.Scripts.{IsDeclared};
-ghost use Rattle.hwp_check_rules.specs.hwp_law_commands.Commands.{has_watch};
+ghost use Rattle.hwp_check_rules.specs.hwp_law.Commands.{has_watch};
 ghost use Rattle.hwp_check_state.specs.Histories.{IsRightEntry, IsWrongAt, IsWrongEntry, PageFits};
 ghost use Rattle.hwp_check_rules.specs.Standing.{entry_height as height_of, last_line};
 ghost use Rattle.hwp_check_rules.specs.Firsts.{IsFirstFault};

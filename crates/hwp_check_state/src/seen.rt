@@ -1,7 +1,7 @@
 ghost use Rattle.std.specs.Prelude.{◌≡◌, ◌↔◌, IsTrue, ◌+◌, ◌-◌, ◌*◌, ◌<◌, ◌≤◌, ◌^◌, ◌==◌, cond, length, min, slice_index, take, IfOk, MatchBool, MatchOption};
 ghost use Rattle.std.specs.List.{All};
 ghost use Rattle.std.specs.List.Sorted.{IsNonDecreasingBy};
-ghost use Rattle.hwp_check_rules.specs.hwp_law_commands.Settings.{last_policy};
+ghost use Rattle.hwp_check_rules.specs.hwp_law.Settings.{last_policy};
 ghost use Rattle.hwp_check_rules.specs.hwp_law.SeenPolicies.{IsOwnCount, IsPolicySeen};
 ghost use Rattle.hwp_check_rules.specs.hwp_kill.declared.Policy.TheVariants.{Default};
 ghost use Rattle.hwp_check_rules.specs.hwp_check_acting.Scripts.{IsDeclared};

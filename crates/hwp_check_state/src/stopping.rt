@@ -1,6 +1,6 @@
 ghost use Rattle.std.specs.Prelude.{◌≡◌, ◌↔◌, false, Some, IsTrue};
 ghost use Rattle.hwp_check_rules.specs.hwp_report_text.declared.Answer.TheVariants as answers;
-ghost use Rattle.hwp_check_rules.specs.hwp_law_commands.Commands.{arrival_of};
+ghost use Rattle.hwp_check_rules.specs.hwp_law.Commands.{arrival_of};
 ghost use Rattle.hwp_check_rules.specs.hwp_law.Halts.{CanStop, IsStopOf, IsStoppedBy, Panics, is_panic_of};
 ghost use Rattle.hwp_check_rules.specs.hwp_law.Lines.{answer_of, events_of};
 ghost use Rattle.hwp_check_state.specs.Stopping.{IsCausedStop, all_stay, goes_on, has_stopped, is_lower, is_of_event, is_stopped, is_stopper, rows_panic, rows_stopped_by, some_stopped, stays};

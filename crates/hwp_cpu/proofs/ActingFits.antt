@@ -17,13 +17,13 @@ use Rattle.hwp_cpu_row.specs.hwp_core_rule.declared.View.{View}
 use Rattle.hwp_cpu_row.specs.hwp_script_lines.declared.Command.{Command}
 use Rattle.hwp_cpu_row.specs.hwp_script_lines.declared.Command.TheVariants as commands
 use Rattle.hwp_cpu_row.specs.hwp_script_read.Valid.{AreTwinsFit, IsAccess, IsAnon, IsCommandOf}
-use Rattle.hwp_cpu_row.specs.hwp_law_commands.Cows.{Cow, twin_or}
+use Rattle.hwp_cpu_row.specs.hwp_law.Cows.{Cow, twin_or}
 use Rattle.hwp_cpu_row.specs.CowLists.{acting_in, copied_in, cow_in}
 use Rattle.hwp_cpu_row.specs.GuestLists.{States, admission_in}
-use Rattle.hwp_cpu_row.specs.hwp_law_commands.Commands as access
-use Rattle.hwp_cpu_row.specs.hwp_law_commands.Commands.{access_of}
-use Rattle.hwp_cpu_row.specs.hwp_law_commands.declared.GuestAccess.{GuestAccess}
-use Rattle.hwp_cpu_row.specs.hwp_law_commands.Guests.{guest_access}
+use Rattle.hwp_cpu_row.specs.hwp_law.Commands as access
+use Rattle.hwp_cpu_row.specs.hwp_law.Commands.{access_of}
+use Rattle.hwp_cpu_row.specs.hwp_law.declared.GuestAccess.{GuestAccess}
+use Rattle.hwp_cpu_row.specs.hwp_law.GuestRule.{guest_access}
 use Rattle.hwp_cpu_row.specs.hwp_cpu_check.hwp_guest.declared.Admit.{Admit}
 use Rattle.hwp_cpu_row.specs.hwp_cpu_check.hwp_guest.declared.Admit.TheVariants as admissions
 use Rattle.hwp_cpu_row.proofs.GuestListLaws.{admitted-none, of-access}

@@ -11,8 +11,8 @@ use Rattle.hwp_cpu_command.proofs.of_hwp_cpu_access.Resting.{resting-stays}
 use Rattle.hwp_cpu.proofs.causes.OnTheWay.{met-beside}
 use Rattle.hwp_cpu.proofs.causes.BesideKeeps.{own-stays, soft-beside}
 use Rattle.hwp_cpu.proofs.causes.OfflineServed.{left-offline, no-kernel, offline-served}
-use Rattle.hwp_cpu_row.specs.hwp_law_commands.Notes.{is_for_pages}
-use Rattle.hwp_cpu_row.specs.hwp_law_commands.Commands.{is_check, is_kernels}
+use Rattle.hwp_cpu_row.specs.hwp_law.Notes.{is_for_pages}
+use Rattle.hwp_cpu_row.specs.hwp_law.Commands.{is_check, is_kernels}
 use Rattle.hwp_cpu_row.specs.hwp_report_text.Offlines.{offline_answer}
 use Rattle.hwp_cpu_command.proofs.JobLaws as jobbing
 use Rattle.hwp_cpu_command.specs.Jobs.{offlined_by, told_of}
@@ -22,7 +22,7 @@ use Rattle.std.proofs.lemmas.List.{length-append, map-append}
 use Rattle.std.proofs.lemmas.List.Elements.{filter_map-append, filter-append}
 use Rattle.hwp_cpu_command.specs.hwp_soft.declared.SoftAnswer.{SoftAnswer}
 use Rattle.hwp_cpu.proofs.Marks.{beside-over}
-use Rattle.hwp_cpu_row.specs.hwp_law_commands.Watched.{due, Watched}
+use Rattle.hwp_cpu_row.specs.hwp_law.Watched.{due, Watched}
 use Rattle.hwp_cpu.specs.declared.course.Course.{Course}
 use Rattle.hwp_cpu.proofs.commands.Beside.{job-at-pause, answered-unmarked}
 use Rattle.std.proofs.lemmas.Option.{none-some, same_Some}

@@ -30,7 +30,7 @@ use Rattle.hwp_cpu_command.specs.Jobs.{told_of}
 use Rattle.hwp_cpu.proofs.commands.CommandStops.{has-stopped}
 use Rattle.hwp_cpu_row.specs.hwp_cpu_check.declared.EventOutcome.{EventOutcome}
 use Rattle.hwp_law_served.specs.Offlinings.{left_beside, left_by, watched_at}
-use Rattle.hwp_cpu_row.specs.hwp_law_commands.Settings.{settings}
+use Rattle.hwp_cpu_row.specs.hwp_law.Settings.{settings}
 use Rattle.hwp_cpu_row.specs.hwp_geom.declared.Layout.{Layout}
 use Rattle.hwp_cpu_command.specs.Settings.{policies_now, of_thread}
 use Rattle.hwp_cpu_row.specs.declared.Row.{Row}

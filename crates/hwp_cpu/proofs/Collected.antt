@@ -14,7 +14,7 @@ use Rattle.hwp_cpu.specs.declared.course.Course.{Course}
 use Rattle.hwp_cpu.specs.Serving.{noting, noted_by, KeepsWatch}
 use Rattle.hwp_cpu_row.specs.hwp_core_rule.declared.View.{View}
 use Rattle.hwp_cpu_command.specs.Jobs.{told_of}
-use Rattle.hwp_cpu_row.specs.hwp_law_commands.Watched.{Watched, due, offlining, told}
+use Rattle.hwp_cpu_row.specs.hwp_law.Watched.{Watched, due, offlining, told}
 use Rattle.hwp_cpu.specs.Courses.{told_since}
 use Rattle.hwp_cpu_row.specs.Dues.{DueValue}
 use Rattle.hwp_cpu_row.specs.hwp_script_lines.declared.Command.{Command}
@@ -23,7 +23,7 @@ use Rattle.hwp_cpu_row.specs.declared.Offlining.{Offlining}
 use Rattle.hwp_cpu_row.specs.hwp_cec.Ages.{CecEvent, Note}
 use Rattle.hwp_cpu_row.specs.hwp_cec.Counters.{Counters, StandsFor}
 use Rattle.hwp_cpu_row.proofs.Acts.{in-time-more}
-use Rattle.hwp_cpu_row.proofs.of_hwp_law_commands.NoteLaws.{offlining-append}
+use Rattle.hwp_cpu_row.proofs.of_hwp_law.NoteLaws.{offlining-append}
 
 -- ---- as the command goes on
 

@@ -31,7 +31,7 @@ use Rattle.hwp_cpu_row.specs.hwp_script_lines.declared.Command.TheVariants as co
 use Rattle.hwp_cpu_command.specs.declared.job.Job.TheVariants as kinds
 use Rattle.hwp_cpu_row.specs.hwp_report_text.declared.Answer.TheVariants as answers
 use Rattle.hwp_cpu.proofs.causes.DeniedCauses.{access-by, runs-kind}
-use Rattle.hwp_cpu_row.specs.hwp_law_commands.Commands.{Access, access_of}
+use Rattle.hwp_cpu_row.specs.hwp_law.Commands.{Access, access_of}
 use Rattle.std.proofs.lemmas.Option.{none-some}
 use Rattle.hwp_cpu.proofs.commands.CommandRuns.{runs-admitted}
 

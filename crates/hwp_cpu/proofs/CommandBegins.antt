@@ -7,10 +7,10 @@ use Rattle.hwp_cpu_row.specs.hwp_geom.declared.VSlot.{VSlot}
 use Rattle.hwp_cpu_row.specs.hwp_geom.declared.FileNo.{FileNo}
 use Rattle.hwp_cpu_row.specs.hwp_script_lines.declared.Command.TheVariants as commands
 use Rattle.hwp_cpu_row.specs.hwp_cpu_check.declared.EventOutcome.{EventOutcome}
-use Rattle.hwp_cpu_row.specs.hwp_law_commands.Cows.{acting}
+use Rattle.hwp_cpu_row.specs.hwp_law.Cows.{acting}
 use Rattle.hwp_cpu_row.specs.CowLists.{KnowsCows, acting_in, copied_in}
 use Rattle.hwp_cpu_row.proofs.CowListLaws.{acting-known, copied-known, told-are, told-known}
-use Rattle.hwp_cpu_row.proofs.of_hwp_law_commands.CowLaws.{acting-watches}
+use Rattle.hwp_cpu_row.proofs.of_hwp_law.CowLaws.{acting-watches}
 use Rattle.hwp_law_served.specs.hwp_law.Losses.{number_by, tells_number}
 use Rattle.hwp_cpu_command.specs.Runs.{CanFork, Runs}
 use Rattle.hwp_cpu.proofs.ActingFits.{at-least, fork-acted}
@@ -29,7 +29,7 @@ use Rattle.hwp_cpu_row.specs.hwp_script_lines.declared.Command.{Command}
 use Rattle.hwp_cpu_row.specs.hwp_cpu_check.hwp_guest.declared.Admit.{Admit}
 use Rattle.hwp_cpu_row.specs.hwp_report_text.declared.Answer.{Answer}
 use Rattle.hwp_cpu_row.specs.hwp_report_text.declared.Answer.TheVariants as answers
-use Rattle.hwp_cpu_row.specs.hwp_law_commands.Settings.{settings}
+use Rattle.hwp_cpu_row.specs.hwp_law.Settings.{settings}
 use Rattle.hwp_cpu_row.specs.hwp_core_rule.declared.Debts.{Debts}
 use Rattle.hwp_cpu_row.specs.hwp_core_rule.declared.Mark.{Mark}
 use Rattle.hwp_cpu_row.specs.hwp_core_rule.declared.Part.{Part}
@@ -68,7 +68,7 @@ use Rattle.hwp_cpu.proofs.KnownPolicies.{answers-more, counted-ends, counted-sta
 use Rattle.hwp_cpu.proofs.Revivals.{revival-left}
 use Rattle.hwp_law_served.proofs.Rows.{IsRowActed, at_front, banks-acted, past-end, rows-more, stays-more, stop-more, stopped-was}
 use Rattle.std.specs.List.{list_any, cons_option}
-use Rattle.hwp_cpu_row.specs.hwp_law_commands.Watched.{told, watched_after, Watched}
+use Rattle.hwp_cpu_row.specs.hwp_law.Watched.{told, watched_after, Watched}
 use Rattle.hwp_law_served.specs.Offlinings.{watched_at, AreDue}
 use Rattle.hwp_cpu_row.specs.Locals.{IsWatching, collects}
 use Rattle.hwp_cpu_command.specs.Done.{marked_beyond, HasCounted}
@@ -76,7 +76,7 @@ use Rattle.hwp_cpu.specs.Courses.{BeginsCourse, part_of, row_of, local_after, lo
 use Rattle.hwp_cpu.proofs.Watching.{watched-more, room-stays, of-machine, has-watch, watching-ends, watch-starts, own-starts, due-more}
 use Rattle.hwp_cpu_row.specs.declared.Offlining.{Offlining}
 use Rattle.hwp_cpu_row.specs.Acts.{told_notes}
-use Rattle.hwp_cpu_row.specs.hwp_law_commands.Commands.{is_watch}
+use Rattle.hwp_cpu_row.specs.hwp_law.Commands.{is_watch}
 use Rattle.hwp_cpu.proofs.GoingOn.{IsEnding}
 use Rattle.hwp_cpu.specs.declared.course.Course.{Course}
 use Rattle.std.specs.Prelude.{IsSome}

@@ -13,7 +13,7 @@ use Rattle.hwp_cpu_row.specs.Locals.{collects}
 use Rattle.hwp_cpu_row.specs.hwp_cpu_check.hwp_guest.declared.Admit.{Admit}
 use Rattle.hwp_cpu_row.specs.hwp_report_text.declared.Answer.{Answer}
 use Rattle.hwp_cpu_command.proofs.JobEnds.{answered-over}
-use Rattle.hwp_cpu_row.specs.hwp_law_commands.Guests.{denial}
+use Rattle.hwp_cpu_row.specs.hwp_law.GuestRule.{denial}
 use Rattle.hwp_cpu_row.specs.hwp_script_lines.declared.Command.{Command}
 use Rattle.hwp_cpu_row.specs.hwp_geom.declared.Who.{Who}
 use Rattle.hwp_cpu_command.specs.Stays.{IsAtStop}

@@ -32,7 +32,7 @@ use Rattle.hwp_cpu.specs.Courses as courses
 use Rattle.hwp_cpu_row.specs.hwp_geom.Layout.{IsSound}
 use Rattle.hwp_cpu.proofs.GuestsKept.{guests-begun}
 use Rattle.std.specs.List.{list_any}
-use Rattle.hwp_cpu_row.specs.hwp_law_commands.Commands.{is_watch}
+use Rattle.hwp_cpu_row.specs.hwp_law.Commands.{is_watch}
 
 -- ---- the beginning
 

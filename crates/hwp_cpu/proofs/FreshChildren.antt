@@ -1,7 +1,7 @@
 -- Where a fork begins, no thread of the child has set a policy, each is one of the processor, and none is the one that forks.
 use Rattle.std.specs.Prelude.{IsSomeAnd}
 use Rattle.hwp_cpu_command.specs.hwp_kill.Prctl.{policy_set}
-use Rattle.hwp_cpu_row.specs.hwp_law_commands.Settings.{arguments, last_policy, set_after, set_behind, setting_of, settings, unset}
+use Rattle.hwp_cpu_row.specs.hwp_law.Settings.{arguments, last_policy, set_after, set_behind, setting_of, settings, unset}
 use Rattle.std.proofs.Common.{◌≡◌, ◌≢◌, ℕ, zero, suc, ◌+◌, ◌<◌, ◌≤◌, ◌==◌, ◌&&◌, ◌||◌, not, Bool, true, false, cond, true≢false, List, [], ◌∷◌, ◌++◌, Option, Some, None, length, map, slice_get, take, count_by, append-nil, refl, sym, ap, ◌∙◌, subst, arith}
 use Rattle.std.specs.List.{cons_option, list_any, zip}
 use Rattle.std.specs.Option.{option_map_or}
@@ -22,7 +22,7 @@ use Rattle.hwp_cpu_row.specs.hwp_script_read.Forks.{cannot_share, is_away, is_fo
 use Rattle.hwp_cpu_row.specs.hwp_script_read.Valid.{AreForksFit, IsCommandOf}
 use Rattle.hwp_cpu_row.specs.hwp_report_text.declared.Answer.{Answer}
 use Rattle.hwp_cpu_row.specs.hwp_report_text.declared.Answer.TheVariants as answers
-use Rattle.hwp_cpu_row.proofs.of_hwp_law_commands.CowLaws.{both-false}
+use Rattle.hwp_cpu_row.proofs.of_hwp_law.CowLaws.{both-false}
 use Rattle.hwp_cpu_row.specs.hwp_core_rule.declared.Setting.{Setting}
 use Rattle.hwp_cpu_row.specs.hwp_core_rule.declared.View.{View}
 use Rattle.hwp_cpu_row.specs.hwp_core_rule.parts.Policies.{settings_of}

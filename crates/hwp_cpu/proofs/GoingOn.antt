@@ -6,7 +6,7 @@ use Rattle.hwp_cpu_row.specs.hwp_geom.declared.VSlot.{VSlot}
 use Rattle.hwp_law_served.proofs.Rows.{past-end}
 use Rattle.std.proofs.Common.{arith, inl, subst, ◌≡◌, refl, true, length, ◌<◌, not, ◌≤◌, slice_get, ap, List, ◌⊎◌, false, is_some, ℕ, None, Some, inr, Option, sym, ◌∙◌, nat_lt}
 use Rattle.hwp_cpu_row.specs.hwp_core_rule.declared.View.{View}
-use Rattle.hwp_cpu_row.specs.hwp_law_commands.Commands.{is_kernels}
+use Rattle.hwp_cpu_row.specs.hwp_law.Commands.{is_kernels}
 use Rattle.hwp_cpu.proofs.BesideTurns.{at_rest, own-behind, told-behind, begins-beside, HasNotedAll, goes-behind, way-behind, taken-few}
 use Rattle.hwp_cpu.proofs.Collecting.{collects-plain, collects-undenied, collect-fails, collect-left, collect-numbers, collect-halted}
 use Rattle.hwp_cpu_row.specs.Dues.{next_due}
@@ -18,8 +18,8 @@ use Rattle.hwp_cpu_row.specs.declared.Offlining.{Offlining}
 use Rattle.hwp_law_served.specs.Offlinings.{watched_at, left_beside}
 use Rattle.hwp_law_served.specs.Causes.{IsAnswerCaused}
 use Rattle.hwp_law_served.specs.hwp_page.declared.At.{At}
-use Rattle.hwp_cpu_row.specs.hwp_law_commands.Watched.{Watched, due}
-use Rattle.hwp_cpu_row.specs.hwp_law_commands.Notes.{is_for_pages}
+use Rattle.hwp_cpu_row.specs.hwp_law.Watched.{Watched, due}
+use Rattle.hwp_cpu_row.specs.hwp_law.Notes.{is_for_pages}
 use Rattle.std.specs.List.{cons_option}
 use Rattle.hwp_cpu_row.specs.Locals.{collects, IsWatching}
 use Rattle.hwp_cpu_row.specs.declared.Local.{Local}

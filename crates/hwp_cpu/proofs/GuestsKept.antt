@@ -16,8 +16,8 @@ use Rattle.hwp_cpu_row.specs.hwp_report_text.declared.Answer.{Answer}
 use Rattle.hwp_cpu_row.specs.hwp_report_text.declared.Answer.TheVariants as answers
 use Rattle.hwp_cpu_row.specs.hwp_core_rule.declared.View.{View}
 use Rattle.hwp_cpu_row.specs.hwp_core_rule.Known.{HasMadeNone}
-use Rattle.hwp_cpu_row.specs.hwp_law_commands.declared.GuestAccess.{GuestAccess}
-use Rattle.hwp_cpu_row.specs.hwp_law_commands.Guests.{denied, guest_access, guest_line, guest_lines}
+use Rattle.hwp_cpu_row.specs.hwp_law.declared.GuestAccess.{GuestAccess}
+use Rattle.hwp_cpu_row.specs.hwp_law.GuestRule.{denied, guest_access, guest_line, guest_lines}
 use Rattle.hwp_cpu_row.specs.declared.Local.{Local}
 use Rattle.hwp_cpu_row.specs.declared.Row.{Row}
 use Rattle.hwp_cpu_row.specs.CowLists.{acting_in, copied_in}

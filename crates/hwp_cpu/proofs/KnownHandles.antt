@@ -1,5 +1,5 @@
 -- The number of each handle of a processor is 0, or a step of the processor showed so many losses of the file.
-use Rattle.hwp_cpu_row.specs.hwp_law_commands.Cows.{acting}
+use Rattle.hwp_cpu_row.specs.hwp_law.Cows.{acting}
 use Rattle.std.proofs.Common.{◌≡◌, ◌⊎◌, inl, inr, ℕ, zero, suc, ◌+◌, ◌<◌, ◌≤◌, ◌==◌, Bool, true, false, cond, List, [], Option, Some, None, length, slice_get, replicate, refl, sym, ap, ◌∙◌, subst, arith}
 use Rattle.std.specs.Prelude.{unwrap_or}
 use Rattle.std.proofs.lemmas.List.{length-set, length-replicate}

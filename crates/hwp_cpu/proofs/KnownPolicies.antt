@@ -17,10 +17,10 @@ use Rattle.hwp_cpu_row.specs.hwp_script_lines.declared.Command.{Command}
 use Rattle.hwp_cpu_row.specs.hwp_script_lines.declared.Command.TheVariants as commands
 use Rattle.hwp_cpu_row.specs.hwp_report_text.declared.Answer.{Answer}
 use Rattle.hwp_cpu_row.specs.hwp_report_text.declared.Answer.TheVariants as answers
-use Rattle.hwp_cpu_row.specs.hwp_law_commands.Cows.{acting}
-use Rattle.hwp_cpu_row.specs.hwp_law_commands.Settings.{arguments, last_policy, set_behind, setting_of, settings, unset}
-use Rattle.hwp_cpu_row.proofs.of_hwp_law_commands.CowLaws.{acting-sets}
-use Rattle.hwp_cpu_row.proofs.of_hwp_law_commands.SettingLaws.{settings-few, settings-more}
+use Rattle.hwp_cpu_row.specs.hwp_law.Cows.{acting}
+use Rattle.hwp_cpu_row.specs.hwp_law.Settings.{arguments, last_policy, set_behind, setting_of, settings, unset}
+use Rattle.hwp_cpu_row.proofs.of_hwp_law.CowLaws.{acting-sets}
+use Rattle.hwp_cpu_row.proofs.of_hwp_law.SettingLaws.{settings-few, settings-more}
 use Rattle.hwp_cpu_row.specs.hwp_core_rule.declared.Setting.{Setting}
 use Rattle.hwp_cpu_row.specs.hwp_core_rule.declared.View.{View}
 use Rattle.hwp_cpu_row.specs.hwp_core_rule.parts.Policies.{settings_of}

@@ -15,7 +15,7 @@ use Rattle.std.specs.List.{cons_option}
 use Rattle.hwp_cpu_row.specs.hwp_core_rule.declared.View.{View}
 use Rattle.hwp_cpu_row.specs.hwp_script_lines.declared.Command.{Command}
 use Rattle.hwp_cpu_row.specs.hwp_core_rule.declared.Turn.{Turn}
-use Rattle.hwp_cpu_row.specs.hwp_law_commands.Notes.{is_for_pages}
+use Rattle.hwp_cpu_row.specs.hwp_law.Notes.{is_for_pages}
 use Rattle.hwp_cpu_row.specs.Dues.{DueValue, next_due}
 use Rattle.hwp_cpu.proofs.GoingOn.{Turned, ends-now, complete-off, go-on, complete-by, IsComplete}
 use Rattle.hwp_cpu.proofs.ProcessorKeeps.{way-own}
@@ -49,7 +49,7 @@ use Rattle.hwp_cpu_command.specs.hwp_soft.declared.Soft.{Soft}
 use Rattle.std.proofs.lemmas.Bool.{eq-eqb, ltb-false, ltb-true}
 use Rattle.hwp_cpu_row.specs.hwp_geom.declared.Cpu.{Cpu}
 use Rattle.hwp_cpu_row.specs.declared.Watching.{Watching}
-use Rattle.hwp_cpu_row.specs.hwp_law_commands.Watched.{Watched}
+use Rattle.hwp_cpu_row.specs.hwp_law.Watched.{Watched}
 use Rattle.hwp_law_served.specs.Accounts.{act_marking}
 use Rattle.hwp_cpu.specs.Courses as courses
 use Rattle.hwp_cpu_command.specs.Jobs as jobs

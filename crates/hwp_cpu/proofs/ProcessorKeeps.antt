@@ -1,5 +1,5 @@
 -- A step of the command that runs leaves what the processor keeps.
-use Rattle.hwp_cpu_row.specs.hwp_law_commands.Cows.{Cow}
+use Rattle.hwp_cpu_row.specs.hwp_law.Cows.{Cow}
 use Rattle.hwp_cpu_row.specs.hwp_geom.declared.VSlot.{VSlot}
 use Rattle.hwp_cpu.proofs.causes.BesideKeeps.{offlinings-stay}
 use Rattle.std.proofs.Common.{◌≡◌, ◌≢◌, ℕ, ◌⊎◌, inl, inr, false, List, [], Some, length, slice_get, refl, subst, sym, ap, ◌∙◌, arith, None, ◌<◌, map, Option, append-nil}
@@ -9,7 +9,7 @@ use Rattle.hwp_cpu_row.specs.hwp_geom.declared.Layout.{Layout}
 use Rattle.hwp_cpu_row.specs.hwp_geom.declared.Thread.{Thread}
 use Rattle.hwp_cpu_row.specs.hwp_geom.declared.Who.{Who}
 use Rattle.hwp_cpu_row.specs.hwp_script_lines.declared.Command.{Command}
-use Rattle.hwp_cpu_row.specs.hwp_law_commands.Settings.{settings}
+use Rattle.hwp_cpu_row.specs.hwp_law.Settings.{settings}
 use Rattle.hwp_cpu_row.specs.hwp_core_rule.declared.SharedWord.TheVariants as places
 use Rattle.hwp_cpu_row.specs.hwp_core_rule.declared.Step.{Step}
 use Rattle.hwp_cpu_row.specs.hwp_core_rule.declared.View.{View}
@@ -40,7 +40,7 @@ use Rattle.hwp_cpu.specs.Serving.{HasStoppedIt, Serves, IsUnderWay, marked_so_fa
 use Rattle.hwp_cpu.proofs.KnownPolicies.{counted-on}
 use Rattle.hwp_cpu.proofs.ProcessorNotes.{listed-on, noted-on, spoils-on, account-beside, account-own}
 use Rattle.hwp_law_served.proofs.Rows.{rows-stay}
-use Rattle.hwp_cpu_row.specs.hwp_law_commands.Watched.{told, due, Watched}
+use Rattle.hwp_cpu_row.specs.hwp_law.Watched.{told, due, Watched}
 use Rattle.hwp_cpu.proofs.commands.TaskLeaves.{soft-leaves, Left}
 use Rattle.hwp_cpu_row.proofs.of_hwp_core_rule.MadeEntries.{made-none}
 use Rattle.hwp_cpu.proofs.commands.ToldGrows.{told-longer}

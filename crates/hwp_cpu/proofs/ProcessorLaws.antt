@@ -37,7 +37,7 @@ use Rattle.hwp_cpu.proofs.OwnLines.{given-up-goes}
 use Rattle.hwp_cpu.proofs.OwnTurns.{own-turn}
 use Rattle.hwp_cpu.specs.declared.course.Course.{Course}
 use Rattle.hwp_cpu_command.specs.hwp_soft.declared.Soft.{Soft}
-use Rattle.hwp_cpu_row.specs.hwp_law_commands.Notes.{is_for_pages}
+use Rattle.hwp_cpu_row.specs.hwp_law.Notes.{is_for_pages}
 use Rattle.hwp_cpu_command.specs.hwp_soft.declared.SoftAnswer.{SoftAnswer}
 use Rattle.hwp_cpu_command.specs.Runs.{Runs}
 use Rattle.hwp_cpu_row.specs.hwp_core_rule.Known.{HasMadeNone}

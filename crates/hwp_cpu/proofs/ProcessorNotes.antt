@@ -16,7 +16,7 @@ use Rattle.hwp_cpu_row.specs.hwp_geom.declared.Damage.TheVariants as damages
 use Rattle.hwp_cpu_row.specs.hwp_geom.declared.Layout.{Layout}
 use Rattle.hwp_cpu_row.specs.hwp_geom.declared.VSlot.{VSlot}
 use Rattle.hwp_cpu_row.specs.hwp_script_lines.declared.Command.TheVariants as commands
-use Rattle.hwp_cpu_row.specs.hwp_law_commands.Cows.{acting}
+use Rattle.hwp_cpu_row.specs.hwp_law.Cows.{acting}
 use Rattle.hwp_law_served.specs.Handles.{answers_by}
 use Rattle.hwp_cpu_row.specs.hwp_geom.declared.Page.{Page}
 use Rattle.hwp_cpu_row.specs.hwp_geom.declared.Who.{Who}

@@ -26,7 +26,7 @@ use Rattle.hwp_cpu.proofs.commands.CommandStops.{begins-stop, untold-at-start}
 use Rattle.hwp_cpu_row.specs.hwp_banks.Banks.{Banks, empty_banks}
 use Rattle.hwp_cpu_row.specs.declared.Local.{Local}
 use Rattle.hwp_cpu_row.specs.Locals.{IsWatching, IsFirst, collects, HasRoom}
-use Rattle.hwp_cpu_row.specs.hwp_law_commands.Settings.{settings}
+use Rattle.hwp_cpu_row.specs.hwp_law.Settings.{settings}
 use Rattle.hwp_law_served.specs.Handles.{answers_by}
 use Rattle.hwp_law_served.specs.Served.{AreRowsActed}
 use Rattle.hwp_law_served.proofs.Handles.{numbers-begin}
@@ -43,11 +43,11 @@ use Rattle.hwp_cpu.proofs.Watching.{of-machine, watch-starts, own-starts}
 use Rattle.hwp_cpu.specs.Courses.{local_left, BeginsCourse}
 use Rattle.std.specs.List.{list_any}
 use Rattle.hwp_cpu_row.specs.declared.Watching.{Watching}
-use Rattle.hwp_cpu_row.specs.hwp_law_commands.Watched.{Watched}
+use Rattle.hwp_cpu_row.specs.hwp_law.Watched.{Watched}
 use Rattle.hwp_law_served.specs.Offlinings.{watched_at}
 use Rattle.hwp_cpu.proofs.CourseBegins.{course-begins}
 use Rattle.std.specs.Prelude.{IsSome}
-use Rattle.hwp_cpu_row.specs.hwp_law_commands.Commands.{is_watch}
+use Rattle.hwp_cpu_row.specs.hwp_law.Commands.{is_watch}
 use Rattle.hwp_cpu_command.specs.hwp_scrub.Visits.{AreBanks}
 use Rattle.hwp_cpu.specs.declared.course.Course.{Course}
 use Rattle.hwp_cpu_command.specs.Jobs as jobs

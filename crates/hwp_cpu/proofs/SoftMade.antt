@@ -31,7 +31,7 @@ use Rattle.hwp_cpu_row.proofs.of_hwp_core_rule.MadeEntries.{Lists, frame-lists, 
 use Rattle.hwp_cpu_row.proofs.of_hwp_core_rule.StepOwes.{frame-owes, kill-owes, listed-none, losses-kept, losses-same, page-owes}
 use Rattle.hwp_cpu_command.specs.hwp_cpu_access.Fits.{checks_in, checks_made}
 use Rattle.hwp_cpu_command.proofs.of_hwp_cpu_access.CommandGrows.{More, made-more}
-use Rattle.hwp_cpu_command.specs.hwp_law_commands.Commands.{is_check}
+use Rattle.hwp_cpu_command.specs.hwp_law.Commands.{is_check}
 use Rattle.hwp_cpu_command.specs.hwp_soft_move.declared.relocate.Relocate.{Relocate}
 use Rattle.hwp_cpu_command.specs.hwp_soft_move.declared.relocate.RelocateAt.{RelocateAt}
 use Rattle.hwp_cpu_command.specs.hwp_soft_move.declared.relocate.RelocateAt.TheVariants as relocate_at

@@ -3,7 +3,7 @@ use Rattle.hwp_cpu_row.specs.hwp_geom.declared.VSlot.{VSlot}
 use Rattle.hwp_cpu_row.specs.hwp_core_rule.Known.{HasMadeNone}
 use Rattle.hwp_cpu_row.specs.hwp_banks.declared.Event.{Event}
 use Rattle.hwp_cpu.proofs.BesideEnds.{due-none}
-use Rattle.hwp_cpu_row.proofs.of_hwp_law_commands.NoteLaws.{told-none}
+use Rattle.hwp_cpu_row.proofs.of_hwp_law.NoteLaws.{told-none}
 use Rattle.std.proofs.Common.{◌||◌, suc, ◌≤◌, get_or, append_assoc, slice_get, length, refl, ◌∷◌, ℕ, false, arith, inr, map, ◌<◌, Some, sym, ◌≡◌, ap, None, subst, option_map, true, Option, zero, replicate, ◌++◌, List, ◌⊎◌, ◌+◌, inl, Bool, ◌∙◌, [], true≢false}
 use Rattle.hwp_cpu_row.specs.hwp_cec.Ages.{CecEvent, Note, Round}
 use Rattle.hwp_cpu_command.specs.FileHandles.{watched_by, watching_after, RoundStands, anew_with, StandsOn, rounded_by, CanRound, round_ended}
@@ -19,9 +19,9 @@ use Rattle.hwp_cpu.specs.Courses.{begin, IsOfMachine}
 use Rattle.hwp_law_served.specs.Offlinings.{KnowsDue, left_among, watched_at, AreDue, watched_along}
 use Rattle.hwp_cpu.specs.Serving.{noting, HasToldAll, OwnGoesOn, KeepsWatch, left_so_far}
 use Rattle.hwp_cpu_command.specs.Runs.{Runs, RunsAs, RunsDenied}
-use Rattle.hwp_cpu_row.specs.hwp_law_commands.Commands.{is_watch}
+use Rattle.hwp_cpu_row.specs.hwp_law.Commands.{is_watch}
 use Rattle.std.proofs.lemmas.List.{take-append-le, take_all, length-append, length-map, length-replicate, get_or-replicate}
-use Rattle.hwp_cpu_row.specs.hwp_law_commands.Watched.{told, due, Watched, watched_after}
+use Rattle.hwp_cpu_row.specs.hwp_law.Watched.{told, due, Watched, watched_after}
 use Rattle.hwp_law_served.specs.hwp_banks.declared.Event.{Event}
 use Rattle.hwp_cpu_row.specs.hwp_cec.Counters.{StandsFor, begun, next_row, rounded}
 use Rattle.hwp_cpu_command.specs.hwp_scrub.declared.LocalChange.{LocalChange}

@@ -13,7 +13,7 @@ use Rattle.hwp_law_served.specs.hwp_script_lines.declared.Command.TheVariants as
 use Rattle.hwp_law_served.specs.hwp_report_text.declared.Answer.{Answer}
 use Rattle.hwp_law_served.specs.hwp_report_text.declared.Answer.TheVariants as answers
 use Rattle.hwp_law_served.specs.hwp_banks.Banks.{Banks}
-use Rattle.hwp_law_served.specs.hwp_law_commands.Commands.{Access, access_of, current_thread}
+use Rattle.hwp_law_served.specs.hwp_law.Commands.{Access, access_of, current_thread}
 use Rattle.hwp_law_served.specs.hwp_cpu_check.Done.{failed_in, marked_in}
 use Rattle.hwp_law_served.specs.hwp_cpu_check.Told.{halts}
 use Rattle.hwp_cpu_command.specs.declared.Job.{Job}

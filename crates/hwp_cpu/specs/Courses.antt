@@ -21,9 +21,9 @@ use Rattle.hwp_cpu_row.specs.hwp_core_rule.Calls.{IsOnTurn}
 use Rattle.hwp_cpu_row.specs.hwp_core_rule.Hands.{empty, hand_of}
 use Rattle.hwp_cpu_row.specs.hwp_core_rule.Ranks.{failure_weight, stale_weight}
 use Rattle.hwp_cpu_row.specs.hwp_core_rule.Turns.{Member}
-use Rattle.hwp_cpu_row.specs.hwp_law_commands.Notes.{is_for_pages}
-use Rattle.hwp_cpu_row.specs.hwp_law_commands.hwp_cec.Ages.{CecEvent}
-use Rattle.hwp_cpu_row.specs.hwp_law_commands.hwp_cec.Counters.{Counters, StandsFor}
+use Rattle.hwp_cpu_row.specs.hwp_law.Notes.{is_for_pages}
+use Rattle.hwp_cpu_row.specs.hwp_law.hwp_cec.Ages.{CecEvent}
+use Rattle.hwp_cpu_row.specs.hwp_law.hwp_cec.Counters.{Counters, StandsFor}
 use Rattle.hwp_cpu_row.specs.hwp_cpu_check.declared.EventOutcome.{EventOutcome}
 use Rattle.hwp_cpu_row.specs.declared.Local.{Local}
 use Rattle.hwp_cpu_row.specs.declared.Offlining.{Offlining}

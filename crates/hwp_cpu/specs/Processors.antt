@@ -12,7 +12,7 @@ use Rattle.hwp_cpu_row.specs.hwp_geom.Limits.{command_limit}
 use Rattle.hwp_cpu_row.specs.hwp_geom.Pairs.{Pairs}
 use Rattle.hwp_cpu_row.specs.hwp_page.History.{BodyValue}
 use Rattle.hwp_cpu_row.specs.hwp_script_lines.declared.Command.{Command}
-use Rattle.hwp_cpu_row.specs.hwp_law_commands.Commands.{is_watch}
+use Rattle.hwp_cpu_row.specs.hwp_law.Commands.{is_watch}
 use Rattle.hwp_cpu_row.specs.hwp_script_read.Forks.{is_fork_of}
 use Rattle.hwp_cpu_row.specs.hwp_script_read.Valid.{AreForksFit, AreTwinsFit, IsCommandOf}
 use Rattle.hwp_cpu_row.specs.hwp_report_text.declared.Answer.{Answer}

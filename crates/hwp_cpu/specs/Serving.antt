@@ -29,18 +29,18 @@ use Rattle.hwp_cpu_row.specs.declared.Local.{Local}
 use Rattle.hwp_cpu_row.specs.declared.Row.{Row}
 use Rattle.hwp_cpu_row.specs.declared.Watching.{Watching}
 use Rattle.hwp_cpu_row.specs.hwp_banks.Banks.{Banks, empty_banks}
-use Rattle.hwp_cpu_row.specs.hwp_law_commands.Cows.{Cow, acting, copied_from}
-use Rattle.hwp_cpu_row.specs.hwp_law_commands.Settings.{settings}
+use Rattle.hwp_cpu_row.specs.hwp_law.Cows.{Cow, acting, copied_from}
+use Rattle.hwp_cpu_row.specs.hwp_law.Settings.{settings}
 use Rattle.hwp_cpu_row.specs.declared.Offlining.{Offlining}
 use Rattle.hwp_cpu_row.specs.Acts.{AreInTime, acts, told_notes}
 use Rattle.hwp_cpu_row.specs.CowLists.{AreCowsOf, KnowsCows}
 use Rattle.hwp_cpu_row.specs.GuestLists as lists
 use Rattle.hwp_cpu_row.specs.GuestLists.{AreGuestsOf, States}
-use Rattle.hwp_cpu_row.specs.hwp_law_commands.Guests.{denied}
+use Rattle.hwp_cpu_row.specs.hwp_law.GuestRule.{denied}
 use Rattle.hwp_cpu_row.specs.Locals.{IsWatching, collects}
 use Rattle.hwp_cpu_row.specs.hwp_cec.Ages.{Note}
-use Rattle.hwp_cpu_row.specs.hwp_law_commands.Commands.{is_watch}
-use Rattle.hwp_cpu_row.specs.hwp_law_commands.Watched.{Watched, due, told}
+use Rattle.hwp_cpu_row.specs.hwp_law.Commands.{is_watch}
+use Rattle.hwp_cpu_row.specs.hwp_law.Watched.{Watched, due, told}
 use Rattle.hwp_cpu_command.specs.hwp_cpu_access.declared.Instruction.{Instruction}
 use Rattle.hwp_cpu_command.specs.hwp_cpu_access.declared.instruction.Pause.{Pause}
 use Rattle.hwp_cpu_command.specs.hwp_cpu_access.Fits.{IsResting}

@@ -3,7 +3,7 @@ ghost use Rattle.std.specs.List.{list_any};
 ghost use Rattle.std.specs.Arc.{arc_value};
 ghost use Rattle.hwp_cpu_row.specs.hwp_geom.Layout.{IsSound};
 ghost use Rattle.hwp_cpu_row.specs.hwp_geom.Limits.{command_limit};
-ghost use Rattle.hwp_cpu_row.specs.hwp_law_commands.Commands.{is_watch};
+ghost use Rattle.hwp_cpu_row.specs.hwp_law.Commands.{is_watch};
 ghost use Rattle.hwp_cpu.specs.Processors.{AreCommands, AtBeginning, BeginsAt, MayTellOf, left_of, line_of, told_local};
 ghost use Rattle.hwp_law_served.specs.Rows.{at_number};
 

@@ -44,7 +44,7 @@ use Rattle.hwp_fault.specs.Adds.{Skips}
 use Rattle.hwp_cpu_check.proofs.of_hwp_claim.Quiet.{Alike, PlansQuiet, leaves}
 use Rattle.hwp_cpu_check.specs.hwp_banks.Banks.{Banks, empty_banks}
 use Rattle.hwp_cpu_check.specs.hwp_severity.Handling.{has_stop}
-use Rattle.hwp_cpu_check.specs.hwp_law_commands.Commands.{is_check}
+use Rattle.hwp_cpu_check.specs.hwp_law.Commands.{is_check}
 use Rattle.hwp_cpu_check.proofs.FailureKeeps.{Stay, told-stays}
 use Rattle.hwp_cpu_check.specs.Checks.{Check, restarting, with_own}
 use Rattle.hwp_cpu_access.specs.Checks.{AreChecks, IsCheck, SawBad}

@@ -40,7 +40,7 @@ use Rattle.hwp_fault.proofs.AccessLaws.{answered as access-answered, begins as a
 use Rattle.hwp_fault.proofs.FaultAdds.{access-adds, access-owes}
 use Rattle.hwp_cpu_check.specs.hwp_banks.Banks.{Banks, empty_banks}
 use Rattle.hwp_cpu_check.specs.hwp_severity.Handling.{has_stop}
-use Rattle.hwp_cpu_check.specs.hwp_law_commands.Commands.{is_check}
+use Rattle.hwp_cpu_check.specs.hwp_law.Commands.{is_check}
 use Rattle.hwp_cpu_check.specs.declared.Handler.{Handler}
 use Rattle.hwp_cpu_check.specs.declared.Held.{Held}
 use Rattle.hwp_cpu_check.specs.declared.EventOutcome.{EventOutcome}

@@ -24,7 +24,7 @@ use Rattle.hwp_fault.specs.Accesses as accesses
 use Rattle.hwp_fault.specs.Adds.{has_checked}
 use Rattle.hwp_cpu_check.specs.hwp_claim_frame.Claims.{IsStopped}
 use Rattle.hwp_cpu_check.specs.hwp_banks.Banks.{Banks, empty_banks}
-use Rattle.hwp_cpu_check.specs.hwp_law_commands.Commands.{is_check}
+use Rattle.hwp_cpu_check.specs.hwp_law.Commands.{is_check}
 use Rattle.hwp_cpu_check.specs.declared.Handler.{Handler}
 use Rattle.hwp_cpu_check.specs.declared.EventOutcome.{EventOutcome}
 use Rattle.hwp_cpu_check.specs.Events.{held_in}

@@ -5,12 +5,12 @@ use Rattle.std.proofs.lemmas.List.{length-map}
 use Rattle.hwp_banks.specs.hwp_geom.declared.Mode.{Mode}
 use Rattle.hwp_banks.specs.declared.Event.{Event}
 use Rattle.hwp_banks.specs.Events.{bank_count}
-use Rattle.hwp_law_commands.specs.hwp_severity.declared.Grade.{Grade}
-use Rattle.hwp_law_commands.specs.hwp_severity.declared.McgBits.{McgBits}
-use Rattle.hwp_law_commands.specs.hwp_severity.Handling.{grade_of, lowest_stop}
+use Rattle.hwp_law.specs.hwp_severity.declared.Grade.{Grade}
+use Rattle.hwp_law.specs.hwp_severity.declared.McgBits.{McgBits}
+use Rattle.hwp_law.specs.hwp_severity.Handling.{grade_of, lowest_stop}
 use Rattle.hwp_banks.specs.Banks.{Banks, held_from}
-use Rattle.hwp_law_commands.specs.hwp_severity.Handling.{has_stop, is_stop, severity_of}
-use Rattle.hwp_law_commands.specs.hwp_severity.declared.Arrival.{Arrival}
+use Rattle.hwp_law.specs.hwp_severity.Handling.{has_stop, is_stop, severity_of}
+use Rattle.hwp_law.specs.hwp_severity.declared.Arrival.{Arrival}
 use Rattle.hwp_cpu_check.specs.Events.{graded_in, held_in, held_with}
 use Rattle.hwp_cpu_check.specs.Fits.{AreFound}
 use Rattle.hwp_cpu_check.specs.Told.{stops_machine}

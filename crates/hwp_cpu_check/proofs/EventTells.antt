@@ -12,11 +12,11 @@ use Rattle.hwp_claim.specs.hwp_claim_frame.hwp_page.History.{BodyValue}
 use Rattle.hwp_claim.specs.hwp_claim_frame.hwp_core_rule.declared.View.{View}
 use Rattle.hwp_claim.specs.hwp_claim_frame.hwp_core_rule.Words.{Words}
 use Rattle.hwp_claim.specs.hwp_claim_frame.hwp_core_rule.declared.Turn.{Turn}
-use Rattle.hwp_law_commands.specs.hwp_report_text.declared.Acted.{Acted}
-use Rattle.hwp_law_commands.specs.hwp_report_text.Acts.{is_panic}
+use Rattle.hwp_law.specs.hwp_report_text.declared.Acted.{Acted}
+use Rattle.hwp_law.specs.hwp_report_text.Acts.{is_panic}
 use Rattle.hwp_banks.specs.Banks.{Banks}
-use Rattle.hwp_law_commands.specs.hwp_severity.Handling.{has_stop}
-use Rattle.hwp_law_commands.specs.hwp_severity.declared.Arrival.{Arrival}
+use Rattle.hwp_law.specs.hwp_severity.Handling.{has_stop}
+use Rattle.hwp_law.specs.hwp_severity.declared.Arrival.{Arrival}
 use Rattle.hwp_claim.specs.declared.FailAnswer.{FailAnswer}
 use Rattle.hwp_claim.specs.Fails as fails
 use Rattle.hwp_cpu_check.specs.Done.{failed_at, failed_in, marked_at, marked_in, owed_at}

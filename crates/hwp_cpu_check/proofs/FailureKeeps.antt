@@ -23,8 +23,8 @@ use Rattle.hwp_claim.specs.hwp_claim_act.declared.Failed.{Failed}
 use Rattle.hwp_claim.specs.hwp_claim_act.Abandoned.{AddsFailure}
 use Rattle.hwp_claim.specs.hwp_claim_frame.Claims.{SawPoison, is_own, marks_by}
 use Rattle.hwp_claim.specs.hwp_claim_frame.Done.{Grows, Marking, marking_of}
-use Rattle.hwp_law_commands.specs.hwp_report_text.declared.Acted.{Acted}
-use Rattle.hwp_law_commands.specs.hwp_report_text.Acts.{is_panic}
+use Rattle.hwp_law.specs.hwp_report_text.declared.Acted.{Acted}
+use Rattle.hwp_law.specs.hwp_report_text.Acts.{is_panic}
 use Rattle.hwp_claim.specs.declared.FailAnswer.{FailAnswer}
 use Rattle.hwp_claim.specs.declared.FailAnswer.TheVariants as answers
 use Rattle.hwp_claim.specs.Fails as fails

@@ -17,19 +17,19 @@ use Rattle.hwp_claim.specs.hwp_claim_frame.hwp_core_rule.declared.Step.{Step}
 use Rattle.hwp_claim.specs.hwp_claim_frame.hwp_core_rule.declared.Step.TheVariants as steps
 use Rattle.hwp_claim.specs.hwp_claim_frame.hwp_core_rule.declared.View.{View}
 use Rattle.hwp_claim.specs.hwp_claim_frame.hwp_core_rule.Views.{noted, sighted}
-use Rattle.hwp_law_commands.specs.hwp_severity.declared.Severity.{Severity}
-use Rattle.hwp_law_commands.specs.hwp_severity.declared.Severity.TheVariants as severities
+use Rattle.hwp_law.specs.hwp_severity.declared.Severity.{Severity}
+use Rattle.hwp_law.specs.hwp_severity.declared.Severity.TheVariants as severities
 use Rattle.hwp_claim.specs.hwp_claim_frame.hwp_core_rule.declared.Turn.{Turn}
 use Rattle.hwp_claim.specs.hwp_claim_frame.hwp_core_rule.Calls.{CanMake, IsOnTurn, Steps, logs}
 use Rattle.hwp_claim.specs.hwp_claim_frame.hwp_core_rule.Hands.{hand_of, empty}
 use Rattle.hwp_claim.proofs.of_hwp_claim_frame.of_hwp_core_rule.StepLeaves.{can-make, hand-planned, on-turn-after, steps-planned}
 use Rattle.hwp_claim.proofs.of_hwp_claim_frame.of_hwp_core_rule.MadeEntries.{deeds-same}
 use Rattle.hwp_claim.proofs.of_hwp_claim_frame.of_hwp_core_rule.SightKeeps.{saw-stopped, stop-listed}
-use Rattle.hwp_law_commands.specs.hwp_report_text.declared.Acted.{Acted}
-use Rattle.hwp_law_commands.specs.hwp_report_text.declared.Acted.TheVariants as acts
+use Rattle.hwp_law.specs.hwp_report_text.declared.Acted.{Acted}
+use Rattle.hwp_law.specs.hwp_report_text.declared.Acted.TheVariants as acts
 use Rattle.hwp_banks.specs.Banks.{Banks}
-use Rattle.hwp_law_commands.specs.hwp_severity.Handling.{has_stop}
-use Rattle.hwp_law_commands.specs.hwp_severity.declared.Arrival.{Arrival}
+use Rattle.hwp_law.specs.hwp_severity.Handling.{has_stop}
+use Rattle.hwp_law.specs.hwp_severity.declared.Arrival.{Arrival}
 use Rattle.hwp_claim.specs.declared.fail.Fail.{Fail}
 use Rattle.hwp_claim.specs.declared.fail.FailAt.{FailAt}
 use Rattle.hwp_claim.specs.declared.fail.FailAt.TheVariants as fail_at

@@ -11,9 +11,9 @@ use Rattle.hwp_claim.specs.hwp_claim_frame.hwp_core_rule.declared.SharedWord.The
 use Rattle.hwp_claim.specs.hwp_claim_frame.hwp_core_rule.declared.View.{View}
 use Rattle.hwp_claim.specs.hwp_claim_frame.hwp_core_rule.Known.{Saw}
 use Rattle.hwp_banks.specs.Banks.{Banks, empty_banks, log_in}
-use Rattle.hwp_law_commands.specs.hwp_severity.Handling.{has_stop}
-use Rattle.hwp_law_commands.specs.Commands.{arrival}
-use Rattle.hwp_law_commands.specs.hwp_severity.declared.Arrival.{Arrival}
+use Rattle.hwp_law.specs.hwp_severity.Handling.{has_stop}
+use Rattle.hwp_law.specs.Commands.{arrival}
+use Rattle.hwp_law.specs.hwp_severity.declared.Arrival.{Arrival}
 use Rattle.hwp_cpu_check.specs.declared.told.EventOutcome.{EventOutcome}
 use Rattle.hwp_cpu_check.specs.Events.{held_in}
 use Rattle.hwp_cpu_check.specs.Fits.{AreTold}

@@ -1,10 +1,10 @@
 -- The events that the banks of a processor hold at a machine check, each with its grade.
 use Rattle.std.specs.Prelude.{ℕ, ◌+◌, List, [], ◌∷◌, Some, None, map}
 use Rattle.hwp_banks.specs.declared.Event.{Event}
-use Rattle.hwp_law_commands.specs.hwp_severity.declared.Grade.{Grade}
-use Rattle.hwp_law_commands.specs.hwp_severity.Graded.{graded}
+use Rattle.hwp_law.specs.hwp_severity.declared.Grade.{Grade}
+use Rattle.hwp_law.specs.hwp_severity.Graded.{graded}
 use Rattle.hwp_banks.specs.Banks.{Banks, held_from}
-use Rattle.hwp_law_commands.specs.hwp_severity.declared.Arrival.{Arrival}
+use Rattle.hwp_law.specs.hwp_severity.declared.Arrival.{Arrival}
 use Rattle.hwp_cpu_check.specs.declared.told.Held.{Held}
 
 -- the events from bank n on, with the grades of their banks

@@ -23,10 +23,10 @@ use Rattle.hwp_claim.specs.hwp_claim_frame.hwp_core_rule.Turns.{Member}
 use Rattle.hwp_claim.specs.hwp_claim_act.Abandoned.{IsOfPage}
 use Rattle.hwp_claim.specs.hwp_claim_act.Abandons.{signals_now}
 use Rattle.hwp_claim.specs.hwp_claim_frame.Claims.{IsStopped, SawPoison, marks_by}
-use Rattle.hwp_law_commands.specs.hwp_report_text.declared.Acted.{Acted}
-use Rattle.hwp_law_commands.specs.hwp_report_text.declared.Acted.TheVariants as acts
-use Rattle.hwp_law_commands.specs.hwp_report_text.Acts.{is_panic}
-use Rattle.hwp_law_commands.specs.Outcomes.{outcome_act}
+use Rattle.hwp_law.specs.hwp_report_text.declared.Acted.{Acted}
+use Rattle.hwp_law.specs.hwp_report_text.declared.Acted.TheVariants as acts
+use Rattle.hwp_law.specs.hwp_report_text.Acts.{is_panic}
+use Rattle.hwp_law.specs.Outcomes.{outcome_act}
 use Rattle.hwp_claim.specs.declared.fail.Fail.{Fail}
 use Rattle.hwp_claim.specs.declared.Found.{Found}
 use Rattle.hwp_claim.specs.Fails as fails

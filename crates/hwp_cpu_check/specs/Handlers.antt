@@ -13,11 +13,11 @@ use Rattle.hwp_claim.specs.hwp_claim_frame.hwp_core_rule.Words.{Words}
 use Rattle.hwp_claim.specs.hwp_claim_frame.hwp_core_rule.declared.Turn.{Turn}
 use Rattle.hwp_claim.specs.hwp_claim_frame.hwp_core_rule.declared.Turn.TheVariants.{Moved}
 use Rattle.hwp_claim.specs.hwp_claim_frame.Claims.{stop_turn}
-use Rattle.hwp_law_commands.specs.hwp_report_text.declared.Acted.{Acted}
+use Rattle.hwp_law.specs.hwp_report_text.declared.Acted.{Acted}
 use Rattle.hwp_banks.specs.Banks.{Banks}
 use Rattle.hwp_banks.specs.Events.{bank_count}
-use Rattle.hwp_law_commands.specs.hwp_severity.Handling.{has_stop}
-use Rattle.hwp_law_commands.specs.hwp_severity.declared.Arrival.{Arrival}
+use Rattle.hwp_law.specs.hwp_severity.Handling.{has_stop}
+use Rattle.hwp_law.specs.hwp_severity.declared.Arrival.{Arrival}
 use Rattle.hwp_claim.specs.declared.fail.Fail.{Fail}
 use Rattle.hwp_claim.specs.declared.FailAnswer.{FailAnswer}
 use Rattle.hwp_claim.specs.Fails as fails

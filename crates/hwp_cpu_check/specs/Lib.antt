@@ -13,11 +13,11 @@ pub use Rattle.hwp_claim.specs.hwp_claim_frame as hwp_claim_frame
 pub use Rattle.hwp_claim.specs.hwp_claim_frame.hwp_core as hwp_core
 pub use Rattle.hwp_claim.specs.hwp_claim_frame.hwp_core_rule as hwp_core_rule
 pub use Rattle.hwp_banks.specs.hwp_geom as hwp_geom
-pub use Rattle.hwp_law_commands.specs as hwp_law_commands
+pub use Rattle.hwp_law.specs as hwp_law
 pub use Rattle.hwp_claim.specs.hwp_claim_frame.hwp_page as hwp_page
-pub use Rattle.hwp_law_commands.specs.hwp_report_text as hwp_report_text
-pub use Rattle.hwp_law_commands.specs.hwp_script_lines as hwp_script_lines
-pub use Rattle.hwp_law_commands.specs.hwp_script_read as hwp_script_read
-pub use Rattle.hwp_law_commands.specs.hwp_severity as hwp_severity
+pub use Rattle.hwp_law.specs.hwp_report_text as hwp_report_text
+pub use Rattle.hwp_law.specs.hwp_script_lines as hwp_script_lines
+pub use Rattle.hwp_law.specs.hwp_script_read as hwp_script_read
+pub use Rattle.hwp_law.specs.hwp_severity as hwp_severity
 pub use Rattle.hwp_claim.specs.hwp_claim_frame.hwp_words as hwp_words
-pub use Rattle.hwp_law_commands.specs.hwp_guest as hwp_guest
+pub use Rattle.hwp_law.specs.hwp_guest as hwp_guest

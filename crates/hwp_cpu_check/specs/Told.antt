@@ -8,13 +8,13 @@ use Rattle.hwp_banks.specs.hwp_geom.declared.Thread.{Thread}
 use Rattle.hwp_banks.specs.Addresses.{frame_at}
 use Rattle.hwp_claim.specs.hwp_claim_frame.hwp_page.declared.At.{At}
 use Rattle.hwp_claim.specs.hwp_claim_frame.hwp_page.Situations.{outcome_of}
-use Rattle.hwp_law_commands.specs.hwp_severity.declared.Severity.{Severity}
-use Rattle.hwp_law_commands.specs.hwp_severity.declared.Severity.TheVariants as severities
-use Rattle.hwp_law_commands.specs.hwp_report_text.declared.Acted.{Acted}
-use Rattle.hwp_law_commands.specs.hwp_report_text.declared.Acted.TheVariants as acts
-use Rattle.hwp_law_commands.specs.hwp_report_text.Acts.{is_panic, is_stopping}
-use Rattle.hwp_law_commands.specs.hwp_severity.Handling.{is_stop}
-use Rattle.hwp_law_commands.specs.Outcomes.{outcome_act}
+use Rattle.hwp_law.specs.hwp_severity.declared.Severity.{Severity}
+use Rattle.hwp_law.specs.hwp_severity.declared.Severity.TheVariants as severities
+use Rattle.hwp_law.specs.hwp_report_text.declared.Acted.{Acted}
+use Rattle.hwp_law.specs.hwp_report_text.declared.Acted.TheVariants as acts
+use Rattle.hwp_law.specs.hwp_report_text.Acts.{is_panic, is_stopping}
+use Rattle.hwp_law.specs.hwp_severity.Handling.{is_stop}
+use Rattle.hwp_law.specs.Outcomes.{outcome_act}
 use Rattle.hwp_claim.specs.declared.FailAnswer.{FailAnswer}
 use Rattle.hwp_claim.specs.declared.FailAnswer.TheVariants as answers
 use Rattle.hwp_claim.specs.declared.Found.{Found}

@@ -1,10 +1,10 @@
 ghost use Rattle.std.specs.Prelude.{◌≡◌, ◌<◌, ◌∷◌, [], ◌++◌, drop, length, map, slice_get};
-ghost use Rattle.hwp_law_commands.specs.hwp_severity.Handling.{grade_of};
+ghost use Rattle.hwp_law.specs.hwp_severity.Handling.{grade_of};
 ghost use Rattle.hwp_cpu_check.specs.Events.{held_with};
 
 use crate::told::{EventOutcome, Held};
 use hwp_banks::{BANKS, Bank, Event, Status};
-use hwp_law_commands::{Acted, Grade, Severity};
+use hwp_law::{Acted, Grade, Severity};
 use std::marker::Model;
 
 /// What stands in a place that no event has taken yet.

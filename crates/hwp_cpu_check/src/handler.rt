@@ -1,9 +1,9 @@
 ghost use Rattle.std.specs.Prelude.{◌≡◌, ◌<◌, ◌==◌, ◌&&◌};
 ghost use Rattle.hwp_banks.specs.Addresses.{frame_at};
 ghost use Rattle.hwp_claim.specs.hwp_claim_frame.Claims.{stop_turn};
-ghost use Rattle.hwp_law_commands.specs.hwp_report_text.Acts.{is_panic};
-ghost use Rattle.hwp_law_commands.specs.hwp_severity.Handling.{has_stop};
-ghost use Rattle.hwp_law_commands.specs.Outcomes.{outcome_act};
+ghost use Rattle.hwp_law.specs.hwp_report_text.Acts.{is_panic};
+ghost use Rattle.hwp_law.specs.hwp_severity.Handling.{has_stop};
+ghost use Rattle.hwp_law.specs.Outcomes.{outcome_act};
 ghost use Rattle.hwp_cpu_check.specs.Told.{are_held_back, at_once, failure_at_once, first_signal, frame_of, halts, has_kept, has_panic, is_already, is_halting, is_kept, required_by, signal_of, told_by, was_poisoned};
 ghost use Rattle.hwp_cpu_check.specs.Handlers.{after_stop, answer, at_end, begin, ended_by, failing, tell_on};
 
@@ -14,7 +14,7 @@ use hwp_claim::{
     At, Body, Fail, FailAnswer, Found, Frame, Layout, Mode, Outcome, Ranked, Scheduled, Step, Task,
     Thread, Turn, Who, is_stopped,
 };
-use hwp_law_commands::{Acted, McgBits, Severity, handle};
+use hwp_law::{Acted, McgBits, Severity, handle};
 use std::alloc::Global;
 use std::mem;
 

@@ -17,7 +17,7 @@ pub use hwp_claim::{
     PolicyWord, Proc, ProcessWord, Pte, Ranked, Scheduled, SharedWord, Step, StopWord, Task, Text,
     Thread, Turn, VSlot, Who, index, is_stopped, let_go_of, lowest_bit,
 };
-pub use hwp_law_commands::{
+pub use hwp_law::{
     Access, Acted, Admit, Answer, Collector, Command, CpuLine, Decision, EventLine, FrameLine,
     Guest, GuestAccess, GuestLine, How, MAX_SCRIPT, MarkLine, McgBits, Noted, OfflineResult,
     OfflinedLine, PrctlArgs, Report, Script, Stop, StopCause, Taken, Version, Whereabouts, grade,

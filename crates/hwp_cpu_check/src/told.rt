@@ -1,6 +1,6 @@
 use hwp_banks::Event;
 use hwp_claim::Found;
-use hwp_law_commands::{Acted, Grade};
+use hwp_law::{Acted, Grade};
 
 /// An event that a bank holds at a machine check, with its grade. Small fields stand together, so that they take less room.
 #[derive(Clone, Copy)]

@@ -11,7 +11,7 @@ use Rattle.hwp_cpu_row.specs.hwp_banks.Banks.{Banks}
 use Rattle.hwp_cpu_row.specs.hwp_script_lines.declared.Command.{Command}
 use Rattle.hwp_cpu_row.specs.hwp_script_lines.declared.Command.TheVariants as commands
 use Rattle.hwp_cpu_row.specs.hwp_script_read.Valid.{IsAccess, IsCommandOf}
-use Rattle.hwp_cpu_row.specs.hwp_law_commands.Commands.{access, access_of}
+use Rattle.hwp_cpu_row.specs.hwp_law.Commands.{access, access_of}
 use Rattle.hwp_cpu_command.specs.declared.begin.LineAccess.{LineAccess}
 use Rattle.hwp_cpu_command.specs.declared.job.Job.{Job}
 use Rattle.hwp_cpu_command.specs.Begins.{Begins, BeginsLine, access_in}

@@ -4,7 +4,7 @@ use Rattle.hwp_cpu_control.specs.hwp_page.declared.At.{At}
 use Rattle.hwp_cpu_row.specs.hwp_report_text.declared.Answer.{Answer}
 use Rattle.hwp_cpu_row.specs.hwp_report_text.declared.Answer.TheVariants as answers
 use Rattle.hwp_cpu_control.specs.hwp_page.Situations.{outcome_of}
-use Rattle.hwp_cpu_row.specs.hwp_law_commands.Outcomes.{outcome_answer, reply_answer}
+use Rattle.hwp_cpu_row.specs.hwp_law.Outcomes.{outcome_answer, reply_answer}
 use Rattle.hwp_cpu_control.specs.declared.Denial.{Denial}
 use Rattle.hwp_cpu_control.specs.declared.Denial.TheVariants as denials
 use Rattle.hwp_cpu_control.specs.declared.DeniedAnswer.{DeniedAnswer}

@@ -10,8 +10,8 @@ use Rattle.hwp_evict.specs.Fsyncs as fsyncs
 use Rattle.hwp_cpu_row.specs.hwp_report_text.declared.Answer.{Answer}
 use Rattle.hwp_cpu_row.specs.hwp_report_text.declared.Answer.TheVariants as answers
 use Rattle.hwp_cpu_row.specs.hwp_script_lines.Grammar.{IsCollectorWithin}
-use Rattle.hwp_cpu_row.specs.hwp_law_commands.hwp_cec.Ages.{CecEvent, Round}
-use Rattle.hwp_cpu_row.specs.hwp_law_commands.hwp_cec.Counters.{StandsFor, begun, rounded}
+use Rattle.hwp_cpu_row.specs.hwp_law.hwp_cec.Ages.{CecEvent, Round}
+use Rattle.hwp_cpu_row.specs.hwp_law.hwp_cec.Counters.{StandsFor, begun, rounded}
 use Rattle.hwp_cpu_row.specs.declared.Local.{Local}
 use Rattle.hwp_cpu_row.specs.declared.Watching.{Watching}
 use Rattle.hwp_cpu_row.specs.Locals.{number_in}

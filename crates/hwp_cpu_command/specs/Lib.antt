@@ -20,7 +20,7 @@ pub use Rattle.hwp_cpu_access.specs.hwp_fault as hwp_fault
 pub use Rattle.hwp_cpu_access.specs.hwp_fork as hwp_fork
 pub use Rattle.hwp_cpu_control.specs.hwp_geom as hwp_geom
 pub use Rattle.hwp_cpu_control.specs.hwp_kill as hwp_kill
-pub use Rattle.hwp_cpu_row.specs.hwp_law_commands as hwp_law_commands
+pub use Rattle.hwp_cpu_row.specs.hwp_law as hwp_law
 pub use Rattle.hwp_cpu_control.specs.hwp_page as hwp_page
 pub use Rattle.hwp_cpu_row.specs.hwp_report_text as hwp_report_text
 pub use Rattle.hwp_cpu_row.specs.hwp_script_lines as hwp_script_lines

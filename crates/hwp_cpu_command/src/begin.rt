@@ -7,8 +7,8 @@ ghost use Rattle.hwp_cpu_row.specs.hwp_script_read.Valid.{IsAccess, IsCommandOf,
 ghost use Rattle.hwp_cpu_row.specs.hwp_banks.Banks.{Banks, empty_banks};
 ghost use Rattle.hwp_cpu_row.specs.hwp_banks.Banks.{raw_event};
 ghost use Rattle.hwp_cpu_row.specs.Locals.{collects, number_in};
-ghost use Rattle.hwp_cpu_row.specs.hwp_law_commands.Commands.{access_of, process_of_thread};
-ghost use Rattle.hwp_cpu_row.specs.hwp_law_commands.Settings.{arguments};
+ghost use Rattle.hwp_cpu_row.specs.hwp_law.Commands.{access_of, process_of_thread};
+ghost use Rattle.hwp_cpu_row.specs.hwp_law.Settings.{arguments};
 ghost use Rattle.hwp_scrub.specs.Scrubs as scrubs;
 ghost use Rattle.hwp_evict.specs.Fsyncs as fsyncs;
 ghost use Rattle.hwp_scrub.specs.declared.LocalChange.TheVariants as changes;

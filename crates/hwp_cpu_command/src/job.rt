@@ -258,7 +258,7 @@ impl Job {
 
 ghost use Rattle.hwp_cpu_command.specs.Answers.{denial_answer, denied_answer, evict_answer, fail_answer, fork_answer, fsync_answer, instruction_answer, nested_answer, prctl_answer, raise_answer, read_stop_answer, refusal_answer, scrub_answer, soft_answer, spoil_answer, unpoison_answer};
 ghost use Rattle.hwp_cpu_command.specs.Jobs.{offlined_by, own_by, revived_by, row};
-ghost use Rattle.hwp_cpu_row.specs.hwp_law_commands.Outcomes.{outcome_answer, reply_answer};
+ghost use Rattle.hwp_cpu_row.specs.hwp_law.Outcomes.{outcome_answer, reply_answer};
 ghost use Rattle.hwp_cpu_command.specs.FileHandles.{CanRound, IsChangeWithin, RoundStands, round_ended, rounded_by, watched_by};
 
 fn row(

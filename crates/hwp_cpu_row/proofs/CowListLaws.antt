@@ -15,8 +15,8 @@ use Rattle.hwp_cpu_check.specs.hwp_script_lines.declared.Command.TheVariants as 
 use Rattle.hwp_cpu_check.specs.hwp_script_read.Forks.{freezes, is_cow, slots}
 use Rattle.hwp_cpu_check.specs.hwp_report_text.declared.Answer.{Answer}
 use Rattle.hwp_cpu_check.specs.hwp_report_text.declared.Answer.TheVariants as answers
-use Rattle.hwp_cpu_check.specs.hwp_law_commands.Cows.{Cow, acting, copied_from, cow_after, cow_of, own_page, twin_or}
-use Rattle.hwp_cpu_check.proofs.of_hwp_law_commands.CowLaws.{both-false, cow-more}
+use Rattle.hwp_cpu_check.specs.hwp_law.Cows.{Cow, acting, copied_from, cow_after, cow_of, own_page, twin_or}
+use Rattle.hwp_cpu_check.proofs.of_hwp_law.CowLaws.{both-false, cow-more}
 use Rattle.hwp_cpu_row.specs.CowLists.{AreCowsOf, KnowsCows, acting_in, copied_in, cow_in, first_cows, freezes_at, frozen_by, frozen_from, frozen_in, switched_by, switched_in, told_in}
 
 -- ---- at first

@@ -9,14 +9,14 @@ use Rattle.hwp_cpu_check.specs.hwp_geom.declared.Layout.{Layout}
 use Rattle.hwp_cpu_check.specs.hwp_report_text.declared.EventLine.{EventLine}
 use Rattle.hwp_cpu_check.specs.hwp_core_rule.Lists.{EachMember}
 use Rattle.hwp_cpu_check.specs.declared.EventOutcome.{EventOutcome}
-use Rattle.hwp_cpu_check.specs.hwp_law_commands.hwp_cec.declared.Noted.{Noted}
-use Rattle.hwp_cpu_check.specs.hwp_law_commands.hwp_cec.declared.Noted.TheVariants.{Counted, Offline}
-use Rattle.hwp_cpu_check.specs.hwp_law_commands.hwp_cec.Ages.{CecEvent, Note, live}
-use Rattle.hwp_cpu_check.specs.hwp_law_commands.hwp_cec.Counters.{Counters, StandsFor, answer, noted_in}
-use Rattle.hwp_cpu_check.specs.hwp_law_commands.Commands.{is_kernels}
-use Rattle.hwp_cpu_check.specs.hwp_law_commands.Notes.{AreApart, IsRising, checks, ends_machine, frame_of, is_corrected, is_for_pages, noted_frame, notes, notes_of_check, with_line}
-use Rattle.hwp_cpu_check.specs.hwp_law_commands.Watched.{Watched, offlining, told}
-use Rattle.hwp_cpu_check.proofs.of_hwp_law_commands.NoteLaws.{notes-append, notes-rising, offlining-append}
+use Rattle.hwp_cpu_check.specs.hwp_law.hwp_cec.declared.Noted.{Noted}
+use Rattle.hwp_cpu_check.specs.hwp_law.hwp_cec.declared.Noted.TheVariants.{Counted, Offline}
+use Rattle.hwp_cpu_check.specs.hwp_law.hwp_cec.Ages.{CecEvent, Note, live}
+use Rattle.hwp_cpu_check.specs.hwp_law.hwp_cec.Counters.{Counters, StandsFor, answer, noted_in}
+use Rattle.hwp_cpu_check.specs.hwp_law.Commands.{is_kernels}
+use Rattle.hwp_cpu_check.specs.hwp_law.Notes.{AreApart, IsRising, checks, ends_machine, frame_of, is_corrected, is_for_pages, noted_frame, notes, notes_of_check, with_line}
+use Rattle.hwp_cpu_check.specs.hwp_law.Watched.{Watched, offlining, told}
+use Rattle.hwp_cpu_check.proofs.of_hwp_law.NoteLaws.{notes-append, notes-rising, offlining-append}
 use Rattle.hwp_cpu_row.specs.declared.Offlining.{Offlining}
 use Rattle.hwp_cpu_row.specs.Acts.{event_at, told_notes}
 use Rattle.hwp_cpu_row.specs.Locals.{Collects}

@@ -25,10 +25,10 @@ use Rattle.hwp_cpu_check.specs.hwp_report_text.declared.Answer.TheVariants as an
 use Rattle.hwp_cpu_check.specs.hwp_guest.declared.Admit.{Admit}
 use Rattle.hwp_cpu_check.specs.hwp_guest.declared.Admit.TheVariants as admissions
 use Rattle.hwp_cpu_check.specs.hwp_guest.GuestState.{GuestState, admitted, after}
-use Rattle.hwp_cpu_check.specs.hwp_law_commands.Commands as access
-use Rattle.hwp_cpu_check.specs.hwp_law_commands.Commands.{access_of, arrival_of, process_of_thread}
-use Rattle.hwp_cpu_check.specs.hwp_law_commands.declared.GuestAccess.{GuestAccess}
-use Rattle.hwp_cpu_check.specs.hwp_law_commands.Guests.{denial, denied, guest_access, guest_after, guest_taken, guest_of, kind_of, new_guest}
+use Rattle.hwp_cpu_check.specs.hwp_law.Commands as access
+use Rattle.hwp_cpu_check.specs.hwp_law.Commands.{access_of, arrival_of, process_of_thread}
+use Rattle.hwp_cpu_check.specs.hwp_law.declared.GuestAccess.{GuestAccess}
+use Rattle.hwp_cpu_check.specs.hwp_law.GuestRule.{denial, denied, guest_access, guest_after, guest_taken, guest_of, kind_of, new_guest}
 use Rattle.hwp_cpu_row.specs.GuestLists.{AreGuestsOf, KnowsGuests, MayTake, MayTell, admission_in, first_guests, guest_in, taken_in, told_in}
 
 -- ---- at first

@@ -4,4 +4,4 @@ pub mod GuestListLaws
 pub mod DueLaws
 pub use Rattle.hwp_cpu_check.proofs.of_hwp_core_rule as of_hwp_core_rule
 pub use Rattle.hwp_cpu_check.proofs as of_hwp_cpu_check
-pub use Rattle.hwp_cpu_check.proofs.of_hwp_law_commands as of_hwp_law_commands
+pub use Rattle.hwp_cpu_check.proofs.of_hwp_law as of_hwp_law

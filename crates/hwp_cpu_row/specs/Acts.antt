@@ -4,7 +4,7 @@ use Rattle.std.specs.Prelude.{ℕ, ◌+◌, ◌==◌, ◌≤◌, List, [], ◌�
 use Rattle.hwp_cpu_check.specs.hwp_geom.declared.Frame.{Frame}
 use Rattle.hwp_cpu_check.specs.hwp_geom.declared.Layout.{Layout}
 use Rattle.hwp_cpu_check.specs.hwp_report_text.declared.EventLine.{EventLine}
-use Rattle.hwp_cpu_check.specs.hwp_law_commands.Notes.{notes}
+use Rattle.hwp_cpu_check.specs.hwp_law.Notes.{notes}
 use Rattle.hwp_cpu_check.specs.declared.told.EventOutcome.{EventOutcome}
 use Rattle.hwp_cpu_row.specs.declared.row.Offlining.{Offlining}
 

@@ -1,5 +1,5 @@
 -- What a processor remembers of forks: a list that says of each translation whether it is frozen and whether it has gone over to its
--- twin. What it makes of a command is what hwp_law_commands/specs/Cows says, with the list for the earlier commands and their answers.
+-- twin. What it makes of a command is what hwp_law/specs/Cows says, with the list for the earlier commands and their answers.
 use Rattle.std.specs.Prelude.{◌≡◌, ◌+◌, ◌&&◌, ◌||◌, ℕ, Bool, true, false, not, List, [], ◌∷◌, length, replicate, get_or, slice_get, slice_set, Option, None, Some, is_some, if◌then◌else◌}
 use Rattle.std.specs.List.{list_any}
 use Rattle.std.specs.Option.{option_map_or}
@@ -13,7 +13,7 @@ use Rattle.hwp_cpu_check.specs.hwp_script_lines.declared.Command.TheVariants as 
 use Rattle.hwp_cpu_check.specs.hwp_script_read.Forks.{freezes}
 use Rattle.hwp_cpu_check.specs.hwp_report_text.declared.Answer.{Answer}
 use Rattle.hwp_cpu_check.specs.hwp_report_text.declared.Answer.TheVariants as answers
-use Rattle.hwp_cpu_check.specs.hwp_law_commands.Cows.{Cow, cow_of, own_page, twin_or}
+use Rattle.hwp_cpu_check.specs.hwp_law.Cows.{Cow, cow_of, own_page, twin_or}
 
 -- what the list says of a translation; one that it doesn't hold has its own page
 abbrev pub cow_in : List Cow → VSlot → Cow

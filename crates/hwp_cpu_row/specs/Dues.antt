@@ -4,8 +4,8 @@ use Rattle.std.specs.List.{cons_option}
 use Rattle.hwp_cpu_check.specs.hwp_geom.declared.Frame.{Frame}
 use Rattle.hwp_cpu_check.specs.hwp_geom.declared.Layout.{Layout}
 use Rattle.hwp_cpu_check.specs.declared.EventOutcome.{EventOutcome}
-use Rattle.hwp_cpu_check.specs.hwp_law_commands.hwp_cec.Counters.{Counters}
-use Rattle.hwp_cpu_check.specs.hwp_law_commands.Notes.{noted_frame, notes_of_check}
+use Rattle.hwp_cpu_check.specs.hwp_law.hwp_cec.Counters.{Counters}
+use Rattle.hwp_cpu_check.specs.hwp_law.Notes.{noted_frame, notes_of_check}
 use Rattle.hwp_cpu_row.specs.declared.Offlining.{Offlining}
 use Rattle.hwp_cpu_row.specs.Acts.{event_at, told_notes}
 use Rattle.hwp_cpu_row.specs.Locals.{Collects}

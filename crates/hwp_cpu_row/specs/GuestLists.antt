@@ -1,5 +1,5 @@
 -- What a processor remembers of guests: a list that says of each process what it is as a guest. What it makes of a command is what
--- hwp_law_commands/specs/Guests says, with the list for the earlier commands and their answers.
+-- hwp_law/specs/GuestRule says, with the list for the earlier commands and their answers.
 use Rattle.std.specs.Prelude.{◌≡◌, ℕ, ◌<◌, true, List, [], length, replicate, get_or, slice_set, Option, None, Some, option_map, if◌then◌else◌}
 use Rattle.std.specs.Option.{option_map_or}
 use Rattle.hwp_cpu_check.specs.hwp_geom.Layout.{has_guests, is_guest}
@@ -13,8 +13,8 @@ use Rattle.hwp_cpu_check.specs.hwp_report_text.declared.GuestLine.{GuestLine}
 use Rattle.hwp_cpu_check.specs.hwp_guest.declared.Admit.{Admit}
 use Rattle.hwp_cpu_check.specs.hwp_guest.declared.Admit.TheVariants as admissions
 use Rattle.hwp_cpu_check.specs.hwp_guest.GuestState.{GuestState, admitted, after}
-use Rattle.hwp_cpu_check.specs.hwp_law_commands.declared.GuestAccess.{GuestAccess}
-use Rattle.hwp_cpu_check.specs.hwp_law_commands.Guests.{guest_access, guest_line, guest_of, new_guest}
+use Rattle.hwp_cpu_check.specs.hwp_law.declared.GuestAccess.{GuestAccess}
+use Rattle.hwp_cpu_check.specs.hwp_law.GuestRule.{guest_access, guest_line, guest_of, new_guest}
 
 -- what each process is as a guest
 abbrev pub States : Type 0

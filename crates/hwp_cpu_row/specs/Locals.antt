@@ -5,9 +5,9 @@ use Rattle.hwp_cpu_check.specs.hwp_geom.declared.Frame.{Frame}
 use Rattle.hwp_cpu_check.specs.hwp_geom.declared.Layout.{Layout}
 use Rattle.hwp_cpu_check.specs.hwp_banks.Banks.{empty_banks}
 use Rattle.hwp_cpu_check.specs.hwp_core_rule.Lists.{EachMember}
-use Rattle.hwp_cpu_check.specs.hwp_law_commands.hwp_cec.Ages.{CecEvent, Note}
-use Rattle.hwp_cpu_check.specs.hwp_law_commands.hwp_cec.Counters.{Counters, StandsFor}
-use Rattle.hwp_cpu_check.specs.hwp_law_commands.Watched.{Watched, offlining}
+use Rattle.hwp_cpu_check.specs.hwp_law.hwp_cec.Ages.{CecEvent, Note}
+use Rattle.hwp_cpu_check.specs.hwp_law.hwp_cec.Counters.{Counters, StandsFor}
+use Rattle.hwp_cpu_check.specs.hwp_law.Watched.{Watched, offlining}
 use Rattle.hwp_cpu_row.specs.declared.local.Local.{Local}
 use Rattle.hwp_cpu_row.specs.declared.local.Watching.{Watching}
 use Rattle.hwp_cpu_row.specs.CowLists.{first_cows}

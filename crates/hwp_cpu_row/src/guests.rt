@@ -1,6 +1,6 @@
 ghost use Rattle.std.specs.Prelude.{◌≡◌, false, None, Some, replicate, IfOk, IsOk};
 ghost use Rattle.hwp_cpu_check.specs.hwp_guest.GuestState.{admitted};
-ghost use Rattle.hwp_cpu_check.specs.hwp_law_commands.Guests.{guest_line, new_guest, stops};
+ghost use Rattle.hwp_cpu_check.specs.hwp_law.GuestRule.{guest_line, new_guest, stops};
 ghost use Rattle.hwp_cpu_check.specs.hwp_geom.Layout.{has_guests};
 ghost use Rattle.hwp_cpu_row.specs.GuestLists.{CanTake, MayTell, admission_in, first_guests, guest_in, line_in, taken_in, told_in};
 

@@ -4,28 +4,28 @@ use Rattle.std.proofs.Common.{◌≡◌, ℕ, zero, suc, ◌+◌, ◌-◌, ◌<�
 use Rattle.std.proofs.lemmas.Bool.{le-ltb, lt-ltb}
 use Rattle.std.proofs.lemmas.List.{append_assoc, length-set}
 use Rattle.std.proofs.lemmas.Option.{none-some, same_Some}
-use Rattle.hwp_law_commands.specs.hwp_geom.declared.Cpu.{Cpu}
-use Rattle.hwp_law_commands.specs.hwp_geom.declared.Frame.{Frame}
-use Rattle.hwp_law_commands.specs.hwp_geom.declared.VSlot.{VSlot}
-use Rattle.hwp_law_commands.specs.hwp_geom.declared.Who.{Who}
-use Rattle.hwp_law_commands.specs.hwp_banks.declared.Event.{Event}
-use Rattle.hwp_law_commands.specs.hwp_banks.declared.Origin.{Origin}
-use Rattle.hwp_law_commands.specs.hwp_banks.declared.Origin.TheVariants as origins
-use Rattle.hwp_law_commands.specs.hwp_banks.Banks.{Banks, empty_banks, held_from, log_in, raw_event}
-use Rattle.hwp_law_commands.specs.hwp_banks.Events.{bank_of, own_event}
-use Rattle.hwp_law_commands.specs.hwp_severity.Handling.{has_stop}
-use Rattle.hwp_law_commands.specs.hwp_severity.declared.Arrival.{Arrival}
-use Rattle.hwp_law_commands.specs.hwp_script_read.declared.Command.{Command}
-use Rattle.hwp_law_commands.specs.hwp_script_read.declared.Command.TheVariants as commands
-use Rattle.hwp_law_commands.specs.hwp_script_read.declared.Script.{Script}
-use Rattle.hwp_law_commands.specs.hwp_report_text.Acts.{is_panic}
-use Rattle.hwp_law_commands.specs.hwp_report_text.declared.Answer.{Answer}
-use Rattle.hwp_law_commands.specs.hwp_report_text.declared.Answer.TheVariants as answers
-use Rattle.hwp_law_commands.specs.hwp_report_text.declared.EventLine.{EventLine}
-use Rattle.hwp_law_commands.specs.hwp_report_text.declared.Report.{Report}
-use Rattle.hwp_law_commands.specs.Commands.{arrival_of, command_at}
-use Rattle.hwp_law_commands.specs.Notes.{AreApart, IsRising, checks}
-use Rattle.hwp_law_commands.proofs.NoteLaws.{checks-append, checks-rising}
+use Rattle.hwp_script_read.specs.hwp_geom.declared.Cpu.{Cpu}
+use Rattle.hwp_script_read.specs.hwp_geom.declared.Frame.{Frame}
+use Rattle.hwp_script_read.specs.hwp_geom.declared.VSlot.{VSlot}
+use Rattle.hwp_script_read.specs.hwp_geom.declared.Who.{Who}
+use Rattle.hwp_report_text.specs.hwp_banks.declared.Event.{Event}
+use Rattle.hwp_report_text.specs.hwp_banks.declared.Origin.{Origin}
+use Rattle.hwp_report_text.specs.hwp_banks.declared.Origin.TheVariants as origins
+use Rattle.hwp_report_text.specs.hwp_banks.Banks.{Banks, empty_banks, held_from, log_in, raw_event}
+use Rattle.hwp_report_text.specs.hwp_banks.Events.{bank_of, own_event}
+use Rattle.hwp_report_text.specs.hwp_severity.Handling.{has_stop}
+use Rattle.hwp_report_text.specs.hwp_severity.declared.Arrival.{Arrival}
+use Rattle.hwp_script_read.specs.declared.Command.{Command}
+use Rattle.hwp_script_read.specs.declared.Command.TheVariants as commands
+use Rattle.hwp_script_read.specs.declared.Script.{Script}
+use Rattle.hwp_report_text.specs.Acts.{is_panic}
+use Rattle.hwp_report_text.specs.declared.Answer.{Answer}
+use Rattle.hwp_report_text.specs.declared.Answer.TheVariants as answers
+use Rattle.hwp_report_text.specs.declared.EventLine.{EventLine}
+use Rattle.hwp_report_text.specs.declared.Report.{Report}
+use Rattle.hwp_law.specs.Commands.{arrival_of, command_at}
+use Rattle.hwp_law.specs.Notes.{AreApart, IsRising, checks}
+use Rattle.hwp_law.proofs.NoteLaws.{checks-append, checks-rising}
 use Rattle.hwp_law.specs.Checks.{AreLinesOf, IsCheck}
 use Rattle.hwp_law.specs.Events.{AreAccessChecks, AreEvents, AreEventsFrom, AreEventsOf, AreScrubbed, IsBadFound, IsDamaged, IsRaise, IsWeakFound, access_lines, is_raised, logged_if_done, store_lines}
 use Rattle.hwp_law.specs.Lines.{answer_of, events_of}

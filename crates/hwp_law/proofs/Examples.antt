@@ -3,29 +3,29 @@
 use Rattle.std.proofs.Common.{◌≡◌, ℕ, suc, zero, Bool, true, false, List, [], ◌∷◌, Some, None, refl, sym, subst, inr, lit<, lit≤, true≢false, IsBitSet, arith}
 use Rattle.std.specs.List.{count_by}
 use Rattle.std.proofs.lemmas.Option.{same_Some, none-some}
-use Rattle.hwp_law_commands.specs.hwp_geom.declared.Layout.{Layout}
-use Rattle.hwp_law_commands.specs.hwp_geom.declared.PageKind.TheVariants.{Anon}
-use Rattle.hwp_law_commands.specs.hwp_geom.declared.Version.TheVariants.{One}
-use Rattle.hwp_law_commands.specs.hwp_geom.declared.Who.{Who}
-use Rattle.hwp_law_commands.specs.hwp_kill.declared.Code.TheVariants.{Ar}
-use Rattle.hwp_law_commands.specs.hwp_page.declared.Entry.{Entry}
-use Rattle.hwp_law_commands.specs.hwp_page.declared.Met.TheVariants.{Word, Sigbus}
-use Rattle.hwp_law_commands.specs.hwp_page.declared.Outcome.TheVariants as outcomes
-use Rattle.hwp_law_commands.specs.hwp_page.declared.Situation.{Situation}
-use Rattle.hwp_law_commands.specs.hwp_page.declared.Situation.TheVariants as situations
-use Rattle.hwp_law_commands.specs.hwp_page.declared.What.TheVariants as entries
-use Rattle.hwp_law_commands.specs.hwp_script_read.declared.Command.TheVariants as commands
-use Rattle.hwp_law_commands.specs.hwp_script_read.declared.Script.{Script}
-use Rattle.hwp_law_commands.specs.hwp_report_text.declared.Acted.TheVariants as acts
-use Rattle.hwp_law_commands.specs.hwp_report_text.declared.Answer.TheVariants as answers
-use Rattle.hwp_law_commands.specs.hwp_report_text.declared.CpuLine.TheVariants as lines
-use Rattle.hwp_law_commands.specs.hwp_report_text.declared.How.TheVariants as hows
-use Rattle.hwp_law_commands.specs.hwp_report_text.declared.MarkLine.{MarkLine}
-use Rattle.hwp_law_commands.specs.hwp_report_text.declared.MarkLine.TheVariants as marks
-use Rattle.hwp_law_commands.specs.hwp_report_text.declared.Whereabouts.TheVariants as places
-use Rattle.hwp_law_commands.specs.hwp_report_text.declared.Report.{Report}
-use Rattle.hwp_law_commands.specs.hwp_banks.Banks.{empty_banks}
-use Rattle.hwp_law_commands.specs.Commands.{arrival_of}
+use Rattle.hwp_script_read.specs.hwp_geom.declared.Layout.{Layout}
+use Rattle.hwp_script_read.specs.hwp_geom.declared.PageKind.TheVariants.{Anon}
+use Rattle.hwp_script_read.specs.hwp_geom.declared.Version.TheVariants.{One}
+use Rattle.hwp_script_read.specs.hwp_geom.declared.Who.{Who}
+use Rattle.hwp_report_text.specs.hwp_kill.declared.Code.TheVariants.{Ar}
+use Rattle.hwp_report_text.specs.hwp_page.declared.Entry.{Entry}
+use Rattle.hwp_report_text.specs.hwp_page.declared.Met.TheVariants.{Word, Sigbus}
+use Rattle.hwp_report_text.specs.hwp_page.declared.Outcome.TheVariants as outcomes
+use Rattle.hwp_report_text.specs.hwp_page.declared.Situation.{Situation}
+use Rattle.hwp_report_text.specs.hwp_page.declared.Situation.TheVariants as situations
+use Rattle.hwp_report_text.specs.hwp_page.declared.What.TheVariants as entries
+use Rattle.hwp_script_read.specs.declared.Command.TheVariants as commands
+use Rattle.hwp_script_read.specs.declared.Script.{Script}
+use Rattle.hwp_report_text.specs.declared.Acted.TheVariants as acts
+use Rattle.hwp_report_text.specs.declared.Answer.TheVariants as answers
+use Rattle.hwp_report_text.specs.declared.CpuLine.TheVariants as lines
+use Rattle.hwp_report_text.specs.declared.How.TheVariants as hows
+use Rattle.hwp_report_text.specs.declared.MarkLine.{MarkLine}
+use Rattle.hwp_report_text.specs.declared.MarkLine.TheVariants as marks
+use Rattle.hwp_report_text.specs.declared.Whereabouts.TheVariants as places
+use Rattle.hwp_report_text.specs.declared.Report.{Report}
+use Rattle.hwp_report_text.specs.hwp_banks.Banks.{empty_banks}
+use Rattle.hwp_law.specs.Commands.{arrival_of}
 use Rattle.hwp_law.specs.Events.{AreEventsOf}
 use Rattle.hwp_law.specs.Lines.{events_of, marks_of}
 use Rattle.hwp_law.specs.Pairings.{AreRecorded, entries_of, has_page, is_failure, is_failure_mark, is_required, is_soft_mark, marks_in, urgent_from}

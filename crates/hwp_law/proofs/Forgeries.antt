@@ -2,48 +2,48 @@
 use Rattle.std.proofs.Common.{◌≡◌, ℕ, suc, zero, ◌<◌, ◌≤◌, Bool, true, false, List, [], ◌∷◌, Some, None, take, ◌&&◌, nat_lt, slice_get, refl, sym, ap, subst, ◌∙◌, inl, inr, lit<, true≢false, arith}
 use Rattle.std.proofs.lemmas.Option.{none-some, same_Some}
 use Rattle.std.specs.List.{list_any}
-use Rattle.hwp_law_commands.specs.hwp_geom.declared.Cpu.{Cpu}
-use Rattle.hwp_law_commands.specs.hwp_geom.declared.FileNo.{FileNo}
-use Rattle.hwp_law_commands.specs.hwp_geom.declared.Mask.{Mask}
-use Rattle.hwp_law_commands.specs.hwp_geom.declared.Page.{Page}
-use Rattle.hwp_law_commands.specs.hwp_geom.declared.PageKind.{PageKind}
-use Rattle.hwp_law_commands.specs.hwp_geom.declared.PageKind.TheVariants.{Anon, File}
-use Rattle.hwp_law_commands.specs.hwp_geom.declared.Version.{Version}
-use Rattle.hwp_law_commands.specs.hwp_geom.declared.Version.TheVariants.{One, Two}
-use Rattle.hwp_law_commands.specs.hwp_kill.declared.Policy.{Policy}
-use Rattle.hwp_law_commands.specs.hwp_kill.declared.Policy.TheVariants as policies
-use Rattle.hwp_law_commands.specs.hwp_page.declared.At.{At}
-use Rattle.hwp_law_commands.specs.hwp_page.declared.Met.TheVariants.{Word}
-use Rattle.hwp_law_commands.specs.hwp_page.declared.Entry.{Entry}
-use Rattle.hwp_law_commands.specs.hwp_page.declared.Outcome.TheVariants as outcomes
-use Rattle.hwp_law_commands.specs.hwp_page.declared.PageState.{PageState}
-use Rattle.hwp_law_commands.specs.hwp_page.declared.Situation.TheVariants as situations
-use Rattle.hwp_law_commands.specs.hwp_page.declared.What.TheVariants as entries
-use Rattle.hwp_law_commands.specs.hwp_page.History.{state_after}
-use Rattle.hwp_law_commands.specs.hwp_page.Refusals.{IsDirty, IsLockedIn}
-use Rattle.hwp_law_commands.specs.hwp_page.Step.{opening_of}
-use Rattle.hwp_law_commands.specs.hwp_banks.declared.Origin.TheVariants as origins
-use Rattle.hwp_law_commands.specs.hwp_script_read.declared.Command.{Command}
-use Rattle.hwp_law_commands.specs.hwp_script_read.declared.Command.TheVariants as commands
-use Rattle.hwp_law_commands.specs.hwp_script_read.declared.Script.{Script}
-use Rattle.hwp_law_commands.specs.hwp_report_text.declared.Acted.{Acted}
-use Rattle.hwp_law_commands.specs.hwp_report_text.declared.Acted.TheVariants as acts
-use Rattle.hwp_law_commands.specs.hwp_report_text.declared.Answer.{Answer}
-use Rattle.hwp_law_commands.specs.hwp_report_text.declared.Answer.TheVariants as answers
-use Rattle.hwp_law_commands.specs.hwp_report_text.declared.CpuLine.TheVariants as lines
-use Rattle.hwp_law_commands.specs.hwp_report_text.declared.EventLine.{EventLine}
-use Rattle.hwp_law_commands.specs.hwp_report_text.declared.How.TheVariants as hows
-use Rattle.hwp_law_commands.specs.hwp_report_text.declared.MarkLine.{MarkLine}
-use Rattle.hwp_law_commands.specs.hwp_report_text.declared.MarkLine.TheVariants as marks
-use Rattle.hwp_law_commands.specs.hwp_report_text.declared.OfflineResult.TheVariants as results
-use Rattle.hwp_law_commands.specs.hwp_report_text.declared.Whereabouts.TheVariants as places
-use Rattle.hwp_law_commands.specs.hwp_report_text.declared.Report.{Report}
+use Rattle.hwp_script_read.specs.hwp_geom.declared.Cpu.{Cpu}
+use Rattle.hwp_script_read.specs.hwp_geom.declared.FileNo.{FileNo}
+use Rattle.hwp_script_read.specs.hwp_geom.declared.Mask.{Mask}
+use Rattle.hwp_script_read.specs.hwp_geom.declared.Page.{Page}
+use Rattle.hwp_script_read.specs.hwp_geom.declared.PageKind.{PageKind}
+use Rattle.hwp_script_read.specs.hwp_geom.declared.PageKind.TheVariants.{Anon, File}
+use Rattle.hwp_script_read.specs.hwp_geom.declared.Version.{Version}
+use Rattle.hwp_script_read.specs.hwp_geom.declared.Version.TheVariants.{One, Two}
+use Rattle.hwp_report_text.specs.hwp_kill.declared.Policy.{Policy}
+use Rattle.hwp_report_text.specs.hwp_kill.declared.Policy.TheVariants as policies
+use Rattle.hwp_report_text.specs.hwp_page.declared.At.{At}
+use Rattle.hwp_report_text.specs.hwp_page.declared.Met.TheVariants.{Word}
+use Rattle.hwp_report_text.specs.hwp_page.declared.Entry.{Entry}
+use Rattle.hwp_report_text.specs.hwp_page.declared.Outcome.TheVariants as outcomes
+use Rattle.hwp_report_text.specs.hwp_page.declared.PageState.{PageState}
+use Rattle.hwp_report_text.specs.hwp_page.declared.Situation.TheVariants as situations
+use Rattle.hwp_report_text.specs.hwp_page.declared.What.TheVariants as entries
+use Rattle.hwp_report_text.specs.hwp_page.History.{state_after}
+use Rattle.hwp_report_text.specs.hwp_page.Refusals.{IsDirty, IsLockedIn}
+use Rattle.hwp_report_text.specs.hwp_page.Step.{opening_of}
+use Rattle.hwp_report_text.specs.hwp_banks.declared.Origin.TheVariants as origins
+use Rattle.hwp_script_read.specs.declared.Command.{Command}
+use Rattle.hwp_script_read.specs.declared.Command.TheVariants as commands
+use Rattle.hwp_script_read.specs.declared.Script.{Script}
+use Rattle.hwp_report_text.specs.declared.Acted.{Acted}
+use Rattle.hwp_report_text.specs.declared.Acted.TheVariants as acts
+use Rattle.hwp_report_text.specs.declared.Answer.{Answer}
+use Rattle.hwp_report_text.specs.declared.Answer.TheVariants as answers
+use Rattle.hwp_report_text.specs.declared.CpuLine.TheVariants as lines
+use Rattle.hwp_report_text.specs.declared.EventLine.{EventLine}
+use Rattle.hwp_report_text.specs.declared.How.TheVariants as hows
+use Rattle.hwp_report_text.specs.declared.MarkLine.{MarkLine}
+use Rattle.hwp_report_text.specs.declared.MarkLine.TheVariants as marks
+use Rattle.hwp_report_text.specs.declared.OfflineResult.TheVariants as results
+use Rattle.hwp_report_text.specs.declared.Whereabouts.TheVariants as places
+use Rattle.hwp_report_text.specs.declared.Report.{Report}
 use Rattle.hwp_law.specs.Answers.{IsNamed}
 use Rattle.hwp_law.specs.Causes.{IsCaused}
 use Rattle.hwp_law.specs.Checks.{IsFailureAct}
-use Rattle.hwp_law_commands.specs.hwp_report_text.Acts.{is_stopping}
-use Rattle.hwp_law_commands.specs.hwp_banks.Banks.{Banks, empty_banks}
-use Rattle.hwp_law_commands.specs.Commands.{arrival_of}
+use Rattle.hwp_report_text.specs.Acts.{is_stopping}
+use Rattle.hwp_report_text.specs.hwp_banks.Banks.{Banks, empty_banks}
+use Rattle.hwp_law.specs.Commands.{arrival_of}
 use Rattle.hwp_law.specs.Endings.{EndingsStay}
 use Rattle.hwp_law.specs.Entries.{IsMadeBy}
 use Rattle.hwp_law.specs.Events.{AreEventsOf, IsDamaged, MeetsMarked}

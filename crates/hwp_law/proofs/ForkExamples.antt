@@ -2,44 +2,44 @@
 -- word. The child's store copies the page to that of its twin, so the parent's word stays. Beside it, copies that meet bad lines.
 use Rattle.std.proofs.Common.{◌≡◌, ℕ, suc, zero, ◌+◌, ◌-◌, ◌==◌, ◌<◌, true, false, Bool, List, [], ◌∷◌, ◌++◌, drop, Option, Some, None, option_and_then, slice_get, if◌then◌else◌, IsBitSet, refl, sym, ap, subst, ◌∙◌, inl, inr, lit<, true≢false, arith}
 use Rattle.std.proofs.lemmas.Option.{none-some, same_Some}
-use Rattle.hwp_law_commands.specs.hwp_geom.declared.Layout.{Layout}
-use Rattle.hwp_law_commands.specs.hwp_geom.declared.Mask.{Mask}
-use Rattle.hwp_law_commands.specs.hwp_geom.declared.Page.{Page}
-use Rattle.hwp_law_commands.specs.hwp_geom.declared.PageKind.TheVariants.{Anon}
-use Rattle.hwp_law_commands.specs.hwp_geom.declared.Proc.{Proc}
-use Rattle.hwp_law_commands.specs.hwp_geom.declared.Thread.{Thread}
-use Rattle.hwp_law_commands.specs.hwp_geom.declared.ThreadDecl.{ThreadDecl}
-use Rattle.hwp_law_commands.specs.hwp_geom.declared.TransDecl.{TransDecl}
-use Rattle.hwp_law_commands.specs.hwp_geom.declared.Version.TheVariants.{Two}
-use Rattle.hwp_law_commands.specs.hwp_geom.declared.VSlot.{VSlot}
-use Rattle.hwp_law_commands.specs.hwp_kill.declared.Code.TheVariants.{Ar}
-use Rattle.hwp_law_commands.specs.hwp_kill.declared.Policy.TheVariants as policies
-use Rattle.hwp_law_commands.specs.hwp_page.declared.At.{At}
-use Rattle.hwp_law_commands.specs.hwp_page.declared.Entry.{Entry}
-use Rattle.hwp_law_commands.specs.hwp_page.declared.Met.TheVariants.{Word, Sigbus}
-use Rattle.hwp_law_commands.specs.hwp_page.declared.Outcome.TheVariants as outcomes
-use Rattle.hwp_law_commands.specs.hwp_page.declared.Situation.TheVariants as situations
-use Rattle.hwp_law_commands.specs.hwp_page.declared.What.{What}
-use Rattle.hwp_law_commands.specs.hwp_page.declared.What.TheVariants as entries
-use Rattle.hwp_law_commands.specs.hwp_script_read.declared.Command.{Command}
-use Rattle.hwp_law_commands.specs.hwp_script_read.declared.Command.TheVariants as commands
-use Rattle.hwp_law_commands.specs.hwp_script_read.declared.Script.{Script}
-use Rattle.hwp_law_commands.specs.hwp_banks.Banks.{empty_banks}
-use Rattle.hwp_law_commands.specs.hwp_report_text.declared.Acted.TheVariants as acts
-use Rattle.hwp_law_commands.specs.hwp_report_text.declared.Answer.{Answer}
-use Rattle.hwp_law_commands.specs.hwp_report_text.declared.Answer.TheVariants as answers
-use Rattle.hwp_law_commands.specs.hwp_report_text.declared.CpuLine.{CpuLine}
-use Rattle.hwp_law_commands.specs.hwp_report_text.declared.CpuLine.TheVariants as lines
-use Rattle.hwp_law_commands.specs.hwp_report_text.declared.EventLine.{EventLine}
-use Rattle.hwp_law_commands.specs.hwp_report_text.declared.FrameLine.{FrameLine}
-use Rattle.hwp_law_commands.specs.hwp_report_text.declared.How.TheVariants as hows
-use Rattle.hwp_law_commands.specs.hwp_report_text.declared.MarkLine.TheVariants as marks
-use Rattle.hwp_law_commands.specs.hwp_report_text.declared.Report.{Report}
-use Rattle.hwp_law_commands.specs.hwp_report_text.declared.Whereabouts.{Whereabouts}
-use Rattle.hwp_law_commands.specs.hwp_report_text.declared.Whereabouts.TheVariants as places
-use Rattle.hwp_law_commands.specs.Commands.{arrival_of, can_fail, can_offline, command_at, current_thread, thread_of}
-use Rattle.hwp_law_commands.specs.Cows.{cow_of}
-use Rattle.hwp_law_commands.specs.Settings.{settings}
+use Rattle.hwp_script_read.specs.hwp_geom.declared.Layout.{Layout}
+use Rattle.hwp_script_read.specs.hwp_geom.declared.Mask.{Mask}
+use Rattle.hwp_script_read.specs.hwp_geom.declared.Page.{Page}
+use Rattle.hwp_script_read.specs.hwp_geom.declared.PageKind.TheVariants.{Anon}
+use Rattle.hwp_script_read.specs.hwp_geom.declared.Proc.{Proc}
+use Rattle.hwp_script_read.specs.hwp_geom.declared.Thread.{Thread}
+use Rattle.hwp_script_read.specs.hwp_geom.declared.ThreadDecl.{ThreadDecl}
+use Rattle.hwp_script_read.specs.hwp_geom.declared.TransDecl.{TransDecl}
+use Rattle.hwp_script_read.specs.hwp_geom.declared.Version.TheVariants.{Two}
+use Rattle.hwp_script_read.specs.hwp_geom.declared.VSlot.{VSlot}
+use Rattle.hwp_report_text.specs.hwp_kill.declared.Code.TheVariants.{Ar}
+use Rattle.hwp_report_text.specs.hwp_kill.declared.Policy.TheVariants as policies
+use Rattle.hwp_report_text.specs.hwp_page.declared.At.{At}
+use Rattle.hwp_report_text.specs.hwp_page.declared.Entry.{Entry}
+use Rattle.hwp_report_text.specs.hwp_page.declared.Met.TheVariants.{Word, Sigbus}
+use Rattle.hwp_report_text.specs.hwp_page.declared.Outcome.TheVariants as outcomes
+use Rattle.hwp_report_text.specs.hwp_page.declared.Situation.TheVariants as situations
+use Rattle.hwp_report_text.specs.hwp_page.declared.What.{What}
+use Rattle.hwp_report_text.specs.hwp_page.declared.What.TheVariants as entries
+use Rattle.hwp_script_read.specs.declared.Command.{Command}
+use Rattle.hwp_script_read.specs.declared.Command.TheVariants as commands
+use Rattle.hwp_script_read.specs.declared.Script.{Script}
+use Rattle.hwp_report_text.specs.hwp_banks.Banks.{empty_banks}
+use Rattle.hwp_report_text.specs.declared.Acted.TheVariants as acts
+use Rattle.hwp_report_text.specs.declared.Answer.{Answer}
+use Rattle.hwp_report_text.specs.declared.Answer.TheVariants as answers
+use Rattle.hwp_report_text.specs.declared.CpuLine.{CpuLine}
+use Rattle.hwp_report_text.specs.declared.CpuLine.TheVariants as lines
+use Rattle.hwp_report_text.specs.declared.EventLine.{EventLine}
+use Rattle.hwp_report_text.specs.declared.FrameLine.{FrameLine}
+use Rattle.hwp_report_text.specs.declared.How.TheVariants as hows
+use Rattle.hwp_report_text.specs.declared.MarkLine.TheVariants as marks
+use Rattle.hwp_report_text.specs.declared.Report.{Report}
+use Rattle.hwp_report_text.specs.declared.Whereabouts.{Whereabouts}
+use Rattle.hwp_report_text.specs.declared.Whereabouts.TheVariants as places
+use Rattle.hwp_law.specs.Commands.{arrival_of, can_fail, can_offline, command_at, current_thread, thread_of}
+use Rattle.hwp_law.specs.Cows.{cow_of}
+use Rattle.hwp_law.specs.Settings.{settings}
 use Rattle.hwp_law.specs.Acting.{acting_script, copied_at}
 use Rattle.hwp_law.specs.Causes.{AreCaused}
 use Rattle.hwp_law.specs.Answers.{IsNamed}

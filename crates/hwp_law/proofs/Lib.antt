@@ -1,3 +1,7 @@
+pub mod NoteLaws
+pub mod CowLaws
+pub mod GuestLaws
+pub mod SettingLaws
 pub mod Rows
 pub mod ActingLaws
 pub mod ActedLaws
@@ -14,5 +18,4 @@ pub mod OfflinedLaws
 pub mod CheckRuns
 pub mod PageLocks
 pub mod Situations
-pub use Rattle.hwp_law_commands.proofs.of_hwp_page as of_hwp_page
-pub use Rattle.hwp_law_commands.proofs as of_hwp_law_commands
+pub use Rattle.hwp_report_text.proofs.of_hwp_page as of_hwp_page

@@ -1,11 +1,11 @@
 -- The collector of a processor from one of its commands to the next.
 use Rattle.std.proofs.Common.{◌≡◌, ℕ, ◌+◌, List, [], ◌∷◌, ◌++◌, length, Option, ap, ◌∙◌, arith}
-use Rattle.hwp_law_commands.specs.hwp_geom.declared.Layout.{Layout}
-use Rattle.hwp_law_commands.specs.hwp_script_read.declared.Command.{Command}
-use Rattle.hwp_law_commands.specs.hwp_report_text.declared.Answer.{Answer}
-use Rattle.hwp_law_commands.specs.hwp_report_text.declared.CpuLine.{CpuLine}
-use Rattle.hwp_law_commands.specs.Notes.{notes}
-use Rattle.hwp_law_commands.specs.Watched.{Watched, watched_after}
+use Rattle.hwp_script_read.specs.hwp_geom.declared.Layout.{Layout}
+use Rattle.hwp_script_read.specs.declared.Command.{Command}
+use Rattle.hwp_report_text.specs.declared.Answer.{Answer}
+use Rattle.hwp_report_text.specs.declared.CpuLine.{CpuLine}
+use Rattle.hwp_law.specs.Notes.{notes}
+use Rattle.hwp_law.specs.Watched.{Watched, watched_after}
 use Rattle.hwp_law.specs.Lines.{events_among}
 use Rattle.hwp_law.specs.Offlined.{watched_from}
 

@@ -1,18 +1,18 @@
 -- No entry changes whether a page is locked: it is as the layout declares it.
 use Rattle.std.proofs.Common.{◌≡◌, false, List, [], ◌∷◌, take, refl, sym, ◌∙◌}
-use Rattle.hwp_law_commands.specs.hwp_geom.declared.Layout.{Layout}
-use Rattle.hwp_law_commands.specs.hwp_geom.Layout.{is_locked}
-use Rattle.hwp_law_commands.specs.hwp_page.declared.At.{At}
-use Rattle.hwp_law_commands.specs.hwp_page.declared.Entry.{Entry}
-use Rattle.hwp_law_commands.specs.hwp_page.declared.Met.TheVariants.{Sigbus, Word}
-use Rattle.hwp_law_commands.specs.hwp_page.declared.PageState.{PageState}
-use Rattle.hwp_law_commands.specs.hwp_page.declared.Situation.{Situation}
-use Rattle.hwp_law_commands.specs.hwp_page.declared.Situation.TheVariants as situations
-use Rattle.hwp_law_commands.specs.hwp_page.declared.What.{What}
-use Rattle.hwp_law_commands.specs.hwp_page.declared.What.TheVariants as entries
-use Rattle.hwp_law_commands.specs.hwp_page.Actions.{acted}
-use Rattle.hwp_law_commands.specs.hwp_page.History.{state_after}
-use Rattle.hwp_law_commands.specs.hwp_page.Step.{after, opening_of}
+use Rattle.hwp_script_read.specs.hwp_geom.declared.Layout.{Layout}
+use Rattle.hwp_script_read.specs.hwp_geom.Layout.{is_locked}
+use Rattle.hwp_report_text.specs.hwp_page.declared.At.{At}
+use Rattle.hwp_report_text.specs.hwp_page.declared.Entry.{Entry}
+use Rattle.hwp_report_text.specs.hwp_page.declared.Met.TheVariants.{Sigbus, Word}
+use Rattle.hwp_report_text.specs.hwp_page.declared.PageState.{PageState}
+use Rattle.hwp_report_text.specs.hwp_page.declared.Situation.{Situation}
+use Rattle.hwp_report_text.specs.hwp_page.declared.Situation.TheVariants as situations
+use Rattle.hwp_report_text.specs.hwp_page.declared.What.{What}
+use Rattle.hwp_report_text.specs.hwp_page.declared.What.TheVariants as entries
+use Rattle.hwp_report_text.specs.hwp_page.Actions.{acted}
+use Rattle.hwp_report_text.specs.hwp_page.History.{state_after}
+use Rattle.hwp_report_text.specs.hwp_page.Step.{after, opening_of}
 use Rattle.hwp_law.specs.States.{HadState}
 
 acted-locked : (s : PageState) (situation : Situation) → (acted s situation).locked ≡ s.locked

@@ -1,8 +1,8 @@
 -- Equal lines of answers.
 use Rattle.std.proofs.Common.{◌≡◌, ℕ, ap}
-use Rattle.hwp_law_commands.specs.hwp_report_text.declared.Answer.{Answer}
-use Rattle.hwp_law_commands.specs.hwp_report_text.declared.CpuLine.{CpuLine}
-use Rattle.hwp_law_commands.specs.hwp_report_text.declared.CpuLine.TheVariants as lines
+use Rattle.hwp_report_text.specs.declared.Answer.{Answer}
+use Rattle.hwp_report_text.specs.declared.CpuLine.{CpuLine}
+use Rattle.hwp_report_text.specs.declared.CpuLine.TheVariants as lines
 
 pub same_answer : (m n : ℕ) (a b : Answer) → ◌≡◌ {A = CpuLine} (lines.Answer m a) (lines.Answer n b) → (m ≡ n) × (a ≡ b)
 same_answer m n a b same = (ap (number m) same, ap (answer_of a) same)

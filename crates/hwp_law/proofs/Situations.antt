@@ -1,8 +1,8 @@
 -- Situations of one number are one.
 use Rattle.std.proofs.Common.{◌≡◌, ℕ, ◌==◌, true, cond, refl, sym, ap, ◌∙◌}
 use Rattle.std.proofs.lemmas.Bool.{eqb-true}
-use Rattle.hwp_law_commands.specs.hwp_page.declared.Situation.{Situation}
-use Rattle.hwp_law_commands.specs.hwp_page.declared.Situation.TheVariants as situations
+use Rattle.hwp_report_text.specs.hwp_page.declared.Situation.{Situation}
+use Rattle.hwp_report_text.specs.hwp_page.declared.Situation.TheVariants as situations
 use Rattle.hwp_law.specs.Pairings.{situation_number}
 
 -- the situation of a number

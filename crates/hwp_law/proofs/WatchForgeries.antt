@@ -1,16 +1,16 @@
 -- What the law refuses of lines of frames taken out of use: small changes of the two reports with a collector.
 use Rattle.std.proofs.Common.{◌≡◌, ℕ, suc, zero, ◌==◌, true, false, Bool, List, [], ◌∷◌, ◌++◌, take, drop, Option, Some, None, refl, inl, inr, sym, ap, ◌∙◌, true≢false, arith}
-use Rattle.hwp_law_commands.specs.hwp_geom.declared.Frame.{Frame}
-use Rattle.hwp_law_commands.specs.hwp_page.declared.Entry.{Entry}
-use Rattle.hwp_law_commands.specs.hwp_script_read.declared.Command.TheVariants as commands
-use Rattle.hwp_law_commands.specs.hwp_script_read.declared.Script.{Script}
-use Rattle.hwp_law_commands.specs.hwp_report_text.declared.Answer.TheVariants as answers
-use Rattle.hwp_law_commands.specs.hwp_report_text.declared.CpuLine.{CpuLine}
-use Rattle.hwp_law_commands.specs.hwp_report_text.declared.CpuLine.TheVariants as lines
-use Rattle.hwp_law_commands.specs.hwp_report_text.declared.How.TheVariants as hows
-use Rattle.hwp_law_commands.specs.hwp_report_text.declared.MarkLine.TheVariants as marks
-use Rattle.hwp_law_commands.specs.hwp_report_text.declared.OfflineResult.TheVariants as results
-use Rattle.hwp_law_commands.specs.hwp_report_text.declared.Report.{Report}
+use Rattle.hwp_script_read.specs.hwp_geom.declared.Frame.{Frame}
+use Rattle.hwp_report_text.specs.hwp_page.declared.Entry.{Entry}
+use Rattle.hwp_script_read.specs.declared.Command.TheVariants as commands
+use Rattle.hwp_script_read.specs.declared.Script.{Script}
+use Rattle.hwp_report_text.specs.declared.Answer.TheVariants as answers
+use Rattle.hwp_report_text.specs.declared.CpuLine.{CpuLine}
+use Rattle.hwp_report_text.specs.declared.CpuLine.TheVariants as lines
+use Rattle.hwp_report_text.specs.declared.How.TheVariants as hows
+use Rattle.hwp_report_text.specs.declared.MarkLine.TheVariants as marks
+use Rattle.hwp_report_text.specs.declared.OfflineResult.TheVariants as results
+use Rattle.hwp_report_text.specs.declared.Report.{Report}
 use Rattle.hwp_law.specs.Answers.{named_frames}
 use Rattle.hwp_law.specs.Causes.{AreCaused}
 use Rattle.hwp_law.specs.Entries.{IsMadeBy}

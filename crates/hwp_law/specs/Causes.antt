@@ -1,45 +1,45 @@
 -- What stands in a report for each answer.
 use Rattle.std.specs.Prelude.{◌≡◌, ◌≢◌, ℕ, ◌+◌, ◌<◌, true, false, List, [], ◌∷◌, Some, length, bit_and, IsSome, IsSomeAnd, Any}
 use Rattle.std.specs.List.{list_any}
-use Rattle.hwp_law_commands.specs.hwp_geom.Layout.{is_locked}
-use Rattle.hwp_law_commands.specs.hwp_geom.declared.Cpu.{Cpu}
-use Rattle.hwp_law_commands.specs.hwp_geom.declared.Frame.{Frame}
-use Rattle.hwp_law_commands.specs.hwp_geom.declared.Mask.{Mask}
-use Rattle.hwp_law_commands.specs.hwp_geom.declared.Page.{Page}
-use Rattle.hwp_law_commands.specs.hwp_geom.declared.Thread.{Thread}
-use Rattle.hwp_law_commands.specs.hwp_geom.declared.Who.{Who}
-use Rattle.hwp_law_commands.specs.hwp_kill.declared.Code.TheVariants.{Ar}
-use Rattle.hwp_law_commands.specs.hwp_kill.declared.Signal.{Signal}
-use Rattle.hwp_law_commands.specs.hwp_kill.Prctl.{reply}
-use Rattle.hwp_law_commands.specs.hwp_page.declared.At.{At}
-use Rattle.hwp_law_commands.specs.hwp_page.declared.Entry.{Entry}
-use Rattle.hwp_law_commands.specs.hwp_page.declared.Met.TheVariants.{Sigbus}
-use Rattle.hwp_law_commands.specs.hwp_page.declared.Outcome.{Outcome}
-use Rattle.hwp_law_commands.specs.hwp_page.declared.Outcome.TheVariants as outcomes
-use Rattle.hwp_law_commands.specs.hwp_page.declared.What.{What}
-use Rattle.hwp_law_commands.specs.hwp_page.declared.What.TheVariants as entries
-use Rattle.hwp_law_commands.specs.hwp_page.Orders.{IsNotLater}
-use Rattle.hwp_law_commands.specs.hwp_script_read.declared.Command.{Command}
-use Rattle.hwp_law_commands.specs.hwp_script_read.declared.Command.TheVariants as commands
-use Rattle.hwp_law_commands.specs.hwp_script_read.declared.Script.{Script}
-use Rattle.hwp_law_commands.specs.hwp_report_text.declared.Answer.{Answer}
-use Rattle.hwp_law_commands.specs.hwp_report_text.declared.Answer.TheVariants as answers
-use Rattle.hwp_law_commands.specs.hwp_report_text.declared.CpuLine.{CpuLine}
-use Rattle.hwp_law_commands.specs.hwp_report_text.declared.CpuLine.TheVariants as lines
-use Rattle.hwp_law_commands.specs.hwp_report_text.declared.FrameLine.{FrameLine}
-use Rattle.hwp_law_commands.specs.hwp_report_text.declared.How.{How}
-use Rattle.hwp_law_commands.specs.hwp_report_text.declared.How.TheVariants as hows
-use Rattle.hwp_law_commands.specs.hwp_report_text.declared.MarkLine.{MarkLine}
-use Rattle.hwp_law_commands.specs.hwp_report_text.declared.MarkLine.TheVariants as marks
-use Rattle.hwp_law_commands.specs.hwp_report_text.declared.Report.{Report}
-use Rattle.hwp_law_commands.specs.Outcomes.{reply_answer}
+use Rattle.hwp_script_read.specs.hwp_geom.Layout.{is_locked}
+use Rattle.hwp_script_read.specs.hwp_geom.declared.Cpu.{Cpu}
+use Rattle.hwp_script_read.specs.hwp_geom.declared.Frame.{Frame}
+use Rattle.hwp_script_read.specs.hwp_geom.declared.Mask.{Mask}
+use Rattle.hwp_script_read.specs.hwp_geom.declared.Page.{Page}
+use Rattle.hwp_script_read.specs.hwp_geom.declared.Thread.{Thread}
+use Rattle.hwp_script_read.specs.hwp_geom.declared.Who.{Who}
+use Rattle.hwp_report_text.specs.hwp_kill.declared.Code.TheVariants.{Ar}
+use Rattle.hwp_report_text.specs.hwp_kill.declared.Signal.{Signal}
+use Rattle.hwp_report_text.specs.hwp_kill.Prctl.{reply}
+use Rattle.hwp_report_text.specs.hwp_page.declared.At.{At}
+use Rattle.hwp_report_text.specs.hwp_page.declared.Entry.{Entry}
+use Rattle.hwp_report_text.specs.hwp_page.declared.Met.TheVariants.{Sigbus}
+use Rattle.hwp_report_text.specs.hwp_page.declared.Outcome.{Outcome}
+use Rattle.hwp_report_text.specs.hwp_page.declared.Outcome.TheVariants as outcomes
+use Rattle.hwp_report_text.specs.hwp_page.declared.What.{What}
+use Rattle.hwp_report_text.specs.hwp_page.declared.What.TheVariants as entries
+use Rattle.hwp_report_text.specs.hwp_page.Orders.{IsNotLater}
+use Rattle.hwp_script_read.specs.declared.Command.{Command}
+use Rattle.hwp_script_read.specs.declared.Command.TheVariants as commands
+use Rattle.hwp_script_read.specs.declared.Script.{Script}
+use Rattle.hwp_report_text.specs.declared.Answer.{Answer}
+use Rattle.hwp_report_text.specs.declared.Answer.TheVariants as answers
+use Rattle.hwp_report_text.specs.declared.CpuLine.{CpuLine}
+use Rattle.hwp_report_text.specs.declared.CpuLine.TheVariants as lines
+use Rattle.hwp_report_text.specs.declared.FrameLine.{FrameLine}
+use Rattle.hwp_report_text.specs.declared.How.{How}
+use Rattle.hwp_report_text.specs.declared.How.TheVariants as hows
+use Rattle.hwp_report_text.specs.declared.MarkLine.{MarkLine}
+use Rattle.hwp_report_text.specs.declared.MarkLine.TheVariants as marks
+use Rattle.hwp_report_text.specs.declared.Report.{Report}
+use Rattle.hwp_law.specs.Outcomes.{reply_answer}
 use Rattle.hwp_law.specs.Answers.{IsAnswer, StandsAt, is_ample}
-use Rattle.hwp_law_commands.specs.Commands.{current_thread, is_kernels}
-use Rattle.hwp_law_commands.specs.Notes.{ends_machine}
+use Rattle.hwp_law.specs.Commands.{current_thread, is_kernels}
+use Rattle.hwp_law.specs.Notes.{ends_machine}
 use Rattle.hwp_law.specs.Endings.{IsGone}
 use Rattle.hwp_law.specs.Lines.{bad_lines_of, events_of, marks_of}
 use Rattle.hwp_law.specs.Places.{entry_at}
-use Rattle.hwp_law_commands.specs.Settings.{arguments}
+use Rattle.hwp_law.specs.Settings.{arguments}
 use Rattle.hwp_law.specs.Policies.{policy_before}
 use Rattle.hwp_law.specs.Records.{WasPoisoned, how_in, is_by_hardware, outcome_in, who_in}
 use Rattle.hwp_law.specs.States.{HadState}

@@ -1,21 +1,21 @@
 -- The event lines of one machine check.
 use Rattle.std.specs.Prelude.{◌≡◌, ◌⊎◌, ℕ, nat_le, Bool, true, not, ◌||◌, List, [], ◌∷◌, None, MatchBool, Contains}
-use Rattle.hwp_law_commands.specs.hwp_geom.declared.Who.{Who}
-use Rattle.hwp_law_commands.specs.hwp_banks.declared.Event.{Event}
-use Rattle.hwp_law_commands.specs.hwp_banks.Addresses.{frame_at}
-use Rattle.hwp_law_commands.specs.hwp_severity.declared.Severity.{Severity}
-use Rattle.hwp_law_commands.specs.hwp_severity.declared.Severity.TheVariants as severities
-use Rattle.hwp_law_commands.specs.hwp_severity.Graded.{graded}
-use Rattle.hwp_law_commands.specs.hwp_script_read.declared.Script.{Script}
-use Rattle.hwp_law_commands.specs.hwp_report_text.declared.Acted.{Acted}
-use Rattle.hwp_law_commands.specs.hwp_report_text.declared.Acted.TheVariants as acts
-use Rattle.hwp_law_commands.specs.hwp_report_text.declared.EventLine.{EventLine}
-use Rattle.hwp_law_commands.specs.hwp_report_text.declared.MarkLine.{MarkLine}
-use Rattle.hwp_law_commands.specs.hwp_report_text.declared.Report.{Report}
-use Rattle.hwp_law_commands.specs.hwp_banks.Banks.{Banks, held_from}
-use Rattle.hwp_law_commands.specs.hwp_report_text.Acts.{is_panic}
-use Rattle.hwp_law_commands.specs.hwp_severity.declared.Arrival.{Arrival}
-use Rattle.hwp_law_commands.specs.hwp_severity.Handling.{has_stop, severity_of}
+use Rattle.hwp_script_read.specs.hwp_geom.declared.Who.{Who}
+use Rattle.hwp_report_text.specs.hwp_banks.declared.Event.{Event}
+use Rattle.hwp_report_text.specs.hwp_banks.Addresses.{frame_at}
+use Rattle.hwp_report_text.specs.hwp_severity.declared.Severity.{Severity}
+use Rattle.hwp_report_text.specs.hwp_severity.declared.Severity.TheVariants as severities
+use Rattle.hwp_report_text.specs.hwp_severity.Graded.{graded}
+use Rattle.hwp_script_read.specs.declared.Script.{Script}
+use Rattle.hwp_report_text.specs.declared.Acted.{Acted}
+use Rattle.hwp_report_text.specs.declared.Acted.TheVariants as acts
+use Rattle.hwp_report_text.specs.declared.EventLine.{EventLine}
+use Rattle.hwp_report_text.specs.declared.MarkLine.{MarkLine}
+use Rattle.hwp_report_text.specs.declared.Report.{Report}
+use Rattle.hwp_report_text.specs.hwp_banks.Banks.{Banks, held_from}
+use Rattle.hwp_report_text.specs.Acts.{is_panic}
+use Rattle.hwp_report_text.specs.hwp_severity.declared.Arrival.{Arrival}
+use Rattle.hwp_report_text.specs.hwp_severity.Handling.{has_stop, severity_of}
 use Rattle.hwp_law.specs.Lines.{marks_of}
 use Rattle.hwp_law.specs.Records.{WasPoisoned, hardware_marks, mark_results}
 

@@ -1,27 +1,27 @@
 -- The events of a processor along its commands, what they leave in its banks, and the event lines that tell them.
 use Rattle.std.specs.Prelude.{◌≡◌, ℕ, zero, suc, ◌+◌, ◌-◌, ◌≤◌, Bool, true, false, List, [], ◌∷◌, ◌++◌, Option, Some, None, replicate, slice_get, slice_set, IsBitSet, IsSomeAnd, MatchBool}
-use Rattle.hwp_law_commands.specs.hwp_geom.declared.Cpu.{Cpu}
-use Rattle.hwp_law_commands.specs.hwp_geom.declared.Frame.{Frame}
-use Rattle.hwp_law_commands.specs.hwp_geom.declared.Layout.{Layout}
-use Rattle.hwp_law_commands.specs.hwp_geom.declared.VSlot.{VSlot}
-use Rattle.hwp_law_commands.specs.hwp_geom.declared.Who.{Who}
-use Rattle.hwp_law_commands.specs.hwp_banks.declared.Event.{Event}
-use Rattle.hwp_law_commands.specs.hwp_banks.declared.Origin.{Origin}
-use Rattle.hwp_law_commands.specs.hwp_banks.declared.Origin.TheVariants as origins
-use Rattle.hwp_law_commands.specs.hwp_banks.Events.{bank_of, own_event}
-use Rattle.hwp_law_commands.specs.hwp_page.Orders.{IsEarlier}
-use Rattle.hwp_law_commands.specs.hwp_script_read.declared.Command.{Command}
-use Rattle.hwp_law_commands.specs.hwp_script_read.declared.Command.TheVariants as commands
-use Rattle.hwp_law_commands.specs.hwp_script_read.declared.Script.{Script}
-use Rattle.hwp_law_commands.specs.hwp_report_text.declared.Answer.{Answer}
-use Rattle.hwp_law_commands.specs.hwp_report_text.declared.Answer.TheVariants as answers
-use Rattle.hwp_law_commands.specs.hwp_report_text.declared.EventLine.{EventLine}
-use Rattle.hwp_law_commands.specs.hwp_report_text.declared.Report.{Report}
-use Rattle.hwp_law_commands.specs.hwp_banks.Banks.{Banks, empty_banks, log_in, raw_bank, raw_event}
+use Rattle.hwp_script_read.specs.hwp_geom.declared.Cpu.{Cpu}
+use Rattle.hwp_script_read.specs.hwp_geom.declared.Frame.{Frame}
+use Rattle.hwp_script_read.specs.hwp_geom.declared.Layout.{Layout}
+use Rattle.hwp_script_read.specs.hwp_geom.declared.VSlot.{VSlot}
+use Rattle.hwp_script_read.specs.hwp_geom.declared.Who.{Who}
+use Rattle.hwp_report_text.specs.hwp_banks.declared.Event.{Event}
+use Rattle.hwp_report_text.specs.hwp_banks.declared.Origin.{Origin}
+use Rattle.hwp_report_text.specs.hwp_banks.declared.Origin.TheVariants as origins
+use Rattle.hwp_report_text.specs.hwp_banks.Events.{bank_of, own_event}
+use Rattle.hwp_report_text.specs.hwp_page.Orders.{IsEarlier}
+use Rattle.hwp_script_read.specs.declared.Command.{Command}
+use Rattle.hwp_script_read.specs.declared.Command.TheVariants as commands
+use Rattle.hwp_script_read.specs.declared.Script.{Script}
+use Rattle.hwp_report_text.specs.declared.Answer.{Answer}
+use Rattle.hwp_report_text.specs.declared.Answer.TheVariants as answers
+use Rattle.hwp_report_text.specs.declared.EventLine.{EventLine}
+use Rattle.hwp_report_text.specs.declared.Report.{Report}
+use Rattle.hwp_report_text.specs.hwp_banks.Banks.{Banks, empty_banks, log_in, raw_bank, raw_event}
 use Rattle.hwp_law.specs.Checks.{AreLinesOf, IsCheck}
 use Rattle.hwp_law.specs.Copies.{copy_checks}
-use Rattle.hwp_law_commands.specs.hwp_severity.declared.Arrival.{Arrival}
-use Rattle.hwp_law_commands.specs.Commands.{arrival_of, command_at, is_check}
+use Rattle.hwp_report_text.specs.hwp_severity.declared.Arrival.{Arrival}
+use Rattle.hwp_law.specs.Commands.{arrival_of, command_at, is_check}
 use Rattle.hwp_law.specs.Lines.{answer_of, bad_lines_of, events_of, weak_lines_of}
 use Rattle.hwp_law.specs.Pairings.{entries_of}
 

@@ -1,18 +1,18 @@
 -- The lines of frames: where each is, which of its lines are marked, and how many are poisoned.
 use Rattle.std.specs.Prelude.{◌≡◌, ◌↔◌, ℕ, ◌<◌, Bool, true, false, List, Some, length, count_by, IsBitSet}
-use Rattle.hwp_law_commands.specs.hwp_geom.declared.Frame.{Frame}
-use Rattle.hwp_law_commands.specs.hwp_geom.declared.Layout.{Layout}
-use Rattle.hwp_law_commands.specs.hwp_geom.declared.Who.{Who}
-use Rattle.hwp_law_commands.specs.hwp_script_read.declared.Command.{Command}
-use Rattle.hwp_law_commands.specs.hwp_script_read.declared.Command.TheVariants as commands
-use Rattle.hwp_law_commands.specs.hwp_script_read.declared.Script.{Script}
-use Rattle.hwp_law_commands.specs.hwp_report_text.declared.Answer.TheVariants as answers
-use Rattle.hwp_law_commands.specs.hwp_report_text.declared.FrameLine.{FrameLine}
-use Rattle.hwp_law_commands.specs.hwp_report_text.declared.Whereabouts.{Whereabouts}
-use Rattle.hwp_law_commands.specs.hwp_report_text.declared.Whereabouts.TheVariants as places
-use Rattle.hwp_law_commands.specs.hwp_report_text.declared.Report.{Report}
+use Rattle.hwp_script_read.specs.hwp_geom.declared.Frame.{Frame}
+use Rattle.hwp_script_read.specs.hwp_geom.declared.Layout.{Layout}
+use Rattle.hwp_script_read.specs.hwp_geom.declared.Who.{Who}
+use Rattle.hwp_script_read.specs.declared.Command.{Command}
+use Rattle.hwp_script_read.specs.declared.Command.TheVariants as commands
+use Rattle.hwp_script_read.specs.declared.Script.{Script}
+use Rattle.hwp_report_text.specs.declared.Answer.TheVariants as answers
+use Rattle.hwp_report_text.specs.declared.FrameLine.{FrameLine}
+use Rattle.hwp_report_text.specs.declared.Whereabouts.{Whereabouts}
+use Rattle.hwp_report_text.specs.declared.Whereabouts.TheVariants as places
+use Rattle.hwp_report_text.specs.declared.Report.{Report}
 use Rattle.hwp_law.specs.Lines.{answer_of}
-use Rattle.hwp_law_commands.specs.Commands.{command_at}
+use Rattle.hwp_law.specs.Commands.{command_at}
 use Rattle.hwp_law.specs.Records.{IsFrameRecord, ends_poisoned}
 
 -- a frame's place fits the layout and its record: `kernel` is by the layout, and `handled` exactly where another frame is

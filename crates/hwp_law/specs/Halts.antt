@@ -1,22 +1,22 @@
 -- When the stop record of a report fits its lines and answers.
 use Rattle.std.specs.Prelude.{◌≡◌, ℕ, ◌==◌, ◌&&◌, nat_lt, Bool, true, false, List, Some, IsSomeAnd, slice_get, take}
 use Rattle.std.specs.List.{list_any}
-use Rattle.hwp_law_commands.specs.hwp_geom.declared.Cpu.{Cpu}
-use Rattle.hwp_law_commands.specs.hwp_geom.declared.Frame.{Frame}
-use Rattle.hwp_law_commands.specs.hwp_geom.declared.Who.{Who}
-use Rattle.hwp_law_commands.specs.hwp_banks.Addresses.{frame_at}
-use Rattle.hwp_law_commands.specs.hwp_script_read.declared.Command.{Command}
-use Rattle.hwp_law_commands.specs.hwp_script_read.declared.Command.TheVariants as commands
-use Rattle.hwp_law_commands.specs.hwp_script_read.declared.Script.{Script}
-use Rattle.hwp_law_commands.specs.hwp_report_text.declared.Answer.TheVariants as answers
-use Rattle.hwp_law_commands.specs.hwp_report_text.declared.CpuLine.{CpuLine}
-use Rattle.hwp_law_commands.specs.hwp_report_text.declared.EventLine.{EventLine}
-use Rattle.hwp_law_commands.specs.hwp_report_text.declared.Report.{Report}
-use Rattle.hwp_law_commands.specs.hwp_report_text.declared.Stop.{Stop}
-use Rattle.hwp_law_commands.specs.hwp_report_text.declared.StopCause.{StopCause}
-use Rattle.hwp_law_commands.specs.hwp_report_text.declared.StopCause.TheVariants as causes
-use Rattle.hwp_law_commands.specs.hwp_report_text.Acts.{is_panic, is_stopping}
-use Rattle.hwp_law_commands.specs.Commands.{arrival_of, command_at}
+use Rattle.hwp_script_read.specs.hwp_geom.declared.Cpu.{Cpu}
+use Rattle.hwp_script_read.specs.hwp_geom.declared.Frame.{Frame}
+use Rattle.hwp_script_read.specs.hwp_geom.declared.Who.{Who}
+use Rattle.hwp_report_text.specs.hwp_banks.Addresses.{frame_at}
+use Rattle.hwp_script_read.specs.declared.Command.{Command}
+use Rattle.hwp_script_read.specs.declared.Command.TheVariants as commands
+use Rattle.hwp_script_read.specs.declared.Script.{Script}
+use Rattle.hwp_report_text.specs.declared.Answer.TheVariants as answers
+use Rattle.hwp_report_text.specs.declared.CpuLine.{CpuLine}
+use Rattle.hwp_report_text.specs.declared.EventLine.{EventLine}
+use Rattle.hwp_report_text.specs.declared.Report.{Report}
+use Rattle.hwp_report_text.specs.declared.Stop.{Stop}
+use Rattle.hwp_report_text.specs.declared.StopCause.{StopCause}
+use Rattle.hwp_report_text.specs.declared.StopCause.TheVariants as causes
+use Rattle.hwp_report_text.specs.Acts.{is_panic, is_stopping}
+use Rattle.hwp_law.specs.Commands.{arrival_of, command_at}
 use Rattle.hwp_law.specs.Lines.{answer_of, events_of}
 use Rattle.hwp_law.specs.Stops.{IsCause, StaysStopped}
 

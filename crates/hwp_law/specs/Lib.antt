@@ -1,3 +1,10 @@
+pub mod Commands
+pub mod Settings
+pub mod Cows
+pub mod GuestRule
+pub mod Outcomes
+pub mod Notes
+pub mod Watched
 pub mod Places
 pub mod History
 pub mod Policies
@@ -24,13 +31,13 @@ pub mod Private
 pub mod Guests
 pub mod Offlined
 pub mod Law
-pub use Rattle.hwp_law_commands.specs.hwp_banks as hwp_banks
-pub use Rattle.hwp_law_commands.specs.hwp_cec as hwp_cec
-pub use Rattle.hwp_law_commands.specs.hwp_geom as hwp_geom
-pub use Rattle.hwp_law_commands.specs.hwp_kill as hwp_kill
-pub use Rattle.hwp_law_commands.specs as hwp_law_commands
-pub use Rattle.hwp_law_commands.specs.hwp_page as hwp_page
-pub use Rattle.hwp_law_commands.specs.hwp_report_text as hwp_report_text
-pub use Rattle.hwp_law_commands.specs.hwp_script_lines as hwp_script_lines
-pub use Rattle.hwp_law_commands.specs.hwp_script_read as hwp_script_read
-pub use Rattle.hwp_law_commands.specs.hwp_severity as hwp_severity
+pub use Rattle.hwp_report_text.specs.hwp_banks as hwp_banks
+pub use Rattle.hwp_script_read.specs.hwp_script_lines.hwp_cec as hwp_cec
+pub use Rattle.hwp_script_read.specs.hwp_geom as hwp_geom
+pub use Rattle.hwp_report_text.specs.hwp_guest as hwp_guest
+pub use Rattle.hwp_report_text.specs.hwp_kill as hwp_kill
+pub use Rattle.hwp_report_text.specs.hwp_page as hwp_page
+pub use Rattle.hwp_report_text.specs as hwp_report_text
+pub use Rattle.hwp_script_read.specs.hwp_script_lines as hwp_script_lines
+pub use Rattle.hwp_script_read.specs as hwp_script_read
+pub use Rattle.hwp_report_text.specs.hwp_severity as hwp_severity

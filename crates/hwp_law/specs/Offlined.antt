@@ -1,19 +1,19 @@
 -- The frames that a command takes out of use beside its answer: which of them, and what came of each.
 use Rattle.std.specs.Prelude.{◌≡◌, ℕ, ◌+◌, List, [], ◌∷◌, Option, None, All, map, IsSome}
-use Rattle.hwp_law_commands.specs.hwp_geom.declared.Frame.{Frame}
-use Rattle.hwp_law_commands.specs.hwp_geom.declared.Layout.{Layout}
-use Rattle.hwp_law_commands.specs.hwp_geom.declared.Who.{Who}
-use Rattle.hwp_law_commands.specs.hwp_script_read.declared.Command.{Command}
-use Rattle.hwp_law_commands.specs.hwp_script_read.declared.Script.{Script}
-use Rattle.hwp_law_commands.specs.hwp_report_text.Offlines.{offline_answer}
-use Rattle.hwp_law_commands.specs.hwp_report_text.declared.Answer.{Answer}
-use Rattle.hwp_law_commands.specs.hwp_report_text.declared.CpuLine.{CpuLine}
-use Rattle.hwp_law_commands.specs.hwp_report_text.declared.OfflinedLine.{OfflinedLine}
-use Rattle.hwp_law_commands.specs.hwp_report_text.declared.OfflineResult.{OfflineResult}
-use Rattle.hwp_law_commands.specs.hwp_report_text.declared.OfflineResult.TheVariants as results
-use Rattle.hwp_law_commands.specs.hwp_report_text.declared.Report.{Report}
-use Rattle.hwp_law_commands.specs.Notes.{notes}
-use Rattle.hwp_law_commands.specs.Watched.{Watched, due, watched_after}
+use Rattle.hwp_script_read.specs.hwp_geom.declared.Frame.{Frame}
+use Rattle.hwp_script_read.specs.hwp_geom.declared.Layout.{Layout}
+use Rattle.hwp_script_read.specs.hwp_geom.declared.Who.{Who}
+use Rattle.hwp_script_read.specs.declared.Command.{Command}
+use Rattle.hwp_script_read.specs.declared.Script.{Script}
+use Rattle.hwp_report_text.specs.Offlines.{offline_answer}
+use Rattle.hwp_report_text.specs.declared.Answer.{Answer}
+use Rattle.hwp_report_text.specs.declared.CpuLine.{CpuLine}
+use Rattle.hwp_report_text.specs.declared.OfflinedLine.{OfflinedLine}
+use Rattle.hwp_report_text.specs.declared.OfflineResult.{OfflineResult}
+use Rattle.hwp_report_text.specs.declared.OfflineResult.TheVariants as results
+use Rattle.hwp_report_text.specs.declared.Report.{Report}
+use Rattle.hwp_law.specs.Notes.{notes}
+use Rattle.hwp_law.specs.Watched.{Watched, due, watched_after}
 use Rattle.hwp_law.specs.Causes.{IsOfflineAnswer}
 use Rattle.hwp_law.specs.Lines.{events_among, events_of, offlined_of, rows_of}
 use Rattle.hwp_law.specs.Policies.{answered_before}

@@ -1,13 +1,13 @@
 -- When the history of a page is that of a state, and one frame says where the page is.
 use Rattle.std.specs.Prelude.{◌≡◌, Bool, false, cond, ◌==◌, List, count_by}
-use Rattle.hwp_law_commands.specs.hwp_geom.declared.Layout.{Layout}
-use Rattle.hwp_law_commands.specs.hwp_geom.declared.Page.{Page}
-use Rattle.hwp_law_commands.specs.hwp_page.declared.Entry.{Entry}
-use Rattle.hwp_law_commands.specs.hwp_page.declared.PageState.{PageState}
-use Rattle.hwp_law_commands.specs.hwp_page.History.{IsReplay}
-use Rattle.hwp_law_commands.specs.hwp_report_text.declared.FrameLine.{FrameLine}
-use Rattle.hwp_law_commands.specs.hwp_report_text.declared.Whereabouts.{Whereabouts}
-use Rattle.hwp_law_commands.specs.hwp_report_text.declared.Whereabouts.TheVariants as places
+use Rattle.hwp_script_read.specs.hwp_geom.declared.Layout.{Layout}
+use Rattle.hwp_script_read.specs.hwp_geom.declared.Page.{Page}
+use Rattle.hwp_report_text.specs.hwp_page.declared.Entry.{Entry}
+use Rattle.hwp_report_text.specs.hwp_page.declared.PageState.{PageState}
+use Rattle.hwp_report_text.specs.hwp_page.History.{IsReplay}
+use Rattle.hwp_report_text.specs.declared.FrameLine.{FrameLine}
+use Rattle.hwp_report_text.specs.declared.Whereabouts.{Whereabouts}
+use Rattle.hwp_report_text.specs.declared.Whereabouts.TheVariants as places
 
 -- the place is this page's
 abbrev pub is_of : Page → Whereabouts → Bool

@@ -1,29 +1,29 @@
 -- The records of frames: how often each was poisoned and unpoisoned, by which command, and what each mark has beside it.
 use Rattle.std.specs.Prelude.{◌≡◌, ℕ, ◌/◌, ◌%◌, ◌<◌, ◌≤◌, ◌==◌, ◌&&◌, not, Bool, true, false, List, Option, Some, None, is_some, fold, length, take, filter, filter_map, slice_get}
-use Rattle.hwp_law_commands.specs.hwp_geom.declared.Frame.{Frame}
-use Rattle.hwp_law_commands.specs.hwp_geom.declared.Who.{Who}
-use Rattle.hwp_law_commands.specs.hwp_banks.Addresses.{frame_at}
-use Rattle.hwp_law_commands.specs.hwp_page.declared.Outcome.{Outcome}
-use Rattle.hwp_law_commands.specs.hwp_page.declared.Outcome.TheVariants as outcomes
-use Rattle.hwp_law_commands.specs.hwp_page.declared.Situation.{Situation}
-use Rattle.hwp_law_commands.specs.hwp_page.declared.Situation.TheVariants as situations
-use Rattle.hwp_law_commands.specs.hwp_page.Orders.{IsEarlier}
-use Rattle.hwp_law_commands.specs.hwp_page.Situations.{outcome_of}
-use Rattle.hwp_law_commands.specs.hwp_script_read.declared.Command.TheVariants as commands
-use Rattle.hwp_law_commands.specs.hwp_script_read.declared.Script.{Script}
-use Rattle.hwp_law_commands.specs.hwp_report_text.declared.Acted.{Acted}
-use Rattle.hwp_law_commands.specs.hwp_report_text.declared.Acted.TheVariants as acts
-use Rattle.hwp_law_commands.specs.hwp_report_text.declared.Answer.{Answer}
-use Rattle.hwp_law_commands.specs.hwp_report_text.declared.Answer.TheVariants as answers
-use Rattle.hwp_law_commands.specs.hwp_report_text.declared.EventLine.{EventLine}
-use Rattle.hwp_law_commands.specs.hwp_report_text.declared.How.{How}
-use Rattle.hwp_law_commands.specs.hwp_report_text.declared.How.TheVariants as hows
-use Rattle.hwp_law_commands.specs.hwp_report_text.declared.MarkLine.{MarkLine}
-use Rattle.hwp_law_commands.specs.hwp_report_text.declared.MarkLine.TheVariants as marks
-use Rattle.hwp_law_commands.specs.hwp_report_text.declared.Report.{Report}
+use Rattle.hwp_script_read.specs.hwp_geom.declared.Frame.{Frame}
+use Rattle.hwp_script_read.specs.hwp_geom.declared.Who.{Who}
+use Rattle.hwp_report_text.specs.hwp_banks.Addresses.{frame_at}
+use Rattle.hwp_report_text.specs.hwp_page.declared.Outcome.{Outcome}
+use Rattle.hwp_report_text.specs.hwp_page.declared.Outcome.TheVariants as outcomes
+use Rattle.hwp_report_text.specs.hwp_page.declared.Situation.{Situation}
+use Rattle.hwp_report_text.specs.hwp_page.declared.Situation.TheVariants as situations
+use Rattle.hwp_report_text.specs.hwp_page.Orders.{IsEarlier}
+use Rattle.hwp_report_text.specs.hwp_page.Situations.{outcome_of}
+use Rattle.hwp_script_read.specs.declared.Command.TheVariants as commands
+use Rattle.hwp_script_read.specs.declared.Script.{Script}
+use Rattle.hwp_report_text.specs.declared.Acted.{Acted}
+use Rattle.hwp_report_text.specs.declared.Acted.TheVariants as acts
+use Rattle.hwp_report_text.specs.declared.Answer.{Answer}
+use Rattle.hwp_report_text.specs.declared.Answer.TheVariants as answers
+use Rattle.hwp_report_text.specs.declared.EventLine.{EventLine}
+use Rattle.hwp_report_text.specs.declared.How.{How}
+use Rattle.hwp_report_text.specs.declared.How.TheVariants as hows
+use Rattle.hwp_report_text.specs.declared.MarkLine.{MarkLine}
+use Rattle.hwp_report_text.specs.declared.MarkLine.TheVariants as marks
+use Rattle.hwp_report_text.specs.declared.Report.{Report}
 use Rattle.hwp_law.specs.Lines.{answer_of, events_of, is_same_command, marks_of}
-use Rattle.hwp_law_commands.specs.Outcomes.{outcome_act, outcome_answer}
-use Rattle.hwp_law_commands.specs.Commands.{command_at}
+use Rattle.hwp_law.specs.Outcomes.{outcome_act, outcome_answer}
+use Rattle.hwp_law.specs.Commands.{command_at}
 
 -- what a mark says
 abbrev pub is_poisoning : MarkLine → Bool

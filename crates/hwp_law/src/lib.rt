@@ -1,13 +1,20 @@
-//! The report law: what must hold between a fault script and a report of its run. This crate has definitions
-//! alone, and lemmas on how a report grows; the crates above cite them in their contracts.
+//! The report law: what must hold between a fault script and a report of its run; and below it what a command is apart from any
+//! report, as the tasks of commands cite it too: its access, its thread and process, how its machine checks arrive, which policies it
+//! sets, and what it tells the collector of corrected errors. All but `guest_access`, which a processor and the checker call, is
+//! definitions and lemmas, which the crates above cite in their contracts.
 #![tactic(auto)]
 
-pub use hwp_law_commands::{
-    Access, Acted, Admit, Answer, Arrival, At, Code, Command, Cpu, CpuLine, Decision, Entry,
-    EventLine, FileNo, Frame, FrameLine, Grade, GuestAccess, GuestLine, How, Layout, Line, List,
-    MAX_SCRIPT, MarkLine, Mask, McgBits, Met, Mode, OfflineResult, OfflinedLine, OutOfMemory,
-    Outcome, Page, PageKind, PageState, Policy, PrctlArgs, Proc, ReadScript, Reply, Report, Script,
-    Seen, Severity, Signal, Situation, Slots, Stop, StopCause, Text, Thread, ThreadDecl, VSlot,
-    Version, What, Whereabouts, Who, grade, guest_access, handle, is_text, kind_name, policy_word,
-    prctl, print, read, read_number, words_in,
+mod guests;
+
+pub use guests::{GuestAccess, guest_access};
+pub use hwp_report_text::{
+    Access, Acted, Admit, Answer, Arrival, At, Code, CpuLine, Decision, Entry, EventLine,
+    FrameLine, Grade, Guest, GuestLine, How, MarkLine, McgBits, Met, OfflineResult, OfflinedLine,
+    Outcome, PageState, Policy, Reply, Report, Seen, Severity, Signal, Situation, Slots, Stop,
+    StopCause, Taken, Version, What, Whereabouts, grade, handle, policy_word, prctl, print,
+};
+pub use hwp_script_read::{
+    Collector, Command, Cpu, FileNo, Frame, Layout, Line, List, MAX_SCRIPT, Mask, Mode, Noted,
+    OutOfMemory, Page, PageKind, PrctlArgs, Proc, ReadScript, Script, Text, Thread, ThreadDecl,
+    VSlot, Who, is_text, kind_name, read, read_number, words_in,
 };

@@ -19,7 +19,7 @@ use Rattle.hwp_law.specs.hwp_report_text.declared.Answer.TheVariants as answers
 use Rattle.hwp_law.specs.hwp_report_text.declared.EventLine.{EventLine}
 use Rattle.hwp_law.specs.hwp_report_text.declared.Report.{Report}
 use Rattle.hwp_law.specs.Lines.{answer_of, events_of}
-use Rattle.hwp_law.specs.hwp_law_commands.Commands.{command_at}
+use Rattle.hwp_law.specs.Commands.{command_at}
 use Rattle.hwp_law_run.specs.Turns.{Finds}
 
 -- the line tells the scrubber's event at this line of a frame

@@ -34,7 +34,7 @@ use Rattle.hwp_law.specs.hwp_report_text.declared.EventLine.{EventLine}
 use Rattle.hwp_law.specs.hwp_report_text.declared.OfflinedLine.{OfflinedLine}
 use Rattle.hwp_law.specs.hwp_report_text.declared.Report.{Report}
 use Rattle.hwp_law.specs.hwp_report_text.Offlines.{offline_answer}
-use Rattle.hwp_law.specs.hwp_law_commands.Commands.{command_at, process_at}
+use Rattle.hwp_law.specs.Commands.{command_at, process_at}
 use Rattle.hwp_law.specs.Lines.{answer_of, answered, events_of, offlined_of}
 use Rattle.hwp_law.specs.Losses.{numbers_after, tells_number}
 use Rattle.hwp_law.specs.Runs.{slot_ended}

@@ -25,7 +25,7 @@ use Rattle.hwp_law_run.specs.hwp_report_text.declared.Answer.{Answer}
 use Rattle.hwp_law_run.specs.hwp_report_text.declared.Answer.TheVariants as answers
 use Rattle.hwp_law_run.specs.hwp_banks.Banks.{Banks, empty_banks}
 use Rattle.hwp_law_run.specs.hwp_severity.Handling.{has_stop}
-use Rattle.hwp_law_run.specs.hwp_law_commands.Commands.{arrival_of, is_check}
+use Rattle.hwp_law_run.specs.hwp_law.Commands.{arrival_of, is_check}
 use Rattle.hwp_law_run.specs.hwp_severity.declared.Arrival.{Arrival}
 use Rattle.hwp_soft.specs.hwp_claim.declared.Found.{Found}
 use Rattle.hwp_cpu_row.specs.hwp_cpu_check.declared.EventOutcome.{EventOutcome}

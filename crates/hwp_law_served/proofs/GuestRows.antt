@@ -10,7 +10,7 @@ use Rattle.hwp_law_run.proofs.of_hwp_core_rule.Lists.{at_push}
 use Rattle.hwp_law_run.specs.hwp_core_rule.Known.{HasMadeNone}
 use Rattle.hwp_law_run.specs.hwp_script_read.declared.Command.{Command}
 use Rattle.hwp_law_run.specs.hwp_report_text.declared.Answer.{Answer}
-use Rattle.hwp_law_run.specs.hwp_law_commands.Guests.{denied}
+use Rattle.hwp_law_run.specs.hwp_law.GuestRule.{denied}
 use Rattle.hwp_cpu_row.specs.declared.Row.{Row}
 use Rattle.hwp_law_served.specs.Guests.{IsDeniedRow, IsGuestRow, KnowsGuests}
 use Rattle.hwp_law_served.specs.Handles.{answers_by}

@@ -28,7 +28,7 @@ use Rattle.hwp_law_run.specs.hwp_report_text.declared.Report.{Report}
 use Rattle.hwp_law_run.proofs.of_hwp_law.ActingLaws.{slot-uncopied}
 use Rattle.hwp_law_run.specs.hwp_law.Copies.{ended_through}
 use Rattle.hwp_law_run.specs.hwp_law.Runs.{StopsFirst, WasOut, WereOut, slot_ended, slot_of}
-use Rattle.hwp_law_run.specs.hwp_law_commands.Commands.{command_at}
+use Rattle.hwp_law_run.specs.hwp_law.Commands.{command_at}
 use Rattle.hwp_law_run.proofs.Homes.{there-is}
 use Rattle.hwp_law_run.proofs.TurnLeads.{leads-hold}
 use Rattle.hwp_law_run.proofs.Legal.{run-legal}

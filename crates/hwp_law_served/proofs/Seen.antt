@@ -31,9 +31,9 @@ use Rattle.hwp_law_run.specs.hwp_script_read.declared.Command.{Command}
 use Rattle.hwp_law_run.specs.hwp_script_read.declared.Command.TheVariants as commands
 use Rattle.hwp_law_run.specs.hwp_report_text.declared.Answer.{Answer}
 use Rattle.hwp_law_run.specs.hwp_report_text.declared.Answer.TheVariants as answers
-use Rattle.hwp_law_run.specs.hwp_law_commands.Outcomes.{reply_answer}
-use Rattle.hwp_law_run.specs.hwp_law_commands.Commands.{Access, access_of, current_thread}
-use Rattle.hwp_law_run.specs.hwp_law_commands.Settings.{arguments, last_policy, settings}
+use Rattle.hwp_law_run.specs.hwp_law.Outcomes.{reply_answer}
+use Rattle.hwp_law_run.specs.hwp_law.Commands.{Access, access_of, current_thread}
+use Rattle.hwp_law_run.specs.hwp_law.Settings.{arguments, last_policy, settings}
 use Rattle.hwp_law_run.specs.hwp_law.States.{place_named, state_named}
 use Rattle.hwp_soft.specs.hwp_claim.declared.Found.{Found}
 use Rattle.hwp_cpu_row.specs.declared.FrameChange.{FrameChange}

@@ -16,7 +16,7 @@ use Rattle.hwp_law_run.specs.hwp_report_text.declared.CpuLine.TheVariants as lin
 use Rattle.hwp_law_run.specs.hwp_report_text.declared.Report.{Report}
 use Rattle.hwp_law_run.specs.hwp_law.Answers.{AreInWindows}
 use Rattle.hwp_law_run.specs.hwp_law.States.{place_named, state_named}
-use Rattle.hwp_law_run.specs.hwp_law_commands.Commands.{command_at}
+use Rattle.hwp_law_run.specs.hwp_law.Commands.{command_at}
 use Rattle.hwp_law_run.specs.hwp_law.States.{IsInWindow}
 use Rattle.hwp_cpu_row.specs.declared.Row.{Row}
 use Rattle.hwp_law_run.proofs.Homes.{there-is}

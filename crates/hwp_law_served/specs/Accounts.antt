@@ -25,10 +25,10 @@ use Rattle.hwp_law_run.specs.hwp_report_text.declared.How.{How}
 use Rattle.hwp_law_run.specs.hwp_report_text.declared.How.TheVariants as hows
 use Rattle.hwp_law_run.specs.hwp_report_text.declared.MarkLine.{MarkLine}
 use Rattle.hwp_law_run.specs.hwp_report_text.declared.MarkLine.TheVariants as marks
-use Rattle.hwp_law_run.specs.hwp_law_commands.Commands.{current_thread}
-use Rattle.hwp_law_run.specs.hwp_law_commands.Settings.{arguments, last_policy, settings}
+use Rattle.hwp_law_run.specs.hwp_law.Commands.{current_thread}
+use Rattle.hwp_law_run.specs.hwp_law.Settings.{arguments, last_policy, settings}
 use Rattle.hwp_cpu_control.specs.Forks.{threads_of}
-use Rattle.hwp_law_run.specs.hwp_law_commands.Outcomes.{outcome_answer}
+use Rattle.hwp_law_run.specs.hwp_law.Outcomes.{outcome_answer}
 use Rattle.hwp_law_run.specs.hwp_law.Records.{is_moved}
 use Rattle.hwp_soft.specs.hwp_claim.declared.Found.{Found}
 use Rattle.hwp_cpu_row.specs.declared.FrameChange.{FrameChange}

@@ -37,9 +37,9 @@ use Rattle.hwp_law_run.specs.hwp_script_read.declared.Command.TheVariants as com
 use Rattle.hwp_law_run.specs.hwp_report_text.declared.Answer.{Answer}
 use Rattle.hwp_law_run.specs.hwp_report_text.declared.Answer.TheVariants as answers
 use Rattle.hwp_law_run.specs.hwp_banks.Banks.{Banks}
-use Rattle.hwp_law_run.specs.hwp_law_commands.Outcomes.{reply_answer}
-use Rattle.hwp_law_run.specs.hwp_law_commands.Commands.{Access, access_of, can_fail, process_of_thread}
-use Rattle.hwp_law_run.specs.hwp_law_commands.Settings.{arguments, last_policy, settings}
+use Rattle.hwp_law_run.specs.hwp_law.Outcomes.{reply_answer}
+use Rattle.hwp_law_run.specs.hwp_law.Commands.{Access, access_of, can_fail, process_of_thread}
+use Rattle.hwp_law_run.specs.hwp_law.Settings.{arguments, last_policy, settings}
 use Rattle.hwp_law_run.specs.hwp_law.Pairings.{is_soft}
 use Rattle.hwp_law_run.specs.Shown.{IsRevivable}
 use Rattle.hwp_soft.specs.hwp_claim.declared.Found.{Found}

@@ -20,7 +20,7 @@ use Rattle.hwp_law_run.specs.hwp_core_rule.Known.{IsAt, Saw, SawStop, deeds}
 use Rattle.hwp_law_run.specs.hwp_core_rule.Pages.{SawState}
 use Rattle.hwp_law_run.specs.hwp_report_text.declared.Answer.{Answer}
 use Rattle.hwp_law_run.specs.hwp_report_text.declared.Answer.TheVariants as answers
-use Rattle.hwp_law_run.specs.hwp_law_commands.Commands.{process_of_thread}
+use Rattle.hwp_law_run.specs.hwp_law.Commands.{process_of_thread}
 use Rattle.hwp_cpu_row.specs.hwp_cpu_check.declared.EventOutcome.{EventOutcome}
 use Rattle.hwp_cpu_row.specs.hwp_cpu_check.Checks.{Check, left_by, lines_of}
 use Rattle.hwp_cpu_row.specs.hwp_cpu_check.Told.{first_signal}

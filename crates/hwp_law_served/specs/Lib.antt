@@ -20,7 +20,6 @@ pub use Rattle.hwp_cpu_access.specs.hwp_evict as hwp_evict
 pub use Rattle.hwp_law_run.specs.hwp_geom as hwp_geom
 pub use Rattle.hwp_law_run.specs.hwp_kill as hwp_kill
 pub use Rattle.hwp_law_run.specs.hwp_law as hwp_law
-pub use Rattle.hwp_law_run.specs.hwp_law_commands as hwp_law_commands
 pub use Rattle.hwp_law_run.specs as hwp_law_run
 pub use Rattle.hwp_law_run.specs.hwp_page as hwp_page
 pub use Rattle.hwp_law_run.specs.hwp_plain as hwp_plain

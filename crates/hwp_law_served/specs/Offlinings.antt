@@ -16,7 +16,7 @@ use Rattle.hwp_law_run.specs.hwp_report_text.declared.Answer.{Answer}
 use Rattle.hwp_law_run.specs.hwp_report_text.declared.Answer.TheVariants as answers
 use Rattle.hwp_law_run.specs.hwp_report_text.declared.OfflineResult.{OfflineResult}
 use Rattle.hwp_law_run.specs.hwp_report_text.declared.OfflineResult.TheVariants as results
-use Rattle.hwp_law_run.specs.hwp_law_commands.Watched.{Watched, due, watched_after}
+use Rattle.hwp_law_run.specs.hwp_law.Watched.{Watched, due, watched_after}
 use Rattle.hwp_law_run.specs.hwp_law.Pairings.{is_soft}
 use Rattle.hwp_soft.specs.Offline.{SawLines}
 use Rattle.hwp_soft.specs.hwp_claim_frame.Claims.{SawPoison}

@@ -26,7 +26,7 @@ use Rattle.hwp_law_run.specs.hwp_report_text.declared.Stop.{Stop}
 use Rattle.hwp_law_run.specs.hwp_report_text.declared.StopCause.{StopCause}
 use Rattle.hwp_law_run.specs.hwp_report_text.declared.StopCause.TheVariants as causes
 use Rattle.hwp_law_run.specs.hwp_report_text.Acts.{is_panic, is_stopping}
-use Rattle.hwp_law_run.specs.hwp_law_commands.Commands.{arrival_of, command_at}
+use Rattle.hwp_law_run.specs.hwp_law.Commands.{arrival_of, command_at}
 use Rattle.hwp_law_run.specs.hwp_severity.declared.Arrival.{Arrival}
 use Rattle.hwp_law_run.specs.hwp_law.Records.{cycle_in, is_poisoning}
 use Rattle.hwp_law_run.specs.Ends.{EndsWith}

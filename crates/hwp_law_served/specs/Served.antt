@@ -24,8 +24,8 @@ use Rattle.hwp_law_run.specs.hwp_script_read.declared.Command.TheVariants as com
 use Rattle.hwp_law_run.specs.hwp_report_text.declared.Answer.{Answer}
 use Rattle.hwp_law_run.specs.hwp_report_text.declared.Answer.TheVariants as answers
 use Rattle.hwp_law_run.specs.hwp_banks.Banks.{Banks, empty_banks}
-use Rattle.hwp_law_run.specs.hwp_law_commands.Cows.{acting, copied_from}
-use Rattle.hwp_law_run.specs.hwp_law_commands.Settings.{settings}
+use Rattle.hwp_law_run.specs.hwp_law.Cows.{acting, copied_from}
+use Rattle.hwp_law_run.specs.hwp_law.Settings.{settings}
 use Rattle.hwp_law_run.specs.hwp_words.Stops.{is_stopped}
 use Rattle.hwp_law_run.specs.hwp_report_text.declared.OfflineResult.TheVariants as results
 use Rattle.hwp_cpu_row.specs.declared.Offlining.{Offlining}

@@ -16,7 +16,7 @@ use Rattle.hwp_law_run.specs.hwp_script_read.declared.Command.TheVariants as com
 use Rattle.hwp_law_run.specs.hwp_report_text.declared.Answer.{Answer}
 use Rattle.hwp_law_run.specs.hwp_report_text.declared.Answer.TheVariants as answers
 use Rattle.hwp_law_run.specs.hwp_banks.Banks.{Banks, empty_banks}
-use Rattle.hwp_law_run.specs.hwp_law_commands.Commands.{arrival_of, is_check}
+use Rattle.hwp_law_run.specs.hwp_law.Commands.{arrival_of, is_check}
 use Rattle.hwp_law_run.specs.hwp_severity.declared.Arrival.{Arrival}
 use Rattle.hwp_law_run.specs.hwp_law.Events.{logged_if_done}
 use Rattle.hwp_law_run.specs.hwp_banks.Banks.{raw_event}

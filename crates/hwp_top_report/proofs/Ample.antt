@@ -32,8 +32,8 @@ use Rattle.hwp_law_served.specs.hwp_law.Answers.{is_ample, named_frames, usable_
 use Rattle.hwp_law_served.proofs.of_hwp_law_run.Homes.{there-is}
 use Rattle.hwp_law_served.proofs.of_hwp_core_rule.MoreEntries.{each-append}
 use Rattle.hwp_law_served.specs.hwp_claim_frame.Done.{Marking, marking_of, poisoning}
-use Rattle.hwp_law_served.specs.hwp_law_commands.Commands.{command_at, has_watch}
-use Rattle.hwp_law_served.specs.hwp_law_commands.Watched.{due}
+use Rattle.hwp_law_served.specs.hwp_law.Commands.{command_at, has_watch}
+use Rattle.hwp_law_served.specs.hwp_law.Watched.{due}
 use Rattle.hwp_law_served.specs.hwp_claim.declared.Found.{Found}
 use Rattle.hwp_law_served.specs.hwp_cpu_row.declared.FrameChange.{FrameChange}
 use Rattle.hwp_law_served.specs.hwp_cpu_row.declared.FrameChange.TheVariants as owns

@@ -30,10 +30,10 @@ use Rattle.hwp_law_served.specs.hwp_report_text.declared.Answer.{Answer}
 use Rattle.hwp_law_served.specs.hwp_report_text.declared.Answer.TheVariants as answers
 use Rattle.hwp_law_served.specs.hwp_report_text.declared.Report.{Report}
 use Rattle.hwp_law_served.specs.hwp_banks.Banks.{Banks}
-use Rattle.hwp_law_served.specs.hwp_law_commands.Commands.{command_at, current_thread, process_at, process_of_thread, thread_of}
+use Rattle.hwp_law_served.specs.hwp_law.Commands.{command_at, current_thread, process_at, process_of_thread, thread_of}
 use Rattle.hwp_law_served.specs.hwp_law.Lines.{answer_of, answered, events_of}
 use Rattle.hwp_law_served.specs.hwp_law.Losses.{numbers_after}
-use Rattle.hwp_law_served.specs.hwp_law_commands.Outcomes.{outcome_act}
+use Rattle.hwp_law_served.specs.hwp_law.Outcomes.{outcome_act}
 use Rattle.hwp_law_served.specs.hwp_claim.declared.Found.{Found}
 use Rattle.hwp_law_served.specs.hwp_cpu_row.declared.Offlining.{Offlining}
 use Rattle.hwp_law_served.specs.hwp_cpu_row.declared.Row.{Row}

@@ -36,14 +36,14 @@ use Rattle.hwp_law_served.specs.hwp_report_text.declared.MarkLine.{MarkLine}
 use Rattle.hwp_law_served.specs.hwp_report_text.declared.OfflineResult.{OfflineResult}
 use Rattle.hwp_law_served.specs.hwp_report_text.declared.OfflineResult.TheVariants as results
 use Rattle.hwp_law_served.specs.hwp_report_text.declared.Report.{Report}
-use Rattle.hwp_law_served.specs.hwp_law_commands.Outcomes.{reply_answer}
+use Rattle.hwp_law_served.specs.hwp_law.Outcomes.{reply_answer}
 use Rattle.hwp_law_served.specs.hwp_law.Answers.{StandsAt}
 use Rattle.hwp_law_served.specs.hwp_law.Causes.{AreBadLines, ComesTo, HadBadLines, HasMark, IsCaused as IsLawCaused, IsFailureAnswer, IsOfflineAnswer, IsOutAnswer, IsSigbus, IsUnpoisonAnswer, SendsSigbus, TakesBack}
-use Rattle.hwp_law_served.specs.hwp_law_commands.Commands.{command_at, current_thread}
+use Rattle.hwp_law_served.specs.hwp_law.Commands.{command_at, current_thread}
 use Rattle.hwp_law_served.specs.hwp_law.Lines.{bad_lines_of, events_of}
 use Rattle.hwp_law_served.specs.hwp_law.Offlined.{IsOffline}
 use Rattle.hwp_law_served.specs.hwp_law.Places.{entry_at}
-use Rattle.hwp_law_served.specs.hwp_law_commands.Settings.{arguments, last_policy, settings}
+use Rattle.hwp_law_served.specs.hwp_law.Settings.{arguments, last_policy, settings}
 use Rattle.hwp_law_served.specs.hwp_law.Policies.{answered_before, policy_before}
 use Rattle.hwp_law_served.specs.hwp_law.Records.{how_in}
 use Rattle.hwp_law_served.specs.hwp_law.States.{HadState}

@@ -18,8 +18,8 @@ use Rattle.hwp_law_served.specs.hwp_report_text.declared.GuestLine.{GuestLine}
 use Rattle.hwp_law_served.specs.hwp_report_text.declared.Report.{Report}
 use Rattle.hwp_law_served.specs.hwp_report_text.declared.Stop.{Stop}
 use Rattle.hwp_law_served.specs.hwp_law.Causes.{AreCaused, IsHeeded, IsPastEvents, IsCaused as IsLawCaused}
-use Rattle.hwp_law_served.specs.hwp_law_commands.Notes.{ends_machine}
-use Rattle.hwp_law_served.specs.hwp_law_commands.Commands.{command_at, current_thread}
+use Rattle.hwp_law_served.specs.hwp_law.Notes.{ends_machine}
+use Rattle.hwp_law_served.specs.hwp_law.Commands.{command_at, current_thread}
 use Rattle.hwp_law_served.specs.hwp_law.Halts.{CanStop as CanStopFor, IsStopOf, StopAgrees}
 use Rattle.hwp_law_served.specs.hwp_law.Stops.{StaysStopped}
 use Rattle.hwp_law_served.specs.hwp_cpu_row.declared.Offlining.{Offlining}

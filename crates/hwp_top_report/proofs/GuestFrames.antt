@@ -32,12 +32,12 @@ use Rattle.hwp_law_served.specs.hwp_report_text.declared.Answer.{Answer}
 use Rattle.hwp_law_served.specs.hwp_report_text.declared.Answer.TheVariants as answers
 use Rattle.hwp_law_served.specs.hwp_report_text.declared.CpuLine.{CpuLine}
 use Rattle.hwp_law_served.specs.hwp_report_text.declared.Report.{Report}
-use Rattle.hwp_law_served.specs.hwp_law_commands.Commands.{Access, access, access_of, arrival_of, command_at, has_watch, process_of_thread}
-use Rattle.hwp_law_served.specs.hwp_law_commands.Cows.{acting, copied_from, cow_of, through, twin_or, written_through}
-use Rattle.hwp_law_served.specs.hwp_law_commands.declared.GuestAccess.{GuestAccess}
-use Rattle.hwp_law_served.specs.hwp_law_commands.Guests.{denial, denied, guest_access, guest_after, guest_taken, guest_of, kind_of, new_guest}
-use Rattle.hwp_law_served.specs.hwp_law_commands.hwp_guest.GuestState.{GuestState, admitted, after}
-use Rattle.hwp_law_served.specs.hwp_law_commands.hwp_guest.declared.Admit.TheVariants as admissions
+use Rattle.hwp_law_served.specs.hwp_law.Commands.{Access, access, access_of, arrival_of, command_at, has_watch, process_of_thread}
+use Rattle.hwp_law_served.specs.hwp_law.Cows.{acting, copied_from, cow_of, through, twin_or, written_through}
+use Rattle.hwp_law_served.specs.hwp_law.declared.GuestAccess.{GuestAccess}
+use Rattle.hwp_law_served.specs.hwp_law.GuestRule.{denial, denied, guest_access, guest_after, guest_taken, guest_of, kind_of, new_guest}
+use Rattle.hwp_law_served.specs.hwp_law.hwp_guest.GuestState.{GuestState, admitted, after}
+use Rattle.hwp_law_served.specs.hwp_law.hwp_guest.declared.Admit.TheVariants as admissions
 use Rattle.hwp_law_served.specs.hwp_law.Acting.{acting_script, copied_at}
 use Rattle.hwp_law_served.specs.hwp_law.Copies.{FitsCopy, MakesCopy, slot_in}
 use Rattle.hwp_law_served.specs.hwp_law.Entries.{CanStandIn, IsAccessAt, Makes}
@@ -47,7 +47,7 @@ use Rattle.hwp_law_served.specs.hwp_law.Law.{IsLawful}
 use Rattle.hwp_law_served.specs.hwp_law.Lines.{answer_among, answer_of, answered, answers_from}
 use Rattle.hwp_law_served.specs.hwp_law.Policies.{answered_before, answered_on}
 use Rattle.hwp_law_served.proofs.of_hwp_law_run.of_hwp_law.ActedLaws.{command-acted}
-use Rattle.hwp_law_served.proofs.of_hwp_law_run.of_hwp_law.of_hwp_law_commands.GuestLaws.{bad-more}
+use Rattle.hwp_law_served.proofs.of_hwp_law_run.of_hwp_law.GuestLaws.{bad-more}
 use Rattle.hwp_top_report.proofs.forks.Forked.{valid-command}
 use Rattle.hwp_top_report.specs.GuestFrames.{AreBadFramesLeft, IsBehindCheck}
 use Rattle.hwp_top_report.proofs.Guests.{then-there}

@@ -33,11 +33,11 @@ use Rattle.hwp_law_served.specs.hwp_script_read.declared.Script.{Script}
 use Rattle.hwp_law_served.specs.hwp_report_text.declared.Answer.{Answer}
 use Rattle.hwp_law_served.specs.hwp_report_text.declared.Answer.TheVariants as answers
 use Rattle.hwp_law_served.specs.hwp_report_text.declared.Report.{Report}
-use Rattle.hwp_law_served.specs.hwp_law_commands.hwp_guest.GuestState.{admitted}
-use Rattle.hwp_law_served.specs.hwp_law_commands.Commands.{Access, access_of, arrival_of, command_at, process_at, process_of_thread, thread_of}
-use Rattle.hwp_law_served.specs.hwp_law_commands.Cows.{acting}
-use Rattle.hwp_law_served.specs.hwp_law_commands.declared.GuestAccess.{GuestAccess}
-use Rattle.hwp_law_served.specs.hwp_law_commands.Guests.{denial, denied, guest_access, guest_lines, guest_of, kind_of}
+use Rattle.hwp_law_served.specs.hwp_law.hwp_guest.GuestState.{admitted}
+use Rattle.hwp_law_served.specs.hwp_law.Commands.{Access, access_of, arrival_of, command_at, process_at, process_of_thread, thread_of}
+use Rattle.hwp_law_served.specs.hwp_law.Cows.{acting}
+use Rattle.hwp_law_served.specs.hwp_law.declared.GuestAccess.{GuestAccess}
+use Rattle.hwp_law_served.specs.hwp_law.GuestRule.{denial, denied, guest_access, guest_lines, guest_of, kind_of}
 use Rattle.hwp_law_served.specs.hwp_law.Acting.{acting_script, copied_at}
 use Rattle.hwp_law_served.specs.hwp_law.Causes.{IsCaused}
 use Rattle.hwp_law_served.specs.hwp_law.Endings.{IsGone}
@@ -52,7 +52,7 @@ use Rattle.hwp_law_served.specs.Handles.{answers_by}
 use Rattle.hwp_law_served.specs.Runs.{HaveServed, IsRunOf}
 use Rattle.hwp_law_served.proofs.of_hwp_law_run.Reported.{entry-listed}
 use Rattle.hwp_law_served.proofs.of_hwp_law_run.of_hwp_law.ActedLaws.{command-acted}
-use Rattle.hwp_law_served.proofs.of_hwp_law_run.of_hwp_law.of_hwp_law_commands.CowLaws.{acting-thread}
+use Rattle.hwp_law_served.proofs.of_hwp_law_run.of_hwp_law.CowLaws.{acting-thread}
 use Rattle.hwp_law_served.proofs.LastBoard.{ended, ended-rows}
 use Rattle.hwp_law_served.proofs.RowLines.{answer-told, events-told, guest-told}
 use Rattle.hwp_law_served.proofs.RunEnds.{IsEnd, IsOf, of-deeds, own-view}

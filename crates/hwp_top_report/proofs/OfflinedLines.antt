@@ -13,7 +13,7 @@ use Rattle.hwp_law_served.specs.hwp_script_read.declared.Script.{Script}
 use Rattle.hwp_law_served.specs.hwp_report_text.declared.MarkLine.{MarkLine}
 use Rattle.hwp_law_served.specs.hwp_report_text.declared.OfflinedLine.{OfflinedLine}
 use Rattle.hwp_law_served.specs.hwp_report_text.declared.Report.{Report}
-use Rattle.hwp_law_served.specs.hwp_law_commands.Commands.{command_at}
+use Rattle.hwp_law_served.specs.hwp_law.Commands.{command_at}
 use Rattle.hwp_law_served.specs.hwp_law.Offlined.{AreOfflined, IsOffline}
 use Rattle.hwp_law_served.specs.hwp_law.Records.{how_in}
 use Rattle.hwp_law_served.specs.hwp_cpu_row.declared.FrameChange.TheVariants as owns

@@ -46,10 +46,10 @@ use Rattle.hwp_law_served.specs.hwp_report_text.declared.Answer.TheVariants as a
 use Rattle.hwp_law_served.specs.hwp_report_text.Offlines.{offline_answer}
 use Rattle.hwp_law_served.specs.hwp_report_text.declared.OfflineResult.{OfflineResult}
 use Rattle.hwp_law_served.specs.hwp_report_text.declared.OfflineResult.TheVariants as results
-use Rattle.hwp_law_served.specs.hwp_law_commands.Outcomes.{reply_answer}
+use Rattle.hwp_law_served.specs.hwp_law.Outcomes.{reply_answer}
 use Rattle.hwp_law_served.specs.hwp_report_text.declared.Acted.TheVariants as acts
-use Rattle.hwp_law_served.specs.hwp_law_commands.Commands.{Access, access_of, command_at, process_at, process_of_thread, thread_of}
-use Rattle.hwp_law_served.specs.hwp_law_commands.Settings.{arguments, last_policy, settings}
+use Rattle.hwp_law_served.specs.hwp_law.Commands.{Access, access_of, command_at, process_at, process_of_thread, thread_of}
+use Rattle.hwp_law_served.specs.hwp_law.Settings.{arguments, last_policy, settings}
 use Rattle.hwp_law_served.specs.hwp_law.Runs.{slot_of}
 use Rattle.hwp_law_served.specs.hwp_cpu_row.declared.FrameChange.{FrameChange}
 use Rattle.hwp_law_served.specs.hwp_cpu_row.declared.Offlining.{Offlining}

@@ -19,7 +19,7 @@ use Rattle.hwp_law_served.specs.hwp_script_read.declared.Script.{Script}
 use Rattle.hwp_law_served.specs.hwp_report_text.declared.Report.{Report}
 use Rattle.hwp_law_served.specs.hwp_law.Law.{IsLawful}
 use Rattle.hwp_law_served.specs.hwp_law.Places.{entry_at}
-use Rattle.hwp_law_served.specs.hwp_law_commands.Settings.{last_policy, settings}
+use Rattle.hwp_law_served.specs.hwp_law.Settings.{last_policy, settings}
 use Rattle.hwp_law_served.specs.hwp_law.Acting.{acting_script}
 use Rattle.hwp_law_served.specs.hwp_law.Policies.{answered_on}
 use Rattle.hwp_law_served.specs.hwp_law.SeenPolicies.{IsPolicySeen, answered_around, cpu_of_thread, seen_in}

@@ -25,12 +25,12 @@ use Rattle.hwp_law_served.specs.hwp_report_text.declared.Acted.TheVariants as ac
 use Rattle.hwp_law_served.specs.hwp_report_text.declared.EventLine.{EventLine}
 use Rattle.hwp_law_served.specs.hwp_report_text.declared.Report.{Report}
 use Rattle.hwp_law_served.specs.hwp_report_text.declared.StopCause.{StopCause}
-use Rattle.hwp_law_served.specs.hwp_law_commands.Notes.{ends_machine}
+use Rattle.hwp_law_served.specs.hwp_law.Notes.{ends_machine}
 use Rattle.hwp_law_served.specs.hwp_report_text.Acts.{is_panic, is_stopping}
-use Rattle.hwp_law_served.specs.hwp_law_commands.Commands.{arrival_of}
+use Rattle.hwp_law_served.specs.hwp_law.Commands.{arrival_of}
 use Rattle.hwp_law_served.specs.hwp_law.Halts.{CanStop as CanStopFor, Panics, is_panic_of}
 use Rattle.hwp_law_served.specs.hwp_law.Lines.{events_of}
-use Rattle.hwp_law_served.specs.hwp_law_commands.Outcomes.{outcome_act}
+use Rattle.hwp_law_served.specs.hwp_law.Outcomes.{outcome_act}
 use Rattle.hwp_law_served.specs.hwp_claim.declared.Found.{Found}
 use Rattle.hwp_law_served.specs.hwp_cpu_check.declared.EventOutcome.{EventOutcome}
 use Rattle.hwp_law_served.specs.hwp_cpu_check.Fits.{IsDone, IsFailed}

@@ -13,7 +13,7 @@ use Rattle.hwp_law_served.specs.hwp_report_text.declared.Answer.TheVariants as a
 use Rattle.hwp_law_served.specs.hwp_report_text.declared.Report.{Report}
 use Rattle.hwp_law_served.specs.hwp_script_read.declared.Command.TheVariants as commands
 use Rattle.hwp_law_served.specs.hwp_script_read.declared.Script.{Script}
-use Rattle.hwp_law_served.specs.hwp_law_commands.Commands.{command_at}
+use Rattle.hwp_law_served.specs.hwp_law.Commands.{command_at}
 use Rattle.hwp_law_served.specs.hwp_law.Copies.{own_in}
 use Rattle.hwp_law_served.specs.hwp_law.Lines.{answer_of}
 use Rattle.hwp_law_served.specs.hwp_law.Private.{last_word, word_in}

@@ -9,9 +9,9 @@ use Rattle.hwp_law_served.specs.hwp_script_read.declared.Command.{Command}
 use Rattle.hwp_law_served.specs.hwp_script_read.declared.Script.{Script}
 use Rattle.hwp_law_served.specs.hwp_report_text.declared.Answer.TheVariants.{Sigbus}
 use Rattle.hwp_law_served.specs.hwp_report_text.declared.Report.{Report}
-use Rattle.hwp_law_served.specs.hwp_law_commands.Commands.{command_at}
-use Rattle.hwp_law_served.specs.hwp_law_commands.declared.GuestAccess.{GuestAccess}
-use Rattle.hwp_law_served.specs.hwp_law_commands.Guests.{guest_access}
+use Rattle.hwp_law_served.specs.hwp_law.Commands.{command_at}
+use Rattle.hwp_law_served.specs.hwp_law.declared.GuestAccess.{GuestAccess}
+use Rattle.hwp_law_served.specs.hwp_law.GuestRule.{guest_access}
 use Rattle.hwp_law_served.specs.hwp_law.Copies.{slot_in}
 use Rattle.hwp_law_served.specs.hwp_law.Lines.{answer_of}
 use Rattle.hwp_law_served.specs.hwp_law.Places.{entry_at}

@@ -4,7 +4,7 @@ ghost use Rattle.hwp_plain.specs.hwp_words.Stops.{stopper_of};
 ghost use Rattle.hwp_cpu_row.specs.hwp_report_text.declared.Answer.TheVariants as answers;
 ghost use Rattle.hwp_plain.specs.hwp_core_rule.Lists.{EachMember};
 ghost use Rattle.hwp_cpu_row.specs.hwp_report_text.Acts.{is_panic, is_stopping};
-ghost use Rattle.hwp_cpu_row.specs.hwp_law_commands.Commands.{arrival_of};
+ghost use Rattle.hwp_cpu_row.specs.hwp_law.Commands.{arrival_of};
 ghost use Rattle.hwp_law_served.specs.Runs.{panic_cause, severity_cause, told_cause};
 ghost use Rattle.hwp_law_served.specs.Served.{HasStopped};
 ghost use Rattle.hwp_top_report.specs.Closing.{AreTellable, HasStopper, IsFirstStop, IsNamed, IsStopBy, IsTellable, cause_in, command_in, own_cause};

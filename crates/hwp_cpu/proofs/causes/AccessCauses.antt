@@ -25,7 +25,7 @@ use Rattle.hwp_law_served.specs.hwp_script_lines.declared.Command.{Command}
 use Rattle.hwp_law_served.specs.hwp_script_lines.declared.Command.TheVariants as commands
 use Rattle.hwp_law_served.specs.hwp_report_text.declared.Answer.{Answer}
 use Rattle.hwp_law_served.specs.hwp_banks.Banks.{Banks}
-use Rattle.hwp_law_served.specs.hwp_law_commands.Commands.{Access, access, access_of, can_fail}
+use Rattle.hwp_law_served.specs.hwp_law.Commands.{Access, access, access_of, can_fail}
 use Rattle.hwp_law_served.specs.hwp_core_rule.Lists.{EachMember}
 use Rattle.hwp_law_served.proofs.of_hwp_core_rule.MoreEntries.{each-append}
 use Rattle.hwp_law_served.specs.hwp_core_rule.Known.{HasMade, HasMadeBeside, HasOnly, HasOnlyBeside, IsOnTheWay, Precedes, Saw, deeds}

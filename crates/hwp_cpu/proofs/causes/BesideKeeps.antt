@@ -36,7 +36,7 @@ use Rattle.hwp_law_served.specs.hwp_report_text.declared.Answer.{Answer}
 use Rattle.hwp_law_served.specs.hwp_report_text.declared.Answer.TheVariants as answers
 use Rattle.hwp_law_served.specs.hwp_report_text.declared.OfflineResult.{OfflineResult}
 use Rattle.hwp_law_served.specs.hwp_report_text.declared.OfflineResult.TheVariants as results
-use Rattle.hwp_law_served.specs.hwp_law_commands.Commands.{arrival_of}
+use Rattle.hwp_law_served.specs.hwp_law.Commands.{arrival_of}
 use Rattle.hwp_law_served.specs.hwp_severity.declared.Arrival.{Arrival}
 use Rattle.hwp_law_served.specs.hwp_severity.Handling.{has_stop}
 use Rattle.hwp_law_served.specs.hwp_law.Pairings.{is_soft}

@@ -26,10 +26,10 @@ use Rattle.hwp_law_served.specs.hwp_script_lines.declared.Command.{Command}
 use Rattle.hwp_law_served.specs.hwp_script_lines.declared.Command.TheVariants as commands
 use Rattle.hwp_law_served.specs.hwp_script_lines.declared.PrctlArgs.{PrctlArgs}
 use Rattle.hwp_law_served.specs.hwp_report_text.declared.Answer.{Answer}
-use Rattle.hwp_law_served.specs.hwp_law_commands.Outcomes.{reply_answer}
+use Rattle.hwp_law_served.specs.hwp_law.Outcomes.{reply_answer}
 use Rattle.hwp_law_served.specs.hwp_banks.Banks.{Banks, raw_event}
-use Rattle.hwp_law_served.specs.hwp_law_commands.Settings.{arguments, settings}
-use Rattle.hwp_law_served.specs.hwp_law_commands.Settings as laws
+use Rattle.hwp_law_served.specs.hwp_law.Settings.{arguments, settings}
+use Rattle.hwp_law_served.specs.hwp_law.Settings as laws
 use Rattle.hwp_law_served.specs.hwp_core_rule.Known.{HasMadeNone, Saw}
 use Rattle.hwp_cpu_command.specs.hwp_cpu_control.declared.NestedAnswer.{NestedAnswer}
 use Rattle.hwp_cpu_command.specs.hwp_cpu_control.declared.NestedAnswer.TheVariants as nested_answers

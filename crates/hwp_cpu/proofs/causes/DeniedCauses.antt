@@ -25,7 +25,7 @@ use Rattle.hwp_law_served.specs.hwp_report_text.declared.Answer.{Answer}
 use Rattle.hwp_law_served.specs.hwp_banks.Banks.{Banks}
 use Rattle.hwp_law_served.specs.hwp_banks.declared.Origin.{Origin}
 use Rattle.hwp_law_served.specs.hwp_geom.declared.Mode.{Mode}
-use Rattle.hwp_law_served.specs.hwp_law_commands.Commands.{Access, access_of, is_check, process_of_thread}
+use Rattle.hwp_law_served.specs.hwp_law.Commands.{Access, access_of, is_check, process_of_thread}
 use Rattle.hwp_law_served.specs.hwp_cpu_check.declared.EventOutcome.{EventOutcome}
 use Rattle.hwp_law_served.specs.Causes.{FoundGone, HasOnlyBegun, IsAnswerCaused, IsCausedWith, SawProcess}
 use Rattle.hwp_law_served.specs.Copied.{HasCopied, IsBehind, IsCopyCaused, IsCopyEnded, IsCopyTold, store_by, sub_next}

@@ -31,7 +31,7 @@ use Rattle.hwp_cpu_command.specs.Runs.{Runs, RunsAs, RunsDenied, anew}
 use Rattle.hwp_cpu_command.proofs.JobEnds.{fsync-over, mapped}
 use Rattle.hwp_cpu_command.proofs.OfKind.{of-copying, of-evict, of-fork, of-fsync, of-inject, of-instruction, of-log, of-nested, of-prctl, of-raise, of-scrub, of-soft, of-spoil, of-unpoison}
 use Rattle.hwp_cpu.proofs.causes.DeniedCauses.{access-by, runs-kind}
-use Rattle.hwp_law_served.specs.hwp_law_commands.Commands.{Access, access_of}
+use Rattle.hwp_law_served.specs.hwp_law.Commands.{Access, access_of}
 
 -- a handle that had the number m has the number that the answer gives it; where the answer tells it, it was shown
 pub record IsNumbered (layout : Layout) (view : View) (who : Who) (command : Command) (a : Answer) (file : FileNo) (m : ℕ) (after : List ℕ) : Type 0 where

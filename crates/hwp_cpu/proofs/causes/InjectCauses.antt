@@ -17,7 +17,7 @@ use Rattle.hwp_law_served.proofs.of_hwp_core_rule.Lists.{at_last}
 use Rattle.hwp_law_served.specs.hwp_script_lines.declared.Command.{Command}
 use Rattle.hwp_law_served.specs.hwp_script_lines.declared.Command.TheVariants as commands
 use Rattle.hwp_law_served.specs.hwp_report_text.declared.Answer.{Answer}
-use Rattle.hwp_law_served.specs.hwp_law_commands.Outcomes.{outcome_answer}
+use Rattle.hwp_law_served.specs.hwp_law.Outcomes.{outcome_answer}
 use Rattle.hwp_law_served.specs.hwp_core_rule.Known.{HasMade, HasOnly, IsAt, deeds, is_failure}
 use Rattle.hwp_law_served.specs.hwp_claim.declared.FailAnswer.{FailAnswer}
 use Rattle.hwp_law_served.specs.hwp_claim.declared.FailAnswer.TheVariants as answers

@@ -23,8 +23,8 @@ use Rattle.hwp_law_served.specs.hwp_core_rule.declared.View.{View}
 use Rattle.hwp_law_served.specs.hwp_report_text.declared.EventLine.{EventLine}
 use Rattle.hwp_law_served.specs.hwp_report_text.Acts.{is_panic}
 use Rattle.hwp_law_served.specs.hwp_report_text.declared.Acted.TheVariants as acts
-use Rattle.hwp_law_served.specs.hwp_law_commands.Notes.{AreApart, IsRising, ends_machine, frame_of, is_for_pages, noted_frame, notes, notes_of_check}
-use Rattle.hwp_cpu_row.proofs.of_hwp_law_commands.NoteLaws.{notes-append, notes-rising}
+use Rattle.hwp_law_served.specs.hwp_law.Notes.{AreApart, IsRising, ends_machine, frame_of, is_for_pages, noted_frame, notes, notes_of_check}
+use Rattle.hwp_cpu_row.proofs.of_hwp_law.NoteLaws.{notes-append, notes-rising}
 use Rattle.hwp_law_served.specs.hwp_severity.declared.Arrival.{Arrival}
 use Rattle.hwp_law_served.specs.hwp_severity.declared.McgBits.{McgBits}
 use Rattle.hwp_law_served.specs.hwp_severity.declared.Severity.TheVariants as severities

@@ -11,7 +11,7 @@ use Rattle.hwp_law_served.proofs.of_hwp_core_rule.Lists.{each-push}
 use Rattle.hwp_law_served.specs.hwp_core_rule.Known.{deeds}
 use Rattle.hwp_law_served.specs.hwp_script_lines.declared.Command.{Command}
 use Rattle.hwp_law_served.specs.hwp_script_lines.declared.Command.TheVariants as commands
-use Rattle.hwp_law_served.specs.hwp_law_commands.Commands.{Access, access, access_of, can_fail}
+use Rattle.hwp_law_served.specs.hwp_law.Commands.{Access, access, access_of, can_fail}
 use Rattle.hwp_cpu_command.specs.hwp_fault.declared.Request.{Request}
 use Rattle.hwp_cpu_command.specs.hwp_cpu_access.declared.Instruction.{Instruction}
 use Rattle.hwp_cpu_command.specs.hwp_cpu_access.declared.Pause.{Pause}

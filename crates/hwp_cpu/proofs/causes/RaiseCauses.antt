@@ -13,7 +13,7 @@ use Rattle.hwp_law_served.specs.hwp_script_lines.declared.Command.{Command}
 use Rattle.hwp_law_served.specs.hwp_script_lines.declared.Command.TheVariants as commands
 use Rattle.hwp_law_served.specs.hwp_report_text.declared.Answer.{Answer}
 use Rattle.hwp_law_served.specs.hwp_banks.Banks.{Banks}
-use Rattle.hwp_law_served.specs.hwp_law_commands.Commands.{can_fail, process_of_thread}
+use Rattle.hwp_law_served.specs.hwp_law.Commands.{can_fail, process_of_thread}
 use Rattle.hwp_law_served.specs.hwp_cpu_check.declared.EventOutcome.{EventOutcome}
 use Rattle.hwp_law_served.specs.hwp_cpu_check.Checks.{IsActedOn}
 use Rattle.hwp_law_served.specs.hwp_cpu_check.Told.{halts}

@@ -20,8 +20,8 @@ use Rattle.hwp_law_served.specs.hwp_script_lines.declared.Command.{Command}
 use Rattle.hwp_law_served.specs.hwp_script_lines.declared.Command.TheVariants as commands
 use Rattle.hwp_law_served.specs.hwp_script_lines.declared.PrctlArgs.{PrctlArgs}
 use Rattle.hwp_law_served.specs.hwp_report_text.declared.Answer.{Answer}
-use Rattle.hwp_law_served.specs.hwp_law_commands.Commands.{current_thread}
-use Rattle.hwp_law_served.specs.hwp_law_commands.Settings.{arguments, settings}
+use Rattle.hwp_law_served.specs.hwp_law.Commands.{current_thread}
+use Rattle.hwp_law_served.specs.hwp_law.Settings.{arguments, settings}
 use Rattle.hwp_cpu_command.specs.hwp_cpu_control.declared.Prctl.{Prctl}
 use Rattle.hwp_cpu_command.specs.hwp_cpu_control.declared.PrctlAnswer.{PrctlAnswer}
 use Rattle.hwp_cpu_command.specs.hwp_cpu_control.declared.PrctlAnswer.TheVariants as prctl_answers

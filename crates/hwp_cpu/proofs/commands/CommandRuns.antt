@@ -26,7 +26,7 @@ use Rattle.hwp_cpu_command.specs.hwp_banks.Banks.{Banks}
 use Rattle.hwp_cpu_command.specs.hwp_report_text.declared.Answer.{Answer}
 use Rattle.hwp_cpu_command.specs.hwp_cpu_check.hwp_guest.declared.Admit.{Admit}
 use Rattle.hwp_cpu_command.specs.hwp_cpu_check.hwp_guest.declared.Admit.TheVariants as admissions
-use Rattle.hwp_cpu_command.specs.hwp_law_commands.Guests as guests
+use Rattle.hwp_cpu_command.specs.hwp_law.GuestRule as guests
 use Rattle.hwp_cpu_command.specs.hwp_cpu_control.declared.Denial.{Denial}
 use Rattle.hwp_cpu_command.specs.hwp_cpu_control.declared.Denial.TheVariants as denials
 use Rattle.hwp_cpu_command.specs.hwp_cpu_control.declared.ReadStopAnswer.{ReadStopAnswer}

@@ -31,7 +31,7 @@ use Rattle.hwp_cpu_command.proofs.of_hwp_core_rule.SightKeeps.{saw-load, saw-sta
 use Rattle.hwp_cpu_command.specs.hwp_script_lines.declared.Command.{Command}
 use Rattle.hwp_cpu_command.specs.hwp_report_text.declared.Answer.{Answer}
 use Rattle.hwp_cpu_command.specs.hwp_report_text.declared.Answer.TheVariants as answers
-use Rattle.hwp_cpu_command.specs.hwp_law_commands.Outcomes.{outcome_answer, reply_answer}
+use Rattle.hwp_cpu_command.specs.hwp_law.Outcomes.{outcome_answer, reply_answer}
 use Rattle.hwp_cpu_command.specs.hwp_banks.Banks.{Banks}
 use Rattle.hwp_cpu_command.specs.hwp_cpu_control.declared.Nested.{Nested}
 use Rattle.hwp_cpu_command.specs.hwp_cpu_control.declared.NestedAnswer.TheVariants as nested_answers

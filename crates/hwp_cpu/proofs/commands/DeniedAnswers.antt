@@ -15,7 +15,7 @@ use Rattle.hwp_cpu_command.specs.hwp_core_rule.Known.{HasMadeNone}
 use Rattle.hwp_cpu_command.specs.hwp_core_rule.declared.Turn.{Turn}
 use Rattle.hwp_cpu_command.specs.hwp_report_text.declared.Answer.{Answer}
 use Rattle.hwp_cpu_command.specs.hwp_report_text.declared.Answer.TheVariants as answers
-use Rattle.hwp_cpu_command.specs.hwp_law_commands.Outcomes.{outcome_answer, reply_answer}
+use Rattle.hwp_cpu_command.specs.hwp_law.Outcomes.{outcome_answer, reply_answer}
 use Rattle.hwp_cpu_command.specs.hwp_cpu_control.declared.Denial.{Denial}
 use Rattle.hwp_cpu_command.specs.hwp_cpu_control.declared.Denial.TheVariants as denials
 use Rattle.hwp_cpu_command.specs.hwp_cpu_control.declared.DeniedAnswer.{DeniedAnswer}

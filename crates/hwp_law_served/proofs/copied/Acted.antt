@@ -24,13 +24,13 @@ use Rattle.hwp_law_run.specs.hwp_core_rule.Lists.{EachMember}
 use Rattle.hwp_law_run.specs.hwp_script_read.declared.Command.{Command}
 use Rattle.hwp_law_run.specs.hwp_script_read.declared.Command.TheVariants as commands
 use Rattle.hwp_law_run.specs.hwp_report_text.declared.Answer.{Answer}
-use Rattle.hwp_law_run.specs.hwp_law_commands.Cows.{acting, copied_from}
-use Rattle.hwp_law_run.specs.hwp_law_commands.Settings.{set_after, set_behind, setting_of, settings, unset}
-use Rattle.hwp_law_run.specs.hwp_law_commands.Watched.{Watched, watched_after}
+use Rattle.hwp_law_run.specs.hwp_law.Cows.{acting, copied_from}
+use Rattle.hwp_law_run.specs.hwp_law.Settings.{set_after, set_behind, setting_of, settings, unset}
+use Rattle.hwp_law_run.specs.hwp_law.Watched.{Watched, watched_after}
 use Rattle.hwp_law_run.specs.hwp_law.Acting.{acting_from}
 use Rattle.hwp_law_run.specs.hwp_law.Losses.{tells_number}
 use Rattle.hwp_law_run.proofs.of_hwp_law.ActedLaws.{acted-at, set-acted}
-use Rattle.hwp_law_run.proofs.of_hwp_law.of_hwp_law_commands.CowLaws.{acting-sets}
+use Rattle.hwp_law_run.proofs.of_hwp_law.CowLaws.{acting-sets}
 use Rattle.hwp_cpu_row.specs.declared.Row.{Row}
 use Rattle.hwp_cpu_row.specs.Acts.{told_notes}
 use Rattle.hwp_cpu_row.specs.hwp_cpu_check.declared.EventOutcome.{EventOutcome}

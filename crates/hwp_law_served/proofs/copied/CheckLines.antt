@@ -12,7 +12,7 @@ use Rattle.hwp_law_run.specs.hwp_page.declared.What.{What}
 use Rattle.hwp_law_run.specs.hwp_page.declared.What.TheVariants as entries
 use Rattle.hwp_law_run.specs.hwp_core_rule.declared.Made.{Made}
 use Rattle.hwp_law_run.specs.hwp_core_rule.Lists.{EachMember}
-use Rattle.hwp_law_run.specs.hwp_law_commands.Commands.{is_check}
+use Rattle.hwp_law_run.specs.hwp_law.Commands.{is_check}
 use Rattle.hwp_law_run.specs.hwp_law.Copies.{checks_by, lines_at}
 use Rattle.hwp_law_served.proofs.copied.CopyCounts.{num}
 use Rattle.hwp_law_served.proofs.copied.OwnIn.{in_page}

@@ -25,7 +25,7 @@ use Rattle.hwp_law_run.specs.hwp_core_rule.Known.{IsOnTheWay, deeds, is_failure}
 use Rattle.hwp_law_run.specs.hwp_script_read.declared.Command.TheVariants as commands
 use Rattle.hwp_law_run.specs.hwp_script_read.declared.Script.{Script}
 use Rattle.hwp_law_run.specs.hwp_report_text.declared.Report.{Report}
-use Rattle.hwp_law_run.specs.hwp_law_commands.Commands.{command_at, is_check}
+use Rattle.hwp_law_run.specs.hwp_law.Commands.{command_at, is_check}
 use Rattle.hwp_law_run.specs.hwp_law.Copies.{checks_by, copy_checks, is_load, is_store, own_in}
 use Rattle.hwp_cpu_row.specs.hwp_cpu_check.Checks.{Check, left_by}
 use Rattle.hwp_cpu_row.specs.hwp_cpu_check.declared.EventOutcome.{EventOutcome}

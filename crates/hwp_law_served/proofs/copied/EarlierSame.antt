@@ -13,8 +13,8 @@ use Rattle.hwp_law_run.specs.hwp_script_read.declared.Command.{Command}
 use Rattle.hwp_law_run.specs.hwp_script_read.declared.Command.TheVariants as commands
 use Rattle.hwp_law_run.specs.hwp_report_text.declared.Answer.{Answer}
 use Rattle.hwp_law_run.specs.hwp_report_text.declared.Answer.TheVariants as answers
-use Rattle.hwp_law_run.specs.hwp_law_commands.Outcomes.{reply_answer}
-use Rattle.hwp_law_run.specs.hwp_law_commands.Settings.{arguments, last_policy, settings}
+use Rattle.hwp_law_run.specs.hwp_law.Outcomes.{reply_answer}
+use Rattle.hwp_law_run.specs.hwp_law.Settings.{arguments, last_policy, settings}
 use Rattle.hwp_cpu_control.specs.Forks.{threads_of}
 use Rattle.hwp_cpu_row.specs.declared.FrameChange.{FrameChange}
 use Rattle.hwp_cpu_row.specs.declared.Row.{Row}

@@ -19,7 +19,7 @@ use Rattle.hwp_law_run.specs.hwp_core_rule.Boards.{view_of}
 use Rattle.hwp_law_run.specs.hwp_core_rule.Known.{deeds}
 use Rattle.hwp_law_run.specs.hwp_script_read.declared.Command.TheVariants as commands
 use Rattle.hwp_law_run.specs.hwp_script_read.declared.Script.{Script}
-use Rattle.hwp_law_run.specs.hwp_law_commands.Commands.{command_at}
+use Rattle.hwp_law_run.specs.hwp_law.Commands.{command_at}
 use Rattle.hwp_law_run.specs.hwp_report_text.declared.Answer.TheVariants as answers
 use Rattle.hwp_law_run.specs.hwp_report_text.declared.Report.{Report}
 use Rattle.hwp_law_run.specs.hwp_law.Copies.{ended_through, is_load, is_store, own_in}

@@ -7,7 +7,7 @@ use Rattle.hwp_law_run.specs.hwp_geom.declared.Layout.{Layout}
 use Rattle.hwp_law_run.specs.hwp_script_read.declared.Command.{Command}
 use Rattle.hwp_law_run.specs.hwp_script_read.declared.Command.TheVariants as commands
 use Rattle.hwp_law_run.specs.hwp_report_text.declared.Answer.{Answer}
-use Rattle.hwp_law_run.specs.hwp_law_commands.Cows.{acting}
+use Rattle.hwp_law_run.specs.hwp_law.Cows.{acting}
 use Rattle.hwp_law_run.specs.hwp_law.Acting.{acting_from}
 use Rattle.hwp_law_run.specs.hwp_law.Losses.{number_by, numbers_after, tells_number}
 

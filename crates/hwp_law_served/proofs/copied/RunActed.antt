@@ -17,8 +17,8 @@ use Rattle.hwp_law_run.specs.hwp_report_text.declared.CpuLine.{CpuLine}
 use Rattle.hwp_law_run.specs.hwp_report_text.declared.Report.{Report}
 use Rattle.hwp_law_run.specs.hwp_report_text.declared.Stop.{Stop}
 use Rattle.hwp_law_run.specs.hwp_report_text.declared.StopCause.{StopCause}
-use Rattle.hwp_law_run.specs.hwp_law_commands.Commands.{command_at}
-use Rattle.hwp_law_run.specs.hwp_law_commands.Cows.{acting, copied_from}
+use Rattle.hwp_law_run.specs.hwp_law.Commands.{command_at}
+use Rattle.hwp_law_run.specs.hwp_law.Cows.{acting, copied_from}
 use Rattle.hwp_law_run.specs.hwp_law.Acting.{acting_from, acting_lists, acting_script, copied_at}
 use Rattle.hwp_law_run.specs.hwp_law.Lines.{answered, answers_to}
 use Rattle.hwp_law_run.specs.hwp_law.Policies.{answered_before, answered_on}

@@ -8,7 +8,7 @@ use Rattle.hwp_law_run.specs.hwp_core_rule.declared.View.{View}
 use Rattle.hwp_law_run.specs.hwp_script_read.declared.Command.{Command}
 use Rattle.hwp_law_run.specs.hwp_script_read.declared.Command.TheVariants as commands
 use Rattle.hwp_law_run.specs.hwp_report_text.declared.Answer.{Answer}
-use Rattle.hwp_law_run.specs.hwp_law_commands.Commands.{can_fail}
+use Rattle.hwp_law_run.specs.hwp_law.Commands.{can_fail}
 use Rattle.hwp_cpu_row.specs.declared.FrameChange.{FrameChange}
 use Rattle.hwp_cpu_row.specs.hwp_cpu_check.declared.EventOutcome.{EventOutcome}
 use Rattle.hwp_law_served.specs.Accounts.{IsOwn}

@@ -22,7 +22,7 @@ use Rattle.hwp_law_run.specs.hwp_script_read.declared.Command.TheVariants as com
 use Rattle.hwp_law_run.specs.hwp_report_text.declared.Answer.{Answer}
 use Rattle.hwp_law_run.specs.hwp_report_text.declared.Answer.TheVariants as answers
 use Rattle.hwp_law_run.specs.hwp_law.Answers.{is_answering}
-use Rattle.hwp_law_run.specs.hwp_law_commands.Commands.{Access, access_of, can_fail}
+use Rattle.hwp_law_run.specs.hwp_law.Commands.{Access, access_of, can_fail}
 use Rattle.hwp_law_run.specs.hwp_law.Entries.{CanStandIn, IsAccessAt, Makes}
 use Rattle.hwp_law_run.specs.hwp_law.History.{Fits, Names}
 use Rattle.hwp_law_run.specs.hwp_law.States.{entry_named}

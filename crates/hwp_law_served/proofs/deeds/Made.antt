@@ -28,7 +28,7 @@ use Rattle.hwp_law_run.specs.hwp_report_text.declared.Report.{Report}
 use Rattle.hwp_law_run.specs.hwp_law.Answers.{IsNamed, named_in}
 use Rattle.hwp_law_run.specs.hwp_law.Copies.{AreNamed, must_be_named}
 use Rattle.hwp_law_run.specs.hwp_law.Entries.{AreMadeBy, CanStandIn, Makes}
-use Rattle.hwp_law_run.specs.hwp_law_commands.Commands.{can_offline, command_at, has_watch}
+use Rattle.hwp_law_run.specs.hwp_law.Commands.{can_offline, command_at, has_watch}
 use Rattle.hwp_law_run.specs.hwp_law.Lines.{seq_of}
 use Rattle.hwp_law_run.specs.hwp_law.Places.{entry_at}
 use Rattle.hwp_law_run.specs.hwp_law.States.{entry_named}

@@ -21,7 +21,7 @@ use Rattle.hwp_law_run.specs.hwp_severity.declared.Severity.{Severity}
 use Rattle.hwp_law_run.specs.hwp_severity.declared.Severity.TheVariants as severities
 use Rattle.hwp_law_run.specs.hwp_script_read.declared.Command.{Command}
 use Rattle.hwp_law_run.specs.hwp_report_text.declared.Answer.{Answer}
-use Rattle.hwp_law_run.specs.hwp_law_commands.Commands.{current_thread}
+use Rattle.hwp_law_run.specs.hwp_law.Commands.{current_thread}
 use Rattle.hwp_law_run.specs.hwp_law.Entries.{IsRequiredBy}
 use Rattle.hwp_soft.specs.hwp_claim.declared.Found.{Found}
 use Rattle.hwp_cpu_row.specs.declared.Row.{Row}

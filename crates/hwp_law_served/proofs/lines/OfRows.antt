@@ -29,8 +29,8 @@ use Rattle.hwp_law_run.specs.hwp_report_text.declared.Answer.TheVariants as answ
 use Rattle.hwp_law_run.specs.hwp_report_text.declared.OfflineResult.{OfflineResult}
 use Rattle.hwp_law_run.specs.hwp_report_text.declared.OfflineResult.TheVariants as results
 use Rattle.hwp_law_run.specs.hwp_report_text.declared.Report.{Report}
-use Rattle.hwp_law_run.specs.hwp_law_commands.Commands.{current_thread}
-use Rattle.hwp_law_run.specs.hwp_law_commands.Outcomes.{outcome_answer}
+use Rattle.hwp_law_run.specs.hwp_law.Commands.{current_thread}
+use Rattle.hwp_law_run.specs.hwp_law.Outcomes.{outcome_answer}
 use Rattle.hwp_law_run.specs.hwp_law.Records.{is_kernel_found, is_moved}
 use Rattle.hwp_law_run.proofs.Homes.{there-is}
 use Rattle.hwp_soft.specs.hwp_claim.declared.Found.{Found}

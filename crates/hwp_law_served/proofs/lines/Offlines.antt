@@ -20,9 +20,9 @@ use Rattle.hwp_law_run.specs.hwp_report_text.declared.EventLine.{EventLine}
 use Rattle.hwp_law_run.specs.hwp_report_text.declared.OfflinedLine.{OfflinedLine}
 use Rattle.hwp_law_run.specs.hwp_report_text.declared.Report.{Report}
 use Rattle.hwp_law_run.specs.hwp_banks.Banks.{Banks}
-use Rattle.hwp_law_run.specs.hwp_law_commands.Commands.{can_offline, has_watch, is_watch}
-use Rattle.hwp_law_run.specs.hwp_law_commands.Notes.{checks, ends_machine, noted_frame, notes, notes_of_check, with_line}
-use Rattle.hwp_law_run.specs.hwp_law_commands.Watched.{Watched, due, watched_after}
+use Rattle.hwp_law_run.specs.hwp_law.Commands.{can_offline, has_watch, is_watch}
+use Rattle.hwp_law_run.specs.hwp_law.Notes.{checks, ends_machine, noted_frame, notes, notes_of_check, with_line}
+use Rattle.hwp_law_run.specs.hwp_law.Watched.{Watched, due, watched_after}
 use Rattle.hwp_law_run.specs.hwp_law.Lines.{events_of, offlined_of, rows_of}
 use Rattle.hwp_law_run.specs.hwp_law.Offlined.{due_of, watched_before, watched_from}
 use Rattle.hwp_cpu_row.specs.declared.Offlining.{Offlining}

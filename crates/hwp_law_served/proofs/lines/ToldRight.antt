@@ -27,9 +27,9 @@ use Rattle.hwp_law_run.specs.hwp_report_text.declared.Acted.{Acted}
 use Rattle.hwp_law_run.specs.hwp_report_text.declared.Acted.TheVariants as acts
 use Rattle.hwp_law_run.specs.hwp_report_text.declared.Answer.{Answer}
 use Rattle.hwp_law_run.specs.hwp_banks.Banks.{Banks}
-use Rattle.hwp_law_run.specs.hwp_law_commands.Commands.{current_thread}
+use Rattle.hwp_law_run.specs.hwp_law.Commands.{current_thread}
 use Rattle.hwp_law_run.specs.hwp_severity.declared.Arrival.{Arrival}
-use Rattle.hwp_law_run.specs.hwp_law_commands.Outcomes.{outcome_act}
+use Rattle.hwp_law_run.specs.hwp_law.Outcomes.{outcome_act}
 use Rattle.hwp_law_run.specs.hwp_law.Records.{result_of}
 use Rattle.hwp_soft.specs.hwp_claim.declared.Found.{Found}
 use Rattle.hwp_cpu_row.specs.hwp_cpu_check.declared.Held.{Held}

@@ -39,7 +39,7 @@ use Rattle.hwp_law_run.specs.hwp_core_rule.Known.{deeds, is_by}
 use Rattle.hwp_law_run.proofs.of_hwp_core_rule.MadeEntries.{PutsNone}
 use Rattle.hwp_law_run.specs.hwp_script_read.declared.Command.{Command}
 use Rattle.hwp_law_run.specs.hwp_report_text.declared.Answer.{Answer}
-use Rattle.hwp_law_run.specs.hwp_law_commands.Commands.{can_fail}
+use Rattle.hwp_law_run.specs.hwp_law.Commands.{can_fail}
 use Rattle.hwp_law_run.specs.hwp_law.Entries.{Makes}
 use Rattle.hwp_law_run.specs.hwp_law.Pairings.{is_soft}
 use Rattle.hwp_cpu_row.specs.declared.Row.{Row}

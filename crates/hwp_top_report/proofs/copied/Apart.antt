@@ -16,8 +16,8 @@ use Rattle.hwp_law_served.specs.hwp_script_read.Valid.{IsAnon, IsTwinFit, IsVali
 use Rattle.hwp_law_served.specs.hwp_script_read.declared.Command.{Command}
 use Rattle.hwp_law_served.specs.hwp_script_read.declared.Command.TheVariants as commands
 use Rattle.hwp_law_served.specs.hwp_script_read.declared.Script.{Script}
-use Rattle.hwp_law_served.specs.hwp_law_commands.Commands.{command_at}
-use Rattle.hwp_law_served.specs.hwp_law_commands.Cows.{Cow, acting, copied_from, cow_after, cow_of, own_page, twin_or}
+use Rattle.hwp_law_served.specs.hwp_law.Commands.{command_at}
+use Rattle.hwp_law_served.specs.hwp_law.Cows.{Cow, acting, copied_from, cow_after, cow_of, own_page, twin_or}
 use Rattle.hwp_law_served.specs.hwp_law.Acting.{acting_script, copied_at}
 use Rattle.hwp_law_served.specs.hwp_law.Policies.{answered_before}
 use Rattle.hwp_law_served.specs.hwp_law.Private.{freeze_from}

@@ -20,7 +20,7 @@ use Rattle.hwp_law_served.specs.hwp_script_read.declared.Script.{Script}
 use Rattle.hwp_law_served.specs.hwp_report_text.declared.EventLine.{EventLine}
 use Rattle.hwp_law_served.specs.hwp_report_text.declared.Report.{Report}
 use Rattle.hwp_law_served.specs.hwp_severity.declared.Arrival.{Arrival}
-use Rattle.hwp_law_served.specs.hwp_law_commands.Commands.{command_at}
+use Rattle.hwp_law_served.specs.hwp_law.Commands.{command_at}
 use Rattle.hwp_law_served.specs.hwp_law.Copies.{copy_checks}
 use Rattle.hwp_law_served.specs.hwp_law.Events.{AreAccessChecks}
 use Rattle.hwp_law_served.specs.hwp_cpu_row.Acts.{event_at}

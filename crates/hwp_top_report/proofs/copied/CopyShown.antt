@@ -22,7 +22,7 @@ use Rattle.hwp_law_served.specs.hwp_script_read.declared.Script.{Script}
 use Rattle.hwp_law_served.specs.hwp_report_text.declared.Answer.{Answer}
 use Rattle.hwp_law_served.specs.hwp_report_text.declared.Answer.TheVariants as answers
 use Rattle.hwp_law_served.specs.hwp_report_text.declared.Report.{Report}
-use Rattle.hwp_law_served.specs.hwp_law_commands.Commands.{command_at, process_at, process_of_thread, thread_of}
+use Rattle.hwp_law_served.specs.hwp_law.Commands.{command_at, process_at, process_of_thread, thread_of}
 use Rattle.hwp_law_served.specs.hwp_law.Copies.{ended_through}
 use Rattle.hwp_law_served.specs.hwp_law.Endings.{IsOver}
 use Rattle.hwp_law_served.specs.hwp_law.Runs.{slot_ended, slot_of}

@@ -25,7 +25,7 @@ use Rattle.hwp_law_served.specs.hwp_script_read.declared.Script.{Script}
 use Rattle.hwp_law_served.specs.hwp_report_text.declared.Answer.{Answer}
 use Rattle.hwp_law_served.specs.hwp_report_text.declared.Answer.TheVariants as answers
 use Rattle.hwp_law_served.specs.hwp_report_text.declared.Report.{Report}
-use Rattle.hwp_law_served.specs.hwp_law_commands.Commands.{Access, access_of, process_of_thread, thread_of}
+use Rattle.hwp_law_served.specs.hwp_law.Commands.{Access, access_of, process_of_thread, thread_of}
 use Rattle.hwp_law_served.specs.hwp_law.Endings.{EndingsStay, HasEnded, IsOver, WasGone}
 use Rattle.hwp_law_served.proofs.of_hwp_law_run.Reported.{entry-listed}
 use Rattle.hwp_law_served.specs.hwp_cpu_row.declared.FrameChange.{FrameChange}

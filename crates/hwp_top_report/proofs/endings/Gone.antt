@@ -25,7 +25,7 @@ use Rattle.hwp_law_served.specs.hwp_core_rule.Boards.{view_of}
 use Rattle.hwp_law_served.specs.hwp_script_read.declared.Command.{Command}
 use Rattle.hwp_law_served.specs.hwp_script_read.declared.Script.{Script}
 use Rattle.hwp_law_served.specs.hwp_report_text.declared.Report.{Report}
-use Rattle.hwp_law_served.specs.hwp_law_commands.Commands.{command_at, process_of_thread, thread_of}
+use Rattle.hwp_law_served.specs.hwp_law.Commands.{command_at, process_of_thread, thread_of}
 use Rattle.hwp_law_served.specs.hwp_law.Endings.{HasEnding, IsGone}
 use Rattle.hwp_law_served.proofs.of_hwp_law_run.Homes.{there-is}
 use Rattle.hwp_law_served.proofs.of_hwp_law_run.Reported.{home-of}

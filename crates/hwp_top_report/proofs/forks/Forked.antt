@@ -21,8 +21,8 @@ use Rattle.hwp_law_served.specs.hwp_script_read.Valid.{AreLists, IsAnon, IsComma
 use Rattle.hwp_law_served.specs.hwp_script_read.declared.Command.{Command}
 use Rattle.hwp_law_served.specs.hwp_script_read.declared.Command.TheVariants as commands
 use Rattle.hwp_law_served.specs.hwp_script_read.declared.Script.{Script}
-use Rattle.hwp_law_served.specs.hwp_law_commands.Commands.{command_at}
-use Rattle.hwp_law_served.specs.hwp_law_commands.Cows.{Cow, cow_of, froze_slot, own_page}
+use Rattle.hwp_law_served.specs.hwp_law.Commands.{command_at}
+use Rattle.hwp_law_served.specs.hwp_law.Cows.{Cow, cow_of, froze_slot, own_page}
 use Rattle.hwp_law_served.specs.hwp_law.Lines.{answers_to}
 use Rattle.hwp_law_served.specs.hwp_law.Policies.{answered_on}
 use Rattle.hwp_law_served.specs.hwp_law.Private.{freeze_from}

@@ -25,8 +25,8 @@ use Rattle.hwp_law_served.specs.hwp_report_text.declared.Report.{Report}
 use Rattle.hwp_law_served.specs.hwp_script_read.declared.Command.{Command}
 use Rattle.hwp_law_served.specs.hwp_script_read.declared.Command.TheVariants as commands
 use Rattle.hwp_law_served.specs.hwp_script_read.declared.Script.{Script}
-use Rattle.hwp_law_served.specs.hwp_law_commands.Commands.{command_at}
-use Rattle.hwp_law_served.specs.hwp_law_commands.Cows.{acting}
+use Rattle.hwp_law_served.specs.hwp_law.Commands.{command_at}
+use Rattle.hwp_law_served.specs.hwp_law.Cows.{acting}
 use Rattle.hwp_law_served.specs.hwp_law.Acting.{acting_script, copied_at}
 use Rattle.hwp_law_served.specs.hwp_law.Answers.{IsNamed, named_in}
 use Rattle.hwp_law_served.specs.hwp_law.Causes.{AreCaused, IsCaused, SendsSigbus}

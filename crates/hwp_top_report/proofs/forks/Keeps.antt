@@ -24,7 +24,7 @@ use Rattle.hwp_law_served.specs.hwp_script_read.Valid.{IsValid}
 use Rattle.hwp_law_served.specs.hwp_script_read.declared.Command.{Command}
 use Rattle.hwp_law_served.specs.hwp_script_read.declared.Command.TheVariants as commands
 use Rattle.hwp_law_served.specs.hwp_script_read.declared.Script.{Script}
-use Rattle.hwp_law_served.specs.hwp_law_commands.Cows.{Cow, acting, cow_of, own_page, twin_or, written_through}
+use Rattle.hwp_law_served.specs.hwp_law.Cows.{Cow, acting, cow_of, own_page, twin_or, written_through}
 use Rattle.hwp_law_served.specs.hwp_law.Acting.{acting_script, copied_at}
 use Rattle.hwp_law_served.specs.hwp_law.Answers.{StandsAt}
 use Rattle.hwp_law_served.specs.hwp_law.Copies.{own_in}

@@ -26,8 +26,8 @@ use Rattle.hwp_law_served.specs.hwp_script_read.Valid.{IsCommandOf, IsValid}
 use Rattle.hwp_law_served.specs.hwp_script_read.declared.Command.{Command}
 use Rattle.hwp_law_served.specs.hwp_script_read.declared.Command.TheVariants as commands
 use Rattle.hwp_law_served.specs.hwp_script_read.declared.Script.{Script}
-use Rattle.hwp_law_served.specs.hwp_law_commands.Commands.{command_at, is_fork}
-use Rattle.hwp_law_served.specs.hwp_law_commands.Cows.{cow_of, own_page, twin_or, written_through}
+use Rattle.hwp_law_served.specs.hwp_law.Commands.{command_at, is_fork}
+use Rattle.hwp_law_served.specs.hwp_law.Cows.{cow_of, own_page, twin_or, written_through}
 use Rattle.hwp_law_served.specs.hwp_law.Acting.{acting_script, copied_at}
 use Rattle.hwp_law_served.specs.hwp_law.Law.{AnswersFit, HistoriesFit}
 use Rattle.hwp_law_served.specs.hwp_law.Places.{entry_at}

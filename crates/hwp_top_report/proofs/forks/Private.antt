@@ -28,8 +28,8 @@ use Rattle.hwp_law_served.specs.hwp_script_read.Valid.{IsCommandOf, IsValid}
 use Rattle.hwp_law_served.specs.hwp_script_read.declared.Command.{Command}
 use Rattle.hwp_law_served.specs.hwp_script_read.declared.Command.TheVariants as commands
 use Rattle.hwp_law_served.specs.hwp_script_read.declared.Script.{Script}
-use Rattle.hwp_law_served.specs.hwp_law_commands.Commands.{command_at, has_watch}
-use Rattle.hwp_law_served.specs.hwp_law_commands.Cows.{Cow, acting, cow_of, own_page, through, twin_or}
+use Rattle.hwp_law_served.specs.hwp_law.Commands.{command_at, has_watch}
+use Rattle.hwp_law_served.specs.hwp_law.Cows.{Cow, acting, cow_of, own_page, through, twin_or}
 use Rattle.hwp_law_served.specs.hwp_law.Acting.{acting_script, copied_at}
 use Rattle.hwp_law_served.specs.hwp_law.Answers.{StandsAt}
 use Rattle.hwp_law_served.specs.hwp_law.Causes.{IsCaused}

@@ -39,10 +39,10 @@ use Rattle.hwp_law_served.specs.hwp_script_read.declared.Command.TheVariants as 
 use Rattle.hwp_law_served.specs.hwp_script_read.declared.Script.{Script}
 use Rattle.hwp_law_served.specs.hwp_report_text.declared.Answer.{Answer}
 use Rattle.hwp_law_served.specs.hwp_report_text.declared.Report.{Report}
-use Rattle.hwp_law_served.specs.hwp_law_commands.Commands.{can_fail, has_watch}
+use Rattle.hwp_law_served.specs.hwp_law.Commands.{can_fail, has_watch}
 use Rattle.hwp_law_served.specs.hwp_law.Entries.{Makes}
 use Rattle.hwp_law_served.specs.hwp_law.Places.{entry_at}
-use Rattle.hwp_law_served.specs.hwp_law_commands.Settings.{last_policy, set_behind, setting_of, settings, unset}
+use Rattle.hwp_law_served.specs.hwp_law.Settings.{last_policy, set_behind, setting_of, settings, unset}
 use Rattle.hwp_law_served.proofs.copied.CopyEntries.{MakesWith}
 use Rattle.hwp_law_served.specs.hwp_law.Policies.{answered_before, answered_on}
 use Rattle.hwp_law_served.specs.hwp_law.SeenPolicies.{AreSeen, IsOwnCount, IsPolicySeen, SeenNeverFalls, answered_around, cpu_of_thread, seen_in}

@@ -26,7 +26,7 @@ use Rattle.hwp_law_served.specs.hwp_report_text.declared.EventLine.{EventLine}
 use Rattle.hwp_law_served.specs.hwp_report_text.declared.Report.{Report}
 use Rattle.hwp_law_served.specs.hwp_law.Checks.{IsCheck}
 use Rattle.hwp_law_served.specs.hwp_banks.Banks.{Banks, empty_banks, raw_event}
-use Rattle.hwp_law_served.specs.hwp_law_commands.Commands.{arrival_of, command_at, is_check}
+use Rattle.hwp_law_served.specs.hwp_law.Commands.{arrival_of, command_at, is_check}
 use Rattle.hwp_law_served.specs.hwp_severity.declared.Arrival.{Arrival}
 use Rattle.hwp_law_served.specs.hwp_law.Events.{AreAccessChecks, AreEvents, AreEventsFrom, AreEventsOf, AreScrubbed, IsAccessChecked, IsDamaged, IsRaise, logged_if_done, store_lines}
 use Rattle.hwp_law_served.specs.hwp_law.Events as law

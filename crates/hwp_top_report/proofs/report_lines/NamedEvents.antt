@@ -42,10 +42,10 @@ use Rattle.hwp_law_served.specs.hwp_banks.Status.{is_valid}
 use Rattle.hwp_law_served.specs.hwp_core_rule.Lists.{EachMember}
 use Rattle.hwp_law_served.proofs.of_hwp_core_rule.MoreEntries.{each-append}
 use Rattle.hwp_law_served.specs.hwp_banks.Banks.{Banks, empty_banks, held_from, log_in, raw_bank, raw_event}
-use Rattle.hwp_law_served.specs.hwp_law_commands.Commands.{arrival_of, command_at, has_watch}
-use Rattle.hwp_law_served.specs.hwp_law_commands.Notes.{checks, ends_machine, frame_of, is_corrected, is_for_pages, noted_frame, notes, notes_of_check, with_line}
-use Rattle.hwp_law_served.specs.hwp_law_commands.Watched.{Watched, due, offlining, told}
-use Rattle.hwp_law_served.specs.hwp_law_commands.hwp_cec.Ages.{Note, live}
+use Rattle.hwp_law_served.specs.hwp_law.Commands.{arrival_of, command_at, has_watch}
+use Rattle.hwp_law_served.specs.hwp_law.Notes.{checks, ends_machine, frame_of, is_corrected, is_for_pages, noted_frame, notes, notes_of_check, with_line}
+use Rattle.hwp_law_served.specs.hwp_law.Watched.{Watched, due, offlining, told}
+use Rattle.hwp_law_served.specs.hwp_law.hwp_cec.Ages.{Note, live}
 use Rattle.hwp_law_served.specs.hwp_severity.declared.Arrival.{Arrival}
 use Rattle.hwp_law_served.specs.hwp_law.Events.{logged_if_done}
 use Rattle.hwp_law_served.specs.hwp_geom.declared.Page.{Page}

@@ -41,7 +41,7 @@ use Rattle.hwp_law_served.specs.hwp_report_text.declared.OfflineResult.TheVarian
 use Rattle.hwp_law_served.specs.hwp_report_text.declared.OfflinedLine.{OfflinedLine}
 use Rattle.hwp_law_served.specs.hwp_report_text.declared.Report.{Report}
 use Rattle.hwp_law_served.specs.hwp_report_text.Offlines.{offline_answer}
-use Rattle.hwp_law_served.specs.hwp_law_commands.Commands.{command_at, current_thread}
+use Rattle.hwp_law_served.specs.hwp_law.Commands.{command_at, current_thread}
 use Rattle.hwp_law_served.specs.hwp_report_text.declared.EventLine.{EventLine}
 use Rattle.hwp_law_served.specs.hwp_law.Lines.{answer_of, is_same_command, marks_of, offlined_of}
 use Rattle.hwp_law_served.specs.hwp_law.Pairings.{AreRecorded, entries_of, finds, has_page, is_commands, is_failure, is_failure_mark, is_move, is_move_mark, is_required, is_soft, is_soft_mark, is_soft_of, is_take, is_urgent, marks_in, says_soft, situation_number, soft_lines, urgent_from}

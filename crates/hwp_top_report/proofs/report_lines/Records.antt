@@ -33,7 +33,7 @@ use Rattle.hwp_law_served.specs.hwp_report_text.declared.MarkLine.TheVariants as
 use Rattle.hwp_law_served.specs.hwp_report_text.declared.Report.{Report}
 use Rattle.hwp_law_served.specs.hwp_law.Causes.{HasMark}
 use Rattle.hwp_law_served.specs.hwp_law.Checks.{IsResult}
-use Rattle.hwp_law_served.specs.hwp_law_commands.Commands.{command_at, current_thread}
+use Rattle.hwp_law_served.specs.hwp_law.Commands.{command_at, current_thread}
 use Rattle.hwp_law_served.specs.hwp_law.Lines.{answer_of, marks_of}
 use Rattle.hwp_law_served.specs.hwp_law.Records.{HaveEvents, is_kernel_found, IsAnswered, IsFound, IsFrameRecord, IsMarkAt, hardware_marks, how_in, is_by_hardware, line_results, mark_results, result_lines, result_of, who_in}
 use Rattle.hwp_law_served.specs.hwp_claim.declared.Found.{Found}

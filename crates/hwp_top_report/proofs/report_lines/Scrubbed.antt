@@ -28,7 +28,7 @@ use Rattle.hwp_law_served.specs.hwp_report_text.declared.Report.{Report}
 use Rattle.hwp_law_served.specs.hwp_banks.Banks.{Banks}
 use Rattle.hwp_law_served.specs.hwp_law.Events.{AreScrubbed, IsBadFound, IsScrubbed, IsWeakFound}
 use Rattle.hwp_law_served.specs.hwp_law.Lines.{answer_of}
-use Rattle.hwp_law_served.specs.hwp_law_commands.Commands.{command_at}
+use Rattle.hwp_law_served.specs.hwp_law.Commands.{command_at}
 use Rattle.hwp_law_served.specs.hwp_cpu_row.declared.FrameChange.{FrameChange}
 use Rattle.hwp_law_served.specs.hwp_cpu_row.declared.Row.{Row}
 use Rattle.hwp_law_served.specs.hwp_cpu_check.declared.EventOutcome.{EventOutcome}

@@ -32,7 +32,7 @@ use Rattle.hwp_law_served.specs.hwp_report_text.declared.Answer.{Answer}
 use Rattle.hwp_law_served.specs.hwp_report_text.declared.FrameLine.{FrameLine}
 use Rattle.hwp_law_served.specs.hwp_report_text.declared.Report.{Report}
 use Rattle.hwp_law_served.specs.hwp_law.Lines.{answer_of, bad_lines_of, weak_lines_of}
-use Rattle.hwp_law_served.specs.hwp_law_commands.Commands.{command_at}
+use Rattle.hwp_law_served.specs.hwp_law.Commands.{command_at}
 use Rattle.hwp_law_served.specs.hwp_cpu_row.declared.FrameChange.{FrameChange}
 use Rattle.hwp_law_served.specs.hwp_cpu_row.declared.Row.{Row}
 use Rattle.hwp_law_served.specs.hwp_cpu_check.declared.EventOutcome.{EventOutcome}

@@ -1,5 +1,5 @@
 use Rattle.std.proofs.Common.{◌≡◌, drop, fold}
-use Rattle.hwp_law.specs.hwp_law_commands.Cows.{Cow, cow_after, cow_of}
+use Rattle.hwp_law.specs.Cows.{Cow, cow_after, cow_of}
 use Rattle.hwp_law.specs.hwp_report_text.declared.Answer.{Answer}
 use Rattle.hwp_law.specs.hwp_script_read.declared.Command.{Command}
 use Rattle.hwp_check_acting.specs.ActedOn.{cow_in}

@@ -1,5 +1,5 @@
 use Rattle.std.proofs.Common.{◌≡◌, Some, ◌∙◌, sym, true≢false}
-use Rattle.hwp_check_evidence.specs.hwp_law_commands.Commands.{process_at}
+use Rattle.hwp_check_evidence.specs.hwp_law.Commands.{process_at}
 use Rattle.hwp_check_answers.proofs.JudgeLaws.{is_revived, revived_is}
 use Rattle.hwp_check_answers.proofs.judging.is_revived.Goals as goal
 

@@ -1,7 +1,7 @@
 use Rattle.std.proofs.Common.{ℕ, sym, subst, ◌∙◌, []}
 use Rattle.std.proofs.lemmas.List.{length-replicate}
 use Rattle.hwp_law.specs.Events.{access_lines}
-use Rattle.hwp_law.specs.hwp_law_commands.Commands.{arrival_of}
+use Rattle.hwp_law.specs.Commands.{arrival_of}
 use Rattle.hwp_law.specs.hwp_severity.declared.Arrival.{Arrival}
 use Rattle.hwp_check_event_line.specs.Firsts.{shown_lines}
 use Rattle.hwp_check_events.specs.Cases.{CaseValue}

@@ -1,5 +1,5 @@
 use Rattle.std.proofs.Common.{subst}
-use Rattle.hwp_law.specs.hwp_law_commands.Commands.{arrival_of}
+use Rattle.hwp_law.specs.Commands.{arrival_of}
 use Rattle.hwp_check_event_line.specs.Firsts.{shown_lines}
 use Rattle.hwp_check_events.specs.Cases.{CaseValue}
 use Rattle.hwp_check_events.specs.Judged.{IsRaiseJudged}

@@ -1,6 +1,6 @@
 use Rattle.std.proofs.Common.{Bool, cond, sym, ◌∙◌, subst}
 use Rattle.hwp_banks.specs.declared.Origin.TheVariants as origins
-use Rattle.hwp_law.specs.hwp_law_commands.Commands.{arrival_of}
+use Rattle.hwp_law.specs.Commands.{arrival_of}
 use Rattle.hwp_law.specs.Events.{access_lines}
 use Rattle.hwp_check_event_line.specs.Firsts.{shown_lines}
 use Rattle.hwp_check_acting.specs.ActedOn.{copies_in}

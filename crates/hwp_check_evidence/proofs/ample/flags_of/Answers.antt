@@ -1,6 +1,6 @@
 use Rattle.std.proofs.Common.{fold, refl, sym, ◌∙◌}
 use Rattle.std.proofs.lemmas.List.{at_drop_all}
-use Rattle.hwp_law.specs.hwp_law_commands.Commands.{has_watch}
+use Rattle.hwp_law.specs.Commands.{has_watch}
 use Rattle.hwp_check_evidence.specs.Ample.{noted_list}
 use Rattle.hwp_check_evidence.proofs.FindingLaws.{fold-next}
 use Rattle.hwp_check_evidence.proofs.ample.flags_of.Goals as goal

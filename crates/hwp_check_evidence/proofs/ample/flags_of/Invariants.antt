@@ -1,5 +1,5 @@
 use Rattle.std.proofs.Common.{◌≡◌, drop, fold}
-use Rattle.hwp_law.specs.hwp_law_commands.Commands.{has_watch}
+use Rattle.hwp_law.specs.Commands.{has_watch}
 use Rattle.hwp_check_evidence.specs.Ample.{flags_of, noted_list}
 use Rattle.hwp_check_evidence.proofs.ample.flags_of.Given as goal
 

@@ -1,7 +1,7 @@
 use Rattle.std.proofs.Common.{◌<◌, List, Some, length, slice_get, sym, ap, ◌∙◌, arith}
 use Rattle.std.proofs.lemmas.Option.{slice_get-get_or}
 use Rattle.hwp_check_rules.specs.hwp_report_text.declared.Answer.{Answer}
-use Rattle.hwp_check_rules.specs.hwp_law_commands.Notes.{notes}
+use Rattle.hwp_check_rules.specs.hwp_law.Notes.{notes}
 use Rattle.hwp_check_rules.specs.hwp_check_event_line.Firsts.{shown_lines}
 use Rattle.hwp_check_offlined.proofs.DueLaws.{limited, one-more, shown-at}
 use Rattle.hwp_check_offlined.proofs.dues.dues_of.Goals as goal

@@ -1,6 +1,6 @@
 use Rattle.std.proofs.Common.{◌≡◌, ◌++◌, filter_map, take}
 use Rattle.hwp_check_rules.specs.hwp_check_event_line.Firsts.{shown_lines}
-use Rattle.hwp_check_rules.specs.hwp_law_commands.Notes.{noted_frame}
+use Rattle.hwp_check_rules.specs.hwp_law.Notes.{noted_frame}
 use Rattle.hwp_check_offlined.proofs.notes.add_noted.Given as goal
 
 abbrev pub invariant-loop-shown : goal.invariant-loop-shown

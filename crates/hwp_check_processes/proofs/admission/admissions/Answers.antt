@@ -1,7 +1,7 @@
 use Rattle.std.proofs.Common.{◌≡◌, ◌+◌, List, Some, ap, slice_get, subst, sym, ◌∙◌, arith}
 use Rattle.std.proofs.lemmas.Option.{slice_get-get_or}
 use Rattle.hwp_check_rules.specs.hwp_guest.declared.Admit.{Admit}
-use Rattle.hwp_check_rules.specs.hwp_law_commands.Guests.{denied}
+use Rattle.hwp_check_rules.specs.hwp_law.GuestRule.{denied}
 use Rattle.hwp_check_rules.specs.hwp_report_text.declared.Answer.{Answer}
 use Rattle.hwp_check_rules.specs.hwp_script_read.declared.Command.{Command}
 use Rattle.hwp_check_processes.specs.Admission.{AreAdmissions}

@@ -1,5 +1,5 @@
 use Rattle.std.proofs.Common.{◌≡◌, ◌≤◌, length, take}
-use Rattle.hwp_law.specs.hwp_law_commands.Settings.{settings}
+use Rattle.hwp_law.specs.Settings.{settings}
 use Rattle.hwp_check_rules.specs.Pasts.{AreCounts, by_flags}
 use Rattle.hwp_check_rules.proofs.pasts.counts_of.Given as goal
 

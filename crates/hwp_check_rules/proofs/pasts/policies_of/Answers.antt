@@ -1,5 +1,5 @@
 use Rattle.std.proofs.Common.{◌≤◌, length, ap, ◌∙◌, arith}
-use Rattle.hwp_law.specs.hwp_law_commands.Settings.{settings}
+use Rattle.hwp_law.specs.Settings.{settings}
 use Rattle.hwp_check_rules.specs.Pasts.{by_flags}
 use Rattle.hwp_check_rules.proofs.SettingLaws.{all-taken, policies-more}
 use Rattle.hwp_check_rules.proofs.pasts.policies_of.Goals as goal

@@ -1,6 +1,6 @@
 use Rattle.std.proofs.Common.{List, is_some, ap, ◌∙◌}
-use Rattle.hwp_law_commands.specs.hwp_severity.declared.Grade.{Grade}
-use Rattle.hwp_law_commands.specs.hwp_severity.Handling.{lowest_stop}
+use Rattle.hwp_law.specs.hwp_severity.declared.Grade.{Grade}
+use Rattle.hwp_law.specs.hwp_severity.Handling.{lowest_stop}
 use Rattle.hwp_cpu_check.specs.Events.{held_with}
 use Rattle.hwp_cpu_check.proofs.BankGrades.{held-is, stops-is}
 use Rattle.hwp_cpu_check.proofs.EventTells.{begun}

@@ -27,9 +27,9 @@ use Rattle.hwp_report_text.specs.hwp_guest.declared.Taken.{Taken}
 use Rattle.hwp_report_text.specs.hwp_guest.declared.Taken.TheVariants as takings
 use Rattle.hwp_report_text.specs.hwp_guest.GuestState.{GuestState, admitted, after}
 use Rattle.hwp_report_text.specs.hwp_guest.Guests.{guest_frame, origin_of, outcome, outcome_row}
-use Rattle.hwp_law_commands.specs.declared.guests.GuestAccess.{GuestAccess}
-use Rattle.hwp_law_commands.specs.Commands as access
-use Rattle.hwp_law_commands.specs.Commands.{access_of, arrival_of, process_of_thread}
+use Rattle.hwp_law.specs.declared.guests.GuestAccess.{GuestAccess}
+use Rattle.hwp_law.specs.Commands as access
+use Rattle.hwp_law.specs.Commands.{access_of, arrival_of, process_of_thread}
 
 -- a fetch reads an instruction; each other access is a load or a store
 abbrev pub kind_of : Command → Access

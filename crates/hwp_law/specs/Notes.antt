@@ -7,7 +7,7 @@ use Rattle.hwp_report_text.specs.hwp_banks.Addresses.{frame_at}
 use Rattle.hwp_report_text.specs.hwp_banks.Status.{is_addr_valid}
 use Rattle.hwp_report_text.specs.declared.EventLine.{EventLine}
 use Rattle.hwp_report_text.specs.Acts.{is_panic, is_stopping}
-use Rattle.hwp_law_commands.specs.Commands.{is_kernels}
+use Rattle.hwp_law.specs.Commands.{is_kernels}
 
 -- a line and the machine checks behind it: it is the first line of the first of them, if its bank is lower; else it is a check of its own
 abbrev pub with_line : EventLine → List (List EventLine) → List (List EventLine)

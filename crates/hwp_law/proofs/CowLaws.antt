@@ -10,9 +10,9 @@ use Rattle.hwp_script_read.specs.declared.Command.TheVariants as commands
 use Rattle.hwp_report_text.specs.declared.Answer.{Answer}
 use Rattle.hwp_report_text.specs.declared.Answer.TheVariants as answers
 use Rattle.hwp_report_text.specs.hwp_kill.declared.Policy.{Policy}
-use Rattle.hwp_law_commands.specs.Commands.{arrival_of, can_fail, can_offline, current_thread, is_fork, is_watch, thread_of}
-use Rattle.hwp_law_commands.specs.Cows.{Cow, acting, copied_from, cow_after, cow_of, froze_slot, own_page, twin_or}
-use Rattle.hwp_law_commands.specs.Settings.{setting_of}
+use Rattle.hwp_law.specs.Commands.{arrival_of, can_fail, can_offline, current_thread, is_fork, is_watch, thread_of}
+use Rattle.hwp_law.specs.Cows.{Cow, acting, copied_from, cow_after, cow_of, froze_slot, own_page, twin_or}
+use Rattle.hwp_law.specs.Settings.{setting_of}
 
 -- one of the commands forks
 abbrev pub has_forked : List (Command × Answer) → Bool

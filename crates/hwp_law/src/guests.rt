@@ -1,5 +1,5 @@
 ghost use Rattle.std.specs.Prelude.{◌≡◌};
-ghost use Rattle.hwp_law_commands.specs.Guests.{access_by, guest_access};
+ghost use Rattle.hwp_law.specs.GuestRule.{access_by, guest_access};
 
 use hwp_report_text::Access;
 use hwp_script_read::{Command, Layout, Line, Mode, Proc, Thread, VSlot};

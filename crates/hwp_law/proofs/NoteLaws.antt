@@ -6,8 +6,8 @@ use Rattle.hwp_script_read.specs.hwp_geom.declared.Frame.{Frame}
 use Rattle.hwp_script_read.specs.hwp_geom.declared.Layout.{Layout}
 use Rattle.hwp_script_read.specs.hwp_script_lines.hwp_cec.Ages.{CecEvent, Note, live}
 use Rattle.hwp_report_text.specs.declared.EventLine.{EventLine}
-use Rattle.hwp_law_commands.specs.Notes.{AreApart, IsRising, checks, notes, notes_of_check, with_line}
-use Rattle.hwp_law_commands.specs.Watched.{Watched, offlining, told}
+use Rattle.hwp_law.specs.Notes.{AreApart, IsRising, checks, notes, notes_of_check, with_line}
+use Rattle.hwp_law.specs.Watched.{Watched, offlining, told}
 
 -- where a line is put first: before the first check's lines, or as a check of its own
 starts : (y : EventLine) (cs : List (List EventLine)) → (more : List EventLine) × (rest : List (List EventLine)) × (with_line y cs ≡ (y ∷ more) ∷ rest)

@@ -10,9 +10,9 @@ use Rattle.hwp_script_read.specs.declared.Command.TheVariants as commands
 use Rattle.hwp_report_text.specs.declared.Answer.{Answer}
 use Rattle.hwp_report_text.specs.declared.Answer.TheVariants as answers
 use Rattle.hwp_report_text.specs.hwp_kill.declared.Policy.{Policy}
-use Rattle.hwp_law_commands.specs.Commands.{is_fork}
-use Rattle.hwp_law_commands.specs.Settings.{set_after, set_behind, setting_of, settings, unset}
-use Rattle.hwp_law_commands.proofs.CowLaws.{both-false, has_forked}
+use Rattle.hwp_law.specs.Commands.{is_fork}
+use Rattle.hwp_law.specs.Settings.{set_after, set_behind, setting_of, settings, unset}
+use Rattle.hwp_law.proofs.CowLaws.{both-false, has_forked}
 
 -- one command more sets what it sets, where those before set what they set
 pub set-more : (layout : Layout) (set : ℕ → List Policy) (list : List (Command × Answer)) (p : Command × Answer) (thread : ℕ)
