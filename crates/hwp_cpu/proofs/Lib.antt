@@ -38,4 +38,3 @@ pub mod ProcessorOpens
 pub mod ProcessorServes
 pub mod Ends
 pub use Rattle.hwp_law_served.proofs as of_hwp_law_served
-pub use Rattle.hwp_law_served.proofs.of_hwp_law_run as of_hwp_law_run

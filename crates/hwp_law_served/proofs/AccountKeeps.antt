@@ -1,23 +1,23 @@
 -- What a command poisoned and set, by its row, stays so over each step of another command.
 use Rattle.std.proofs.Common.{◌≡◌, ◌≢◌, ℕ, inl, inr, Bool, false, cond, List, [], ◌∷◌, ◌++◌, Option, filter, filter_map, map, sym, ap, ◌∙◌, subst}
-use Rattle.hwp_law_run.specs.hwp_geom.declared.Layout.{Layout}
-use Rattle.hwp_law_run.specs.hwp_geom.declared.Who.{Who}
-use Rattle.hwp_law_run.specs.hwp_page.History.{BodyValue}
-use Rattle.hwp_law_run.specs.hwp_core_rule.declared.Log.{Log}
-use Rattle.hwp_law_run.specs.hwp_core_rule.declared.Mark.{Mark}
-use Rattle.hwp_law_run.specs.hwp_core_rule.declared.Setting.{Setting}
-use Rattle.hwp_law_run.specs.hwp_core_rule.declared.Step.{Step}
-use Rattle.hwp_law_run.specs.hwp_core_rule.declared.View.{View}
-use Rattle.hwp_law_run.specs.hwp_core_rule.Lists.{EachMember}
-use Rattle.hwp_law_run.specs.hwp_core_rule.Views.{noted, view_by}
-use Rattle.hwp_law_run.proofs.of_hwp_core_rule.Lists.{each-push}
-use Rattle.hwp_law_run.specs.hwp_core_rule.Calls.{Steps}
-use Rattle.hwp_law_run.proofs.of_hwp_core_rule.StepLeaves.{content_of}
-use Rattle.hwp_law_run.specs.hwp_core_rule.Known.{deeds}
+use Rattle.hwp_law.specs.hwp_geom.declared.Layout.{Layout}
+use Rattle.hwp_law.specs.hwp_geom.declared.Who.{Who}
+use Rattle.hwp_law.specs.hwp_page.History.{BodyValue}
+use Rattle.hwp_plain.specs.hwp_core_rule.declared.Log.{Log}
+use Rattle.hwp_plain.specs.hwp_core_rule.declared.Mark.{Mark}
+use Rattle.hwp_plain.specs.hwp_core_rule.declared.Setting.{Setting}
+use Rattle.hwp_plain.specs.hwp_core_rule.declared.Step.{Step}
+use Rattle.hwp_plain.specs.hwp_core_rule.declared.View.{View}
+use Rattle.hwp_plain.specs.hwp_core_rule.Lists.{EachMember}
+use Rattle.hwp_plain.specs.hwp_core_rule.Views.{noted, view_by}
+use Rattle.hwp_plain.proofs.of_hwp_core_rule.Lists.{each-push}
+use Rattle.hwp_plain.specs.hwp_core_rule.Calls.{Steps}
+use Rattle.hwp_plain.proofs.of_hwp_core_rule.StepLeaves.{content_of}
+use Rattle.hwp_plain.specs.hwp_core_rule.Known.{deeds}
 use Rattle.hwp_soft.specs.hwp_claim_act.Abandoned.{failed_in}
 use Rattle.hwp_soft.specs.hwp_claim_frame.Done.{marking_of}
-use Rattle.hwp_law_run.specs.hwp_script_read.declared.Command.{Command}
-use Rattle.hwp_law_run.specs.hwp_report_text.declared.Answer.{Answer}
+use Rattle.hwp_law.specs.hwp_script_read.declared.Command.{Command}
+use Rattle.hwp_law.specs.hwp_report_text.declared.Answer.{Answer}
 use Rattle.hwp_cpu_row.specs.declared.Row.{Row}
 use Rattle.hwp_law_served.specs.Accounts.{IsAccounted, is_same}
 use Rattle.hwp_law_served.proofs.StepAdds.{Adds, OneMore, adds-by}

@@ -1,47 +1,47 @@
 -- What a processor knows of an earlier command stays true over each step of a later one.
 use Rattle.std.proofs.Common.{◌≡◌, ◌≢◌, ◌⊎◌, inl, inr, ℕ, ◌==◌, Bool, true, false, cond, List, Option, Some, None, IsSomeAnd, refl, sym, ap, ◌∙◌, subst}
-use Rattle.hwp_law_run.specs.hwp_geom.declared.Damage.{Damage}
-use Rattle.hwp_law_run.specs.hwp_geom.declared.Frame.{Frame}
-use Rattle.hwp_law_run.specs.hwp_geom.declared.Layout.{Layout}
-use Rattle.hwp_law_run.specs.hwp_geom.declared.Mask.{Mask}
-use Rattle.hwp_law_run.specs.hwp_geom.declared.Page.{Page}
-use Rattle.hwp_law_run.specs.hwp_geom.declared.Thread.{Thread}
-use Rattle.hwp_law_run.specs.hwp_geom.declared.VSlot.{VSlot}
-use Rattle.hwp_law_run.specs.hwp_geom.declared.Who.{Who}
-use Rattle.hwp_law_run.specs.hwp_page.declared.At.{At}
-use Rattle.hwp_law_run.specs.hwp_page.declared.Outcome.{Outcome}
-use Rattle.hwp_law_run.specs.hwp_page.declared.PageState.{PageState}
-use Rattle.hwp_law_run.specs.hwp_page.declared.What.{What}
-use Rattle.hwp_law_run.specs.hwp_page.declared.What.TheVariants as entries
-use Rattle.hwp_law_run.specs.hwp_page.History.{BodyValue}
-use Rattle.hwp_law_run.specs.hwp_core_rule.declared.InHand.{InHand}
-use Rattle.hwp_law_run.specs.hwp_core_rule.declared.Log.{Log}
-use Rattle.hwp_law_run.specs.hwp_core_rule.declared.SharedWord.{SharedWord}
-use Rattle.hwp_law_run.specs.hwp_core_rule.declared.SharedWord.TheVariants as places
-use Rattle.hwp_law_run.specs.hwp_core_rule.declared.Spoiled.{Spoiled}
-use Rattle.hwp_law_run.specs.hwp_core_rule.declared.Step.{Step}
-use Rattle.hwp_law_run.specs.hwp_core_rule.declared.Step.TheVariants as steps
-use Rattle.hwp_law_run.specs.hwp_core_rule.declared.View.{View}
-use Rattle.hwp_law_run.specs.hwp_core_rule.Lists.{SomeMember}
-use Rattle.hwp_law_run.specs.hwp_core_rule.Logs.{log_of}
-use Rattle.hwp_law_run.specs.hwp_core_rule.Steps.{goes}
-use Rattle.hwp_law_run.specs.hwp_core_rule.Views.{body_of, listed_of, loaded, noted, put_home, taken, view_by}
-use Rattle.hwp_law_run.proofs.of_hwp_core_rule.Lists.{some-push}
-use Rattle.hwp_law_run.specs.hwp_core_rule.Calls.{CanMake, Steps, logs}
-use Rattle.hwp_law_run.proofs.of_hwp_core_rule.StepLeaves.{content_of}
-use Rattle.hwp_law_run.specs.hwp_core_rule.Known.{HasMadeNone, SawStop, deeds}
-use Rattle.hwp_law_run.proofs.of_hwp_core_rule.MadeEntries.{has-made-stays, has-only-stays}
-use Rattle.hwp_law_run.proofs.of_hwp_core_rule.SightKeeps.{saw-bad-of-stays, saw-state-stays, saw-stays}
+use Rattle.hwp_law.specs.hwp_geom.declared.Damage.{Damage}
+use Rattle.hwp_law.specs.hwp_geom.declared.Frame.{Frame}
+use Rattle.hwp_law.specs.hwp_geom.declared.Layout.{Layout}
+use Rattle.hwp_law.specs.hwp_geom.declared.Mask.{Mask}
+use Rattle.hwp_law.specs.hwp_geom.declared.Page.{Page}
+use Rattle.hwp_law.specs.hwp_geom.declared.Thread.{Thread}
+use Rattle.hwp_law.specs.hwp_geom.declared.VSlot.{VSlot}
+use Rattle.hwp_law.specs.hwp_geom.declared.Who.{Who}
+use Rattle.hwp_law.specs.hwp_page.declared.At.{At}
+use Rattle.hwp_law.specs.hwp_page.declared.Outcome.{Outcome}
+use Rattle.hwp_law.specs.hwp_page.declared.PageState.{PageState}
+use Rattle.hwp_law.specs.hwp_page.declared.What.{What}
+use Rattle.hwp_law.specs.hwp_page.declared.What.TheVariants as entries
+use Rattle.hwp_law.specs.hwp_page.History.{BodyValue}
+use Rattle.hwp_plain.specs.hwp_core_rule.declared.InHand.{InHand}
+use Rattle.hwp_plain.specs.hwp_core_rule.declared.Log.{Log}
+use Rattle.hwp_plain.specs.hwp_core_rule.declared.SharedWord.{SharedWord}
+use Rattle.hwp_plain.specs.hwp_core_rule.declared.SharedWord.TheVariants as places
+use Rattle.hwp_plain.specs.hwp_core_rule.declared.Spoiled.{Spoiled}
+use Rattle.hwp_plain.specs.hwp_core_rule.declared.Step.{Step}
+use Rattle.hwp_plain.specs.hwp_core_rule.declared.Step.TheVariants as steps
+use Rattle.hwp_plain.specs.hwp_core_rule.declared.View.{View}
+use Rattle.hwp_plain.specs.hwp_core_rule.Lists.{SomeMember}
+use Rattle.hwp_plain.specs.hwp_core_rule.Logs.{log_of}
+use Rattle.hwp_plain.specs.hwp_core_rule.Steps.{goes}
+use Rattle.hwp_plain.specs.hwp_core_rule.Views.{body_of, listed_of, loaded, noted, put_home, taken, view_by}
+use Rattle.hwp_plain.proofs.of_hwp_core_rule.Lists.{some-push}
+use Rattle.hwp_plain.specs.hwp_core_rule.Calls.{CanMake, Steps, logs}
+use Rattle.hwp_plain.proofs.of_hwp_core_rule.StepLeaves.{content_of}
+use Rattle.hwp_plain.specs.hwp_core_rule.Known.{HasMadeNone, SawStop, deeds}
+use Rattle.hwp_plain.proofs.of_hwp_core_rule.MadeEntries.{has-made-stays, has-only-stays}
+use Rattle.hwp_plain.proofs.of_hwp_core_rule.SightKeeps.{saw-bad-of-stays, saw-state-stays, saw-stays}
 use Rattle.hwp_soft.specs.hwp_soft_move.Seizes.{SawKernel}
 use Rattle.hwp_soft.proofs.SpareSteps.{free-stays}
-use Rattle.hwp_law_run.specs.hwp_script_read.declared.Command.{Command}
-use Rattle.hwp_law_run.specs.hwp_script_read.declared.Command.TheVariants as commands
-use Rattle.hwp_law_run.specs.hwp_report_text.declared.Answer.{Answer}
-use Rattle.hwp_law_run.specs.hwp_report_text.declared.Answer.TheVariants as answers
-use Rattle.hwp_law_run.specs.hwp_report_text.declared.OfflineResult.{OfflineResult}
-use Rattle.hwp_law_run.specs.hwp_report_text.declared.OfflineResult.TheVariants as results
-use Rattle.hwp_law_run.specs.hwp_banks.Banks.{Banks}
-use Rattle.hwp_law_run.specs.hwp_law.Commands.{Access, access_of}
+use Rattle.hwp_law.specs.hwp_script_read.declared.Command.{Command}
+use Rattle.hwp_law.specs.hwp_script_read.declared.Command.TheVariants as commands
+use Rattle.hwp_law.specs.hwp_report_text.declared.Answer.{Answer}
+use Rattle.hwp_law.specs.hwp_report_text.declared.Answer.TheVariants as answers
+use Rattle.hwp_law.specs.hwp_report_text.declared.OfflineResult.{OfflineResult}
+use Rattle.hwp_law.specs.hwp_report_text.declared.OfflineResult.TheVariants as results
+use Rattle.hwp_law.specs.hwp_banks.Banks.{Banks}
+use Rattle.hwp_law.specs.Commands.{Access, access_of}
 use Rattle.hwp_soft.specs.hwp_claim.declared.Found.{Found}
 use Rattle.hwp_cpu_row.specs.declared.FrameChange.{FrameChange}
 use Rattle.hwp_cpu_row.specs.declared.Offlining.{Offlining}

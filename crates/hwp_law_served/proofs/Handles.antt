@@ -1,20 +1,20 @@
 -- What a processor knows of the numbers of its handles stays over each step of a later command, and goes on with one row more.
 use Rattle.std.proofs.Common.{◌≡◌, ◌⊎◌, inl, inr, ℕ, zero, suc, ◌+◌, ◌<◌, ◌≤◌, true, List, [], ◌∷◌, ◌++◌, Option, Some, length, slice_get, take, refl, sym, ap, ◌∙◌, subst, arith}
 use Rattle.std.proofs.lemmas.Option.{none-some, same_Some, slice_get_within}
-use Rattle.hwp_law_run.specs.hwp_geom.declared.Cpu.{Cpu}
-use Rattle.hwp_law_run.specs.hwp_geom.declared.FileNo.{FileNo}
-use Rattle.hwp_law_run.specs.hwp_geom.declared.Layout.{Layout}
-use Rattle.hwp_law_run.specs.hwp_geom.declared.Who.{Who}
-use Rattle.hwp_law_run.specs.hwp_page.History.{BodyValue}
-use Rattle.hwp_law_run.specs.hwp_core_rule.declared.Step.{Step}
-use Rattle.hwp_law_run.specs.hwp_core_rule.declared.View.{View}
-use Rattle.hwp_law_run.proofs.of_hwp_core_rule.Lists.{at_last}
-use Rattle.hwp_law_run.specs.hwp_core_rule.Calls.{CanMake, Steps, logs}
-use Rattle.hwp_law_run.proofs.of_hwp_core_rule.LossCovers.{covers-stays}
-use Rattle.hwp_law_run.proofs.of_hwp_core_rule.SightKeeps.{saw-stays}
-use Rattle.hwp_law_run.specs.hwp_script_read.declared.Command.{Command}
-use Rattle.hwp_law_run.specs.hwp_report_text.declared.Answer.{Answer}
-use Rattle.hwp_law_run.specs.hwp_law.Losses.{number_by, numbers_after, tells_number}
+use Rattle.hwp_law.specs.hwp_geom.declared.Cpu.{Cpu}
+use Rattle.hwp_law.specs.hwp_geom.declared.FileNo.{FileNo}
+use Rattle.hwp_law.specs.hwp_geom.declared.Layout.{Layout}
+use Rattle.hwp_law.specs.hwp_geom.declared.Who.{Who}
+use Rattle.hwp_law.specs.hwp_page.History.{BodyValue}
+use Rattle.hwp_plain.specs.hwp_core_rule.declared.Step.{Step}
+use Rattle.hwp_plain.specs.hwp_core_rule.declared.View.{View}
+use Rattle.hwp_plain.proofs.of_hwp_core_rule.Lists.{at_last}
+use Rattle.hwp_plain.specs.hwp_core_rule.Calls.{CanMake, Steps, logs}
+use Rattle.hwp_plain.proofs.of_hwp_core_rule.LossCovers.{covers-stays}
+use Rattle.hwp_plain.proofs.of_hwp_core_rule.SightKeeps.{saw-stays}
+use Rattle.hwp_law.specs.hwp_script_read.declared.Command.{Command}
+use Rattle.hwp_law.specs.hwp_report_text.declared.Answer.{Answer}
+use Rattle.hwp_law.specs.Losses.{number_by, numbers_after, tells_number}
 use Rattle.hwp_cpu_row.specs.declared.Row.{Row}
 use Rattle.hwp_law_served.specs.Handles.{KnowsNumber, KnowsNumbers, answers_by, number_at}
 

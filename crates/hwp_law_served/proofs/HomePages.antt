@@ -1,18 +1,18 @@
 -- What is summed over the bodies at home is summed over the histories of the report: each page has one body, at home.
 use Rattle.std.proofs.Common.{◌≡◌, ◌≢◌, ℕ, ◌<◌, ◌==◌, eq-eqb, ne_eqb, Bool, cond, List, [], Option, Some, None, length, slice_get, unwrap_or, inl, inr, refl, sym, ap, ◌∙◌, subst}
 use Rattle.std.specs.List.{sum_by}
-use Rattle.hwp_law_run.specs.hwp_geom.declared.Layout.{Layout}
-use Rattle.hwp_law_run.specs.hwp_page.declared.Entry.{Entry}
-use Rattle.hwp_law_run.specs.hwp_core_rule.declared.Log.{Log}
-use Rattle.hwp_law_run.specs.hwp_core_rule.declared.State.{State}
-use Rattle.hwp_law_run.specs.hwp_core_rule.Lists.{of_home}
-use Rattle.hwp_law_run.specs.hwp_core_rule.Words.{sum_below}
-use Rattle.hwp_law_run.proofs.of_hwp_core_rule.CountsBelow.{below-swap, below-zero}
-use Rattle.hwp_law_run.proofs.of_hwp_core_rule.Lists.{same-or}
-use Rattle.hwp_law_run.specs.hwp_report_text.declared.Report.{Report}
-use Rattle.hwp_law_run.proofs.Histories.{one-body}
-use Rattle.hwp_law_run.proofs.Homes.{home-within, there-is}
-use Rattle.hwp_law_run.proofs.Reported.{IsLast, home-of}
+use Rattle.hwp_law.specs.hwp_geom.declared.Layout.{Layout}
+use Rattle.hwp_law.specs.hwp_page.declared.Entry.{Entry}
+use Rattle.hwp_plain.specs.hwp_core_rule.declared.Log.{Log}
+use Rattle.hwp_plain.specs.hwp_core_rule.declared.State.{State}
+use Rattle.hwp_plain.specs.hwp_core_rule.Lists.{of_home}
+use Rattle.hwp_plain.specs.hwp_core_rule.Words.{sum_below}
+use Rattle.hwp_plain.proofs.of_hwp_core_rule.CountsBelow.{below-swap, below-zero}
+use Rattle.hwp_plain.proofs.of_hwp_core_rule.Lists.{same-or}
+use Rattle.hwp_law.specs.hwp_report_text.declared.Report.{Report}
+use Rattle.hwp_law_served.proofs.Histories.{one-body}
+use Rattle.hwp_law_served.proofs.Homes.{home-within, there-is}
+use Rattle.hwp_law_served.proofs.Reported.{IsLast, home-of}
 use Rattle.hwp_law_served.proofs.Sums.{below-one, below-same, list-below, sum-one, sum-same}
 
 -- what g says of a body of this page, and 0 of others

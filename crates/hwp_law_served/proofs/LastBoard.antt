@@ -3,36 +3,36 @@ use Rattle.std.proofs.Common.{◌≡◌, ◌⊎◌, ℕ, ◌<◌, ◌≤◌, Lis
 use Rattle.std.proofs.lemmas.Bool.{cases_lt}
 use Rattle.std.specs.Option.{option_map_or}
 use Rattle.std.proofs.lemmas.Option.{none-some, same_Some}
-use Rattle.hwp_law_run.specs.hwp_geom.declared.Cpu.{Cpu}
-use Rattle.hwp_law_run.specs.hwp_geom.declared.Layout.{Layout}
-use Rattle.hwp_law_run.specs.hwp_geom.declared.Thread.{Thread}
-use Rattle.hwp_law_run.specs.hwp_geom.declared.VSlot.{VSlot}
-use Rattle.hwp_law_run.specs.hwp_geom.declared.Who.{Who}
-use Rattle.hwp_law_run.specs.hwp_page.Step as pages
-use Rattle.hwp_law_run.specs.hwp_core_rule.declared.State.{State}
-use Rattle.hwp_law_run.specs.hwp_core_rule.declared.View.{View}
-use Rattle.hwp_law_run.specs.hwp_core_rule.Lists.{EachMember}
-use Rattle.hwp_law_run.specs.hwp_core_rule.Opening.{opening}
-use Rattle.hwp_law_run.specs.hwp_core_rule.Rule.{Holds}
-use Rattle.hwp_law_run.specs.hwp_core_rule.parts.Holdings.{HoldsNothing}
-use Rattle.hwp_law_run.proofs.of_hwp_core_rule.Lists.{each-weaken}
-use Rattle.hwp_law_run.specs.hwp_core_rule.Boards.{Played, view_of}
-use Rattle.hwp_law_run.specs.hwp_script_read.declared.Command.{Command}
-use Rattle.hwp_law_run.specs.hwp_script_read.declared.Command.TheVariants as commands
-use Rattle.hwp_law_run.specs.hwp_script_read.declared.Script.{Script}
-use Rattle.hwp_law_run.specs.hwp_report_text.declared.Answer.{Answer}
-use Rattle.hwp_law_run.specs.hwp_report_text.declared.Answer.TheVariants as answers
-use Rattle.hwp_law_run.specs.hwp_report_text.declared.CpuLine.{CpuLine}
-use Rattle.hwp_law_run.specs.hwp_report_text.declared.CpuLine.TheVariants as lines
-use Rattle.hwp_law_run.specs.hwp_report_text.declared.Report.{Report}
-use Rattle.hwp_law_run.proofs.of_hwp_law.ActingLaws.{slot-uncopied}
-use Rattle.hwp_law_run.specs.hwp_law.Copies.{ended_through}
-use Rattle.hwp_law_run.specs.hwp_law.Runs.{StopsFirst, WasOut, WereOut, slot_ended, slot_of}
-use Rattle.hwp_law_run.specs.hwp_law.Commands.{command_at}
-use Rattle.hwp_law_run.proofs.Homes.{there-is}
-use Rattle.hwp_law_run.proofs.TurnLeads.{leads-hold}
-use Rattle.hwp_law_run.proofs.Legal.{run-legal}
-use Rattle.hwp_law_run.proofs.SightOrder.{run-rises}
+use Rattle.hwp_law.specs.hwp_geom.declared.Cpu.{Cpu}
+use Rattle.hwp_law.specs.hwp_geom.declared.Layout.{Layout}
+use Rattle.hwp_law.specs.hwp_geom.declared.Thread.{Thread}
+use Rattle.hwp_law.specs.hwp_geom.declared.VSlot.{VSlot}
+use Rattle.hwp_law.specs.hwp_geom.declared.Who.{Who}
+use Rattle.hwp_law.specs.hwp_page.Step as pages
+use Rattle.hwp_plain.specs.hwp_core_rule.declared.State.{State}
+use Rattle.hwp_plain.specs.hwp_core_rule.declared.View.{View}
+use Rattle.hwp_plain.specs.hwp_core_rule.Lists.{EachMember}
+use Rattle.hwp_plain.specs.hwp_core_rule.Opening.{opening}
+use Rattle.hwp_plain.specs.hwp_core_rule.Rule.{Holds}
+use Rattle.hwp_plain.specs.hwp_core_rule.parts.Holdings.{HoldsNothing}
+use Rattle.hwp_plain.proofs.of_hwp_core_rule.Lists.{each-weaken}
+use Rattle.hwp_plain.specs.hwp_core_rule.Boards.{Played, view_of}
+use Rattle.hwp_law.specs.hwp_script_read.declared.Command.{Command}
+use Rattle.hwp_law.specs.hwp_script_read.declared.Command.TheVariants as commands
+use Rattle.hwp_law.specs.hwp_script_read.declared.Script.{Script}
+use Rattle.hwp_law.specs.hwp_report_text.declared.Answer.{Answer}
+use Rattle.hwp_law.specs.hwp_report_text.declared.Answer.TheVariants as answers
+use Rattle.hwp_law.specs.hwp_report_text.declared.CpuLine.{CpuLine}
+use Rattle.hwp_law.specs.hwp_report_text.declared.CpuLine.TheVariants as lines
+use Rattle.hwp_law.specs.hwp_report_text.declared.Report.{Report}
+use Rattle.hwp_law.proofs.ActingLaws.{slot-uncopied}
+use Rattle.hwp_law.specs.Copies.{ended_through}
+use Rattle.hwp_law.specs.Runs.{StopsFirst, WasOut, WereOut, slot_ended, slot_of}
+use Rattle.hwp_law.specs.Commands.{command_at}
+use Rattle.hwp_law_served.proofs.Homes.{there-is}
+use Rattle.hwp_law_served.proofs.TurnLeads.{leads-hold}
+use Rattle.hwp_law_served.proofs.Legal.{run-legal}
+use Rattle.hwp_law_served.proofs.SightOrder.{run-rises}
 use Rattle.hwp_cpu_row.specs.declared.FrameChange.{FrameChange}
 use Rattle.hwp_cpu_row.specs.declared.Row.{Row}
 use Rattle.hwp_cpu_row.specs.hwp_cpu_check.declared.EventOutcome.{EventOutcome}

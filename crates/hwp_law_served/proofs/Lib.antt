@@ -1,3 +1,15 @@
+pub mod TurnLeads
+pub mod SeatKnows
+pub mod SeatTells
+pub mod SameEntries
+pub mod Histories
+pub mod StepEntries
+pub mod Homes
+pub mod SightOrder
+pub mod Legal
+pub mod Placed
+pub mod Reported
+pub mod TurnKeeps
 pub mod RunEnds
 pub mod RowLines
 pub mod GuestRows
@@ -26,6 +38,6 @@ pub mod losses
 pub mod copied
 pub mod HadStates
 pub mod Rows
-pub use Rattle.hwp_law_run.proofs.of_hwp_core_rule as of_hwp_core_rule
-pub use Rattle.hwp_law_run.proofs as of_hwp_law_run
+pub use Rattle.hwp_plain.proofs.of_hwp_core_rule as of_hwp_core_rule
+pub use Rattle.hwp_law.proofs as of_hwp_law
 pub use Rattle.hwp_scrub.proofs as of_hwp_scrub

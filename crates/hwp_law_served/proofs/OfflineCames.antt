@@ -1,12 +1,12 @@
 -- What came of a frame that a command `soft` itself took out of use, or was to, is what may come of it beside another command.
 use Rattle.std.proofs.Common.{Option}
-use Rattle.hwp_law_run.specs.hwp_geom.declared.Frame.{Frame}
-use Rattle.hwp_law_run.specs.hwp_geom.declared.Layout.{Layout}
-use Rattle.hwp_law_run.specs.hwp_geom.declared.Who.{Who}
-use Rattle.hwp_law_run.specs.hwp_core_rule.declared.View.{View}
-use Rattle.hwp_law_run.specs.hwp_report_text.Offlines.{offline_answer}
-use Rattle.hwp_law_run.specs.hwp_report_text.declared.OfflineResult.{OfflineResult}
-use Rattle.hwp_law_run.specs.hwp_report_text.declared.OfflineResult.TheVariants as results
+use Rattle.hwp_law.specs.hwp_geom.declared.Frame.{Frame}
+use Rattle.hwp_law.specs.hwp_geom.declared.Layout.{Layout}
+use Rattle.hwp_law.specs.hwp_geom.declared.Who.{Who}
+use Rattle.hwp_plain.specs.hwp_core_rule.declared.View.{View}
+use Rattle.hwp_law.specs.hwp_report_text.Offlines.{offline_answer}
+use Rattle.hwp_law.specs.hwp_report_text.declared.OfflineResult.{OfflineResult}
+use Rattle.hwp_law.specs.hwp_report_text.declared.OfflineResult.TheVariants as results
 use Rattle.hwp_soft.specs.hwp_soft_move.Seizes.{IsUsers}
 use Rattle.hwp_cpu_row.specs.declared.FrameChange.{FrameChange}
 use Rattle.hwp_law_served.specs.Causes.{IsOfflineCaused}

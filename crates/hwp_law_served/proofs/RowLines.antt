@@ -6,31 +6,31 @@ use Rattle.std.specs.Prelude.{option_to_list}
 use Rattle.std.proofs.lemmas.Bool.{eq-eqb, ne_eqb}
 use Rattle.std.proofs.lemmas.List.Elements.{filter-append, filter_map-append}
 use Rattle.std.proofs.lemmas.Option.{none-some, same_Some, slice_get_within}
-use Rattle.hwp_law_run.specs.hwp_geom.declared.VSlot.{VSlot}
-use Rattle.hwp_law_run.specs.hwp_geom.declared.Cpu.{Cpu}
-use Rattle.hwp_law_run.specs.hwp_geom.declared.Who.{Who}
-use Rattle.hwp_law_run.specs.hwp_core_rule.declared.State.{State}
-use Rattle.hwp_law_run.specs.hwp_core_rule.declared.View.{View}
-use Rattle.hwp_law_run.specs.hwp_script_read.declared.Command.{Command}
-use Rattle.hwp_law_run.specs.hwp_script_read.declared.Script.{Script}
-use Rattle.hwp_law_run.specs.hwp_report_text.declared.Answer.{Answer}
-use Rattle.hwp_law_run.specs.hwp_report_text.declared.Answer.TheVariants as answers
-use Rattle.hwp_law_run.specs.hwp_report_text.declared.CpuLine.{CpuLine}
-use Rattle.hwp_law_run.specs.hwp_report_text.declared.CpuLine.TheVariants as lines
-use Rattle.hwp_law_run.specs.hwp_report_text.declared.EventLine.{EventLine}
-use Rattle.hwp_law_run.specs.hwp_report_text.declared.GuestLine.{GuestLine}
-use Rattle.hwp_law_run.specs.hwp_report_text.declared.OfflinedLine.{OfflinedLine}
-use Rattle.hwp_law_run.specs.hwp_report_text.declared.Report.{Report}
-use Rattle.hwp_law_run.proofs.of_hwp_core_rule.Lists.{at_map}
-use Rattle.hwp_law_run.proofs.of_hwp_law.Rows.{same_answer}
-use Rattle.hwp_law_run.specs.hwp_law.Lines.{AnswerLine, answer_among, answer_in, answer_of, answered, answers_from, answers_to, event_in, events_among, events_of, guest_in, guests_among, guests_told, offlined_among, offlined_in, offlined_of, rows_of}
-use Rattle.hwp_law_run.specs.hwp_law.Policies.{answered_on}
+use Rattle.hwp_law.specs.hwp_geom.declared.VSlot.{VSlot}
+use Rattle.hwp_law.specs.hwp_geom.declared.Cpu.{Cpu}
+use Rattle.hwp_law.specs.hwp_geom.declared.Who.{Who}
+use Rattle.hwp_plain.specs.hwp_core_rule.declared.State.{State}
+use Rattle.hwp_plain.specs.hwp_core_rule.declared.View.{View}
+use Rattle.hwp_law.specs.hwp_script_read.declared.Command.{Command}
+use Rattle.hwp_law.specs.hwp_script_read.declared.Script.{Script}
+use Rattle.hwp_law.specs.hwp_report_text.declared.Answer.{Answer}
+use Rattle.hwp_law.specs.hwp_report_text.declared.Answer.TheVariants as answers
+use Rattle.hwp_law.specs.hwp_report_text.declared.CpuLine.{CpuLine}
+use Rattle.hwp_law.specs.hwp_report_text.declared.CpuLine.TheVariants as lines
+use Rattle.hwp_law.specs.hwp_report_text.declared.EventLine.{EventLine}
+use Rattle.hwp_law.specs.hwp_report_text.declared.GuestLine.{GuestLine}
+use Rattle.hwp_law.specs.hwp_report_text.declared.OfflinedLine.{OfflinedLine}
+use Rattle.hwp_law.specs.hwp_report_text.declared.Report.{Report}
+use Rattle.hwp_plain.proofs.of_hwp_core_rule.Lists.{at_map}
+use Rattle.hwp_law.proofs.Rows.{same_answer}
+use Rattle.hwp_law.specs.Lines.{AnswerLine, answer_among, answer_in, answer_of, answered, answers_from, answers_to, event_in, events_among, events_of, guest_in, guests_among, guests_told, offlined_among, offlined_in, offlined_of, rows_of}
+use Rattle.hwp_law.specs.Policies.{answered_on}
 use Rattle.hwp_cpu_row.specs.declared.Offlining.{Offlining}
 use Rattle.hwp_cpu_row.specs.declared.Row.{Row}
 use Rattle.hwp_cpu_row.specs.hwp_cpu_check.declared.EventOutcome.{EventOutcome}
 use Rattle.hwp_law_served.specs.Handles.{answers_by}
 use Rattle.hwp_law_served.specs.Rows.{end_lines, event_line, guest_at, lines_from, offlined_at, offlined_line, row_lines}
-use Rattle.hwp_law_served.specs.hwp_cpu_row.Acts.{event_at}
+use Rattle.hwp_cpu_row.specs.Acts.{event_at}
 use Rattle.hwp_law_served.specs.Runs.{row_at}
 use Rattle.hwp_law_served.proofs.RunEnds.{IsEnd, IsOf, list-of, rows-of-lines, served-of}
 

@@ -2,30 +2,30 @@
 use Rattle.std.proofs.Common.{◌≡◌, ℕ, zero, suc, ◌+◌, ◌<◌, ◌==◌, Bool, true, false, cond, List, [], ◌∷◌, ◌++◌, Option, Some, filter, length, map, slice_get, take, append-nil, append_assoc, refl, sym, ap, ◌∙◌, subst, arith}
 use Rattle.std.proofs.lemmas.Bool.{and_from, eq-eqb}
 use Rattle.std.proofs.lemmas.Option.{none-some, same_Some, slice_get_within}
-use Rattle.hwp_law_run.specs.hwp_geom.declared.VSlot.{VSlot}
-use Rattle.hwp_law_run.specs.hwp_geom.declared.Cpu.{Cpu}
-use Rattle.hwp_law_run.specs.hwp_geom.declared.Layout.{Layout}
-use Rattle.hwp_law_run.specs.hwp_geom.declared.Who.{Who}
-use Rattle.hwp_law_run.specs.hwp_core_rule.declared.Made.{Made}
-use Rattle.hwp_law_run.specs.hwp_core_rule.declared.Part.{Part}
-use Rattle.hwp_law_run.specs.hwp_core_rule.declared.State.{State}
-use Rattle.hwp_law_run.specs.hwp_core_rule.declared.View.{View}
-use Rattle.hwp_law_run.specs.hwp_core_rule.Lists.{EachMember}
-use Rattle.hwp_law_run.specs.hwp_core_rule.Rule.{Holds}
-use Rattle.hwp_law_run.specs.hwp_core_rule.Words.{words_of}
-use Rattle.hwp_law_run.specs.hwp_core_rule.parts.Holdings.{HoldsNothing, IsPast}
-use Rattle.hwp_law_run.proofs.of_hwp_core_rule.Lists.{at_map}
-use Rattle.hwp_law_run.proofs.of_hwp_core_rule.NotLater.{one-view}
-use Rattle.hwp_law_run.specs.hwp_core_rule.Boards.{AreSeated, view_of}
-use Rattle.hwp_law_run.specs.hwp_core_rule.Known.{deeds, is_by}
-use Rattle.hwp_law_run.specs.hwp_script_read.declared.Command.{Command}
-use Rattle.hwp_law_run.specs.hwp_script_read.declared.Script.{Script}
-use Rattle.hwp_law_run.specs.hwp_report_text.declared.Answer.{Answer}
-use Rattle.hwp_law_run.specs.hwp_report_text.declared.CpuLine.{CpuLine}
-use Rattle.hwp_law_run.specs.hwp_report_text.declared.Report.{Report}
-use Rattle.hwp_law_run.specs.hwp_banks.Banks.{Banks, empty_banks}
-use Rattle.hwp_law_run.proofs.Homes.{there-is}
-use Rattle.hwp_law_run.proofs.Reported.{IsLast}
+use Rattle.hwp_law.specs.hwp_geom.declared.VSlot.{VSlot}
+use Rattle.hwp_law.specs.hwp_geom.declared.Cpu.{Cpu}
+use Rattle.hwp_law.specs.hwp_geom.declared.Layout.{Layout}
+use Rattle.hwp_law.specs.hwp_geom.declared.Who.{Who}
+use Rattle.hwp_plain.specs.hwp_core_rule.declared.Made.{Made}
+use Rattle.hwp_plain.specs.hwp_core_rule.declared.Part.{Part}
+use Rattle.hwp_plain.specs.hwp_core_rule.declared.State.{State}
+use Rattle.hwp_plain.specs.hwp_core_rule.declared.View.{View}
+use Rattle.hwp_plain.specs.hwp_core_rule.Lists.{EachMember}
+use Rattle.hwp_plain.specs.hwp_core_rule.Rule.{Holds}
+use Rattle.hwp_plain.specs.hwp_core_rule.Words.{words_of}
+use Rattle.hwp_plain.specs.hwp_core_rule.parts.Holdings.{HoldsNothing, IsPast}
+use Rattle.hwp_plain.proofs.of_hwp_core_rule.Lists.{at_map}
+use Rattle.hwp_plain.proofs.of_hwp_core_rule.NotLater.{one-view}
+use Rattle.hwp_plain.specs.hwp_core_rule.Boards.{AreSeated, view_of}
+use Rattle.hwp_plain.specs.hwp_core_rule.Known.{deeds, is_by}
+use Rattle.hwp_law.specs.hwp_script_read.declared.Command.{Command}
+use Rattle.hwp_law.specs.hwp_script_read.declared.Script.{Script}
+use Rattle.hwp_law.specs.hwp_report_text.declared.Answer.{Answer}
+use Rattle.hwp_law.specs.hwp_report_text.declared.CpuLine.{CpuLine}
+use Rattle.hwp_law.specs.hwp_report_text.declared.Report.{Report}
+use Rattle.hwp_law.specs.hwp_banks.Banks.{Banks, empty_banks}
+use Rattle.hwp_law_served.proofs.Homes.{there-is}
+use Rattle.hwp_law_served.proofs.Reported.{IsLast}
 use Rattle.hwp_cpu_row.specs.declared.Row.{Row}
 use Rattle.hwp_scrub.specs.Visits.{AreBanks}
 use Rattle.hwp_law_served.specs.Handles.{answers_by}

@@ -1,17 +1,17 @@
 -- What each step of a run keeps of a view holds of all views at its end.
 use Rattle.std.proofs.Common.{ℕ, List, [], ◌∷◌, sym, ap, subst}
-use Rattle.hwp_law_run.specs.hwp_geom.declared.Layout.{Layout}
-use Rattle.hwp_law_run.specs.hwp_core_rule.declared.Rec.{Rec}
-use Rattle.hwp_law_run.specs.hwp_core_rule.declared.State.{State}
-use Rattle.hwp_law_run.specs.hwp_core_rule.declared.View.{View}
-use Rattle.hwp_law_run.specs.hwp_core_rule.Lists.{EachMember}
-use Rattle.hwp_law_run.specs.hwp_core_rule.Moves.{Move}
-use Rattle.hwp_law_run.specs.hwp_core_rule.Opening.{below, opening, opening_view}
-use Rattle.hwp_law_run.specs.hwp_core_rule.Rule.{Holds}
-use Rattle.hwp_law_run.specs.hwp_core_rule.Views.{view_after}
-use Rattle.hwp_law_run.proofs.of_hwp_core_rule.Lists.{each-map, each-set}
-use Rattle.hwp_law_run.specs.hwp_core_rule.Boards.{Played}
-use Rattle.hwp_law_run.specs.Turns.{Leads}
+use Rattle.hwp_law.specs.hwp_geom.declared.Layout.{Layout}
+use Rattle.hwp_plain.specs.hwp_core_rule.declared.Rec.{Rec}
+use Rattle.hwp_plain.specs.hwp_core_rule.declared.State.{State}
+use Rattle.hwp_plain.specs.hwp_core_rule.declared.View.{View}
+use Rattle.hwp_plain.specs.hwp_core_rule.Lists.{EachMember}
+use Rattle.hwp_plain.specs.hwp_core_rule.Moves.{Move}
+use Rattle.hwp_plain.specs.hwp_core_rule.Opening.{below, opening, opening_view}
+use Rattle.hwp_plain.specs.hwp_core_rule.Rule.{Holds}
+use Rattle.hwp_plain.specs.hwp_core_rule.Views.{view_after}
+use Rattle.hwp_plain.proofs.of_hwp_core_rule.Lists.{each-map, each-set}
+use Rattle.hwp_plain.specs.hwp_core_rule.Boards.{Played}
+use Rattle.hwp_law_served.specs.Turns.{Leads}
 
 -- Of a board, and of a view on it: a step leaves it of the other views, and makes it of its own.
 pub record IsKept (layout : Layout) (P : State → View → Type 0) : Type 1 where

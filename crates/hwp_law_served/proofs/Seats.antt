@@ -1,16 +1,16 @@
 -- Which view is a processor's: that of its seat alone.
 use Rattle.std.proofs.Common.{◌≡◌, ℕ, ◌<◌, Some, map, slice_get, sym, subst}
-use Rattle.hwp_law_run.specs.hwp_geom.declared.Cpu.{Cpu}
-use Rattle.hwp_law_run.specs.hwp_geom.declared.Layout.{Layout}
-use Rattle.hwp_law_run.specs.hwp_geom.declared.Who.{Who}
-use Rattle.hwp_law_run.specs.hwp_core_rule.declared.Part.{Part}
-use Rattle.hwp_law_run.specs.hwp_core_rule.declared.State.{State}
-use Rattle.hwp_law_run.specs.hwp_core_rule.declared.View.{View}
-use Rattle.hwp_law_run.specs.hwp_core_rule.Rule.{Holds}
-use Rattle.hwp_law_run.specs.hwp_core_rule.parts.Holdings.{IsPast}
-use Rattle.hwp_law_run.proofs.of_hwp_core_rule.Lists.{at_map}
-use Rattle.hwp_law_run.proofs.of_hwp_core_rule.NotLater.{one-view}
-use Rattle.hwp_law_run.specs.hwp_core_rule.Boards.{AreSeated, view_of}
+use Rattle.hwp_law.specs.hwp_geom.declared.Cpu.{Cpu}
+use Rattle.hwp_law.specs.hwp_geom.declared.Layout.{Layout}
+use Rattle.hwp_law.specs.hwp_geom.declared.Who.{Who}
+use Rattle.hwp_plain.specs.hwp_core_rule.declared.Part.{Part}
+use Rattle.hwp_plain.specs.hwp_core_rule.declared.State.{State}
+use Rattle.hwp_plain.specs.hwp_core_rule.declared.View.{View}
+use Rattle.hwp_plain.specs.hwp_core_rule.Rule.{Holds}
+use Rattle.hwp_plain.specs.hwp_core_rule.parts.Holdings.{IsPast}
+use Rattle.hwp_plain.proofs.of_hwp_core_rule.Lists.{at_map}
+use Rattle.hwp_plain.proofs.of_hwp_core_rule.NotLater.{one-view}
+use Rattle.hwp_plain.specs.hwp_core_rule.Boards.{AreSeated, view_of}
 
 -- a view that has come to a command is at the place of its processor's seat
 pub seat-place : (layout : Layout) (seat : Cpu → ℕ) (last : State) → Holds layout last → AreSeated layout last seat → (i : ℕ) (v : View) (who : Who) → slice_get last.views i ≡ Some v → IsPast v.parts who → (who.cpu.0 < layout.cpus) × (i ≡ seat who.cpu)

@@ -4,37 +4,37 @@ use Rattle.std.specs.List.{cons_option}
 use Rattle.std.specs.Option.{option_or}
 use Rattle.std.proofs.lemmas.Bool.{and_parts, eqb-true}
 use Rattle.std.proofs.lemmas.Option.{none-some, same_Some}
-use Rattle.hwp_law_run.specs.hwp_geom.declared.Frame.{Frame}
-use Rattle.hwp_law_run.specs.hwp_geom.declared.Layout.{Layout}
-use Rattle.hwp_law_run.specs.hwp_geom.declared.Page.{Page}
-use Rattle.hwp_law_run.specs.hwp_geom.declared.Thread.{Thread}
-use Rattle.hwp_law_run.specs.hwp_geom.declared.Who.{Who}
-use Rattle.hwp_law_run.specs.hwp_kill.declared.Reply.{Reply}
-use Rattle.hwp_law_run.specs.hwp_kill.declared.Reply.TheVariants as replies
-use Rattle.hwp_law_run.specs.hwp_kill.declared.Seen.{Seen}
-use Rattle.hwp_law_run.specs.hwp_kill.declared.Signal.{Signal}
-use Rattle.hwp_law_run.specs.hwp_kill.Prctl.{reply}
-use Rattle.hwp_law_run.specs.hwp_page.declared.At.{At}
-use Rattle.hwp_law_run.specs.hwp_page.declared.PageState.{PageState}
-use Rattle.hwp_law_run.specs.hwp_page.declared.What.{What}
-use Rattle.hwp_law_run.specs.hwp_page.declared.What.TheVariants as entries
-use Rattle.hwp_law_run.specs.hwp_core_rule.declared.Log.{Log}
-use Rattle.hwp_law_run.specs.hwp_core_rule.declared.Made.{Made}
-use Rattle.hwp_law_run.specs.hwp_core_rule.declared.View.{View}
-use Rattle.hwp_law_run.proofs.of_hwp_core_rule.Lists.{at_last, at_longer}
-use Rattle.hwp_law_run.specs.hwp_core_rule.Known.{HasMade, SawLog, deeds, is_by}
-use Rattle.hwp_law_run.specs.hwp_core_rule.Pages.{SawState}
+use Rattle.hwp_law.specs.hwp_geom.declared.Frame.{Frame}
+use Rattle.hwp_law.specs.hwp_geom.declared.Layout.{Layout}
+use Rattle.hwp_law.specs.hwp_geom.declared.Page.{Page}
+use Rattle.hwp_law.specs.hwp_geom.declared.Thread.{Thread}
+use Rattle.hwp_law.specs.hwp_geom.declared.Who.{Who}
+use Rattle.hwp_law.specs.hwp_kill.declared.Reply.{Reply}
+use Rattle.hwp_law.specs.hwp_kill.declared.Reply.TheVariants as replies
+use Rattle.hwp_law.specs.hwp_kill.declared.Seen.{Seen}
+use Rattle.hwp_law.specs.hwp_kill.declared.Signal.{Signal}
+use Rattle.hwp_law.specs.hwp_kill.Prctl.{reply}
+use Rattle.hwp_law.specs.hwp_page.declared.At.{At}
+use Rattle.hwp_law.specs.hwp_page.declared.PageState.{PageState}
+use Rattle.hwp_law.specs.hwp_page.declared.What.{What}
+use Rattle.hwp_law.specs.hwp_page.declared.What.TheVariants as entries
+use Rattle.hwp_plain.specs.hwp_core_rule.declared.Log.{Log}
+use Rattle.hwp_plain.specs.hwp_core_rule.declared.Made.{Made}
+use Rattle.hwp_plain.specs.hwp_core_rule.declared.View.{View}
+use Rattle.hwp_plain.proofs.of_hwp_core_rule.Lists.{at_last, at_longer}
+use Rattle.hwp_plain.specs.hwp_core_rule.Known.{HasMade, SawLog, deeds, is_by}
+use Rattle.hwp_plain.specs.hwp_core_rule.Pages.{SawState}
 use Rattle.hwp_soft.specs.hwp_claim_act.declared.Failed.{Failed}
 use Rattle.hwp_soft.specs.hwp_claim_act.Abandoned.{failed_in, failed_of}
 use Rattle.hwp_soft.specs.hwp_claim_act.Abandons.{signals_now}
-use Rattle.hwp_law_run.specs.hwp_script_read.declared.Command.{Command}
-use Rattle.hwp_law_run.specs.hwp_script_read.declared.Command.TheVariants as commands
-use Rattle.hwp_law_run.specs.hwp_report_text.declared.Answer.{Answer}
-use Rattle.hwp_law_run.specs.hwp_report_text.declared.Answer.TheVariants as answers
-use Rattle.hwp_law_run.specs.hwp_law.Outcomes.{reply_answer}
-use Rattle.hwp_law_run.specs.hwp_law.Commands.{Access, access_of, current_thread}
-use Rattle.hwp_law_run.specs.hwp_law.Settings.{arguments, last_policy, settings}
-use Rattle.hwp_law_run.specs.hwp_law.States.{place_named, state_named}
+use Rattle.hwp_law.specs.hwp_script_read.declared.Command.{Command}
+use Rattle.hwp_law.specs.hwp_script_read.declared.Command.TheVariants as commands
+use Rattle.hwp_law.specs.hwp_report_text.declared.Answer.{Answer}
+use Rattle.hwp_law.specs.hwp_report_text.declared.Answer.TheVariants as answers
+use Rattle.hwp_law.specs.Outcomes.{reply_answer}
+use Rattle.hwp_law.specs.Commands.{Access, access_of, current_thread}
+use Rattle.hwp_law.specs.Settings.{arguments, last_policy, settings}
+use Rattle.hwp_law.specs.States.{place_named, state_named}
 use Rattle.hwp_soft.specs.hwp_claim.declared.Found.{Found}
 use Rattle.hwp_cpu_row.specs.declared.FrameChange.{FrameChange}
 use Rattle.hwp_cpu_row.specs.declared.Row.{Row}

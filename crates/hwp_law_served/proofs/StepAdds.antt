@@ -1,25 +1,25 @@
 -- What a step adds to the sights, the marks and the settings that its view lists: one more at most, of the step's command.
 use Rattle.std.proofs.Common.{◌≡◌, ◌⊎◌, inl, inr, ℕ, ◌==◌, Bool, true, false, cond, List, [], ◌∷◌, ◌++◌, Option, Some, None, refl, sym, subst}
-use Rattle.hwp_law_run.specs.hwp_geom.declared.Frame.{Frame}
-use Rattle.hwp_law_run.specs.hwp_geom.declared.Layout.{Layout}
-use Rattle.hwp_law_run.specs.hwp_geom.declared.Page.{Page}
-use Rattle.hwp_law_run.specs.hwp_geom.declared.Proc.{Proc}
-use Rattle.hwp_law_run.specs.hwp_geom.declared.Who.{Who}
-use Rattle.hwp_law_run.specs.hwp_core_rule.declared.InHand.{InHand}
-use Rattle.hwp_law_run.specs.hwp_core_rule.declared.Log.{Log}
-use Rattle.hwp_law_run.specs.hwp_core_rule.declared.Mark.{Mark}
-use Rattle.hwp_law_run.specs.hwp_core_rule.declared.SharedWord.{SharedWord}
-use Rattle.hwp_law_run.specs.hwp_core_rule.declared.SharedWord.TheVariants as places
-use Rattle.hwp_law_run.specs.hwp_core_rule.declared.Setting.{Setting}
-use Rattle.hwp_law_run.specs.hwp_core_rule.declared.Sight.{Sight}
-use Rattle.hwp_law_run.specs.hwp_core_rule.declared.Step.{Step}
-use Rattle.hwp_law_run.specs.hwp_core_rule.declared.Step.TheVariants as steps
-use Rattle.hwp_law_run.specs.hwp_core_rule.declared.View.{View}
-use Rattle.hwp_law_run.specs.hwp_core_rule.Lists.{SomeMember}
-use Rattle.hwp_law_run.specs.hwp_core_rule.Logs.{log_of}
-use Rattle.hwp_law_run.specs.hwp_core_rule.Steps.{goes, place_of}
-use Rattle.hwp_law_run.specs.hwp_core_rule.Views.{body_of, killed_by, listed_of, loaded, put_home, sighted, taken, view_by}
-use Rattle.hwp_law_run.proofs.of_hwp_core_rule.Lists.{some-push}
+use Rattle.hwp_law.specs.hwp_geom.declared.Frame.{Frame}
+use Rattle.hwp_law.specs.hwp_geom.declared.Layout.{Layout}
+use Rattle.hwp_law.specs.hwp_geom.declared.Page.{Page}
+use Rattle.hwp_law.specs.hwp_geom.declared.Proc.{Proc}
+use Rattle.hwp_law.specs.hwp_geom.declared.Who.{Who}
+use Rattle.hwp_plain.specs.hwp_core_rule.declared.InHand.{InHand}
+use Rattle.hwp_plain.specs.hwp_core_rule.declared.Log.{Log}
+use Rattle.hwp_plain.specs.hwp_core_rule.declared.Mark.{Mark}
+use Rattle.hwp_plain.specs.hwp_core_rule.declared.SharedWord.{SharedWord}
+use Rattle.hwp_plain.specs.hwp_core_rule.declared.SharedWord.TheVariants as places
+use Rattle.hwp_plain.specs.hwp_core_rule.declared.Setting.{Setting}
+use Rattle.hwp_plain.specs.hwp_core_rule.declared.Sight.{Sight}
+use Rattle.hwp_plain.specs.hwp_core_rule.declared.Step.{Step}
+use Rattle.hwp_plain.specs.hwp_core_rule.declared.Step.TheVariants as steps
+use Rattle.hwp_plain.specs.hwp_core_rule.declared.View.{View}
+use Rattle.hwp_plain.specs.hwp_core_rule.Lists.{SomeMember}
+use Rattle.hwp_plain.specs.hwp_core_rule.Logs.{log_of}
+use Rattle.hwp_plain.specs.hwp_core_rule.Steps.{goes, place_of}
+use Rattle.hwp_plain.specs.hwp_core_rule.Views.{body_of, killed_by, listed_of, loaded, put_home, sighted, taken, view_by}
+use Rattle.hwp_plain.proofs.of_hwp_core_rule.Lists.{some-push}
 
 -- a list is as it was, or has one member more, which is such
 abbrev pub OneMore : {A : Type 0} → (A → Type 0) → List A → List A → Type 0

@@ -1,24 +1,24 @@
 -- The stop record is that of a command which stopped the machine.
 use Rattle.std.proofs.Common.{◌≡◌, ◌⊎◌, ◌≢◌, ℕ, ◌+◌, ◌<◌, not, List, Option, Some, None, IsSome, slice_get, refl, sym, ap, ◌∙◌, subst, arith, inl, inr, true≢false}
 use Rattle.std.proofs.lemmas.Bool.{eq-eqb}
-use Rattle.hwp_law_run.specs.hwp_geom.declared.VSlot.{VSlot}
-use Rattle.hwp_law_run.specs.hwp_geom.declared.Cpu.{Cpu}
-use Rattle.hwp_law_run.specs.hwp_geom.declared.Who.{Who}
-use Rattle.hwp_law_run.specs.hwp_words.Stops.{stopper_of}
-use Rattle.hwp_law_run.specs.hwp_core_rule.declared.Sight.{Sight}
-use Rattle.hwp_law_run.specs.hwp_core_rule.declared.State.{State}
-use Rattle.hwp_law_run.specs.hwp_core_rule.declared.View.{View}
-use Rattle.hwp_law_run.specs.hwp_core_rule.Lists.{SomeMember}
-use Rattle.hwp_law_run.specs.hwp_core_rule.Words.{words_of}
-use Rattle.hwp_law_run.proofs.of_hwp_core_rule.Lists.{at_map, map-was}
-use Rattle.hwp_law_run.specs.hwp_core_rule.Boards.{view_of}
-use Rattle.hwp_law_run.specs.hwp_core_rule.Known.{SawStop}
-use Rattle.hwp_law_run.specs.hwp_script_read.declared.Command.{Command}
-use Rattle.hwp_law_run.specs.hwp_script_read.declared.Script.{Script}
-use Rattle.hwp_law_run.specs.hwp_report_text.declared.Report.{Report}
-use Rattle.hwp_law_run.specs.hwp_report_text.declared.Stop.{Stop}
+use Rattle.hwp_law.specs.hwp_geom.declared.VSlot.{VSlot}
+use Rattle.hwp_law.specs.hwp_geom.declared.Cpu.{Cpu}
+use Rattle.hwp_law.specs.hwp_geom.declared.Who.{Who}
+use Rattle.hwp_plain.specs.hwp_words.Stops.{stopper_of}
+use Rattle.hwp_plain.specs.hwp_core_rule.declared.Sight.{Sight}
+use Rattle.hwp_plain.specs.hwp_core_rule.declared.State.{State}
+use Rattle.hwp_plain.specs.hwp_core_rule.declared.View.{View}
+use Rattle.hwp_plain.specs.hwp_core_rule.Lists.{SomeMember}
+use Rattle.hwp_plain.specs.hwp_core_rule.Words.{words_of}
+use Rattle.hwp_plain.proofs.of_hwp_core_rule.Lists.{at_map, map-was}
+use Rattle.hwp_plain.specs.hwp_core_rule.Boards.{view_of}
+use Rattle.hwp_plain.specs.hwp_core_rule.Known.{SawStop}
+use Rattle.hwp_law.specs.hwp_script_read.declared.Command.{Command}
+use Rattle.hwp_law.specs.hwp_script_read.declared.Script.{Script}
+use Rattle.hwp_law.specs.hwp_report_text.declared.Report.{Report}
+use Rattle.hwp_law.specs.hwp_report_text.declared.Stop.{Stop}
 use Rattle.hwp_cpu_row.specs.declared.Row.{Row}
-use Rattle.hwp_law_run.specs.Ends.{IsStopOn}
+use Rattle.hwp_law_served.specs.Ends.{IsStopOn}
 use Rattle.hwp_law_served.specs.Causes.{FoundStopped}
 use Rattle.hwp_law_served.specs.Served.{IsOwnStop}
 use Rattle.hwp_law_served.proofs.RunEnds.{IsEnd, list-of, own-view, rows-of, served-of}

@@ -3,10 +3,10 @@ use Rattle.std.proofs.Common.{◌≡◌, ◌≢◌, ℕ, zero, suc, ◌+◌, ◌
 use Rattle.std.specs.List.{sum_by}
 use Rattle.std.proofs.lemmas.List.Sums.{sum_by-append, sum_by-cons}
 use Rattle.std.proofs.lemmas.Option.{none-some, same_Some}
-use Rattle.hwp_law_run.specs.hwp_core_rule.Lists.{EachMember}
-use Rattle.hwp_law_run.specs.hwp_core_rule.Words.{sum_below}
-use Rattle.hwp_law_run.proofs.of_hwp_core_rule.CountsBelow.{below-swap, below-zero}
-use Rattle.hwp_law_run.proofs.of_hwp_core_rule.Lists.{same-or, sum-zero}
+use Rattle.hwp_plain.specs.hwp_core_rule.Lists.{EachMember}
+use Rattle.hwp_plain.specs.hwp_core_rule.Words.{sum_below}
+use Rattle.hwp_plain.proofs.of_hwp_core_rule.CountsBelow.{below-swap, below-zero}
+use Rattle.hwp_plain.proofs.of_hwp_core_rule.Lists.{same-or, sum-zero}
 
 -- the sum of equal terms
 pub sum-same : {A : Type 0} (f g : A → ℕ) (l : List A) → EachMember (λ (x : A). f x ≡ g x) l → sum_by f l ≡ sum_by g l

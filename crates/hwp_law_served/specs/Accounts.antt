@@ -2,34 +2,34 @@
 -- that it set.
 use Rattle.std.specs.Prelude.{◌≡◌, ◌==◌, ◌&&◌, Bool, true, false, List, [], ◌∷◌, ◌++◌, Option, None, Some, option_map, option_and_then, filter, filter_map, map}
 use Rattle.std.specs.List.{cons_option}
-use Rattle.hwp_law_run.specs.hwp_geom.declared.Layout.{Layout}
-use Rattle.hwp_law_run.specs.hwp_geom.declared.Thread.{Thread}
-use Rattle.hwp_law_run.specs.hwp_geom.declared.Who.{Who}
-use Rattle.hwp_law_run.specs.hwp_kill.declared.Policy.{Policy}
-use Rattle.hwp_law_run.specs.hwp_kill.Prctl.{policy_set}
-use Rattle.hwp_law_run.specs.hwp_page.Situations.{outcome_of}
-use Rattle.hwp_law_run.specs.hwp_core_rule.declared.Mark.{Mark}
-use Rattle.hwp_law_run.specs.hwp_core_rule.declared.MarkKind.{MarkKind}
-use Rattle.hwp_law_run.specs.hwp_core_rule.declared.MarkKind.TheVariants as mark_kinds
-use Rattle.hwp_law_run.specs.hwp_core_rule.declared.Setting.{Setting}
-use Rattle.hwp_law_run.specs.hwp_core_rule.declared.View.{View}
-use Rattle.hwp_law_run.specs.hwp_core_rule.Known.{deeds}
+use Rattle.hwp_law.specs.hwp_geom.declared.Layout.{Layout}
+use Rattle.hwp_law.specs.hwp_geom.declared.Thread.{Thread}
+use Rattle.hwp_law.specs.hwp_geom.declared.Who.{Who}
+use Rattle.hwp_law.specs.hwp_kill.declared.Policy.{Policy}
+use Rattle.hwp_law.specs.hwp_kill.Prctl.{policy_set}
+use Rattle.hwp_law.specs.hwp_page.Situations.{outcome_of}
+use Rattle.hwp_plain.specs.hwp_core_rule.declared.Mark.{Mark}
+use Rattle.hwp_plain.specs.hwp_core_rule.declared.MarkKind.{MarkKind}
+use Rattle.hwp_plain.specs.hwp_core_rule.declared.MarkKind.TheVariants as mark_kinds
+use Rattle.hwp_plain.specs.hwp_core_rule.declared.Setting.{Setting}
+use Rattle.hwp_plain.specs.hwp_core_rule.declared.View.{View}
+use Rattle.hwp_plain.specs.hwp_core_rule.Known.{deeds}
 use Rattle.hwp_soft.specs.hwp_claim_act.declared.Failed.{Failed}
 use Rattle.hwp_soft.specs.hwp_claim_act.Abandoned as abandoned
 use Rattle.hwp_soft.specs.hwp_claim_frame.Done.{Marking, marking_of, poisoning}
-use Rattle.hwp_law_run.specs.hwp_script_read.declared.Command.{Command}
-use Rattle.hwp_law_run.specs.hwp_script_read.declared.Command.TheVariants as commands
-use Rattle.hwp_law_run.specs.hwp_report_text.declared.Answer.{Answer}
-use Rattle.hwp_law_run.specs.hwp_report_text.declared.Answer.TheVariants as answers
-use Rattle.hwp_law_run.specs.hwp_report_text.declared.How.{How}
-use Rattle.hwp_law_run.specs.hwp_report_text.declared.How.TheVariants as hows
-use Rattle.hwp_law_run.specs.hwp_report_text.declared.MarkLine.{MarkLine}
-use Rattle.hwp_law_run.specs.hwp_report_text.declared.MarkLine.TheVariants as marks
-use Rattle.hwp_law_run.specs.hwp_law.Commands.{current_thread}
-use Rattle.hwp_law_run.specs.hwp_law.Settings.{arguments, last_policy, settings}
+use Rattle.hwp_law.specs.hwp_script_read.declared.Command.{Command}
+use Rattle.hwp_law.specs.hwp_script_read.declared.Command.TheVariants as commands
+use Rattle.hwp_law.specs.hwp_report_text.declared.Answer.{Answer}
+use Rattle.hwp_law.specs.hwp_report_text.declared.Answer.TheVariants as answers
+use Rattle.hwp_law.specs.hwp_report_text.declared.How.{How}
+use Rattle.hwp_law.specs.hwp_report_text.declared.How.TheVariants as hows
+use Rattle.hwp_law.specs.hwp_report_text.declared.MarkLine.{MarkLine}
+use Rattle.hwp_law.specs.hwp_report_text.declared.MarkLine.TheVariants as marks
+use Rattle.hwp_law.specs.Commands.{current_thread}
+use Rattle.hwp_law.specs.Settings.{arguments, last_policy, settings}
 use Rattle.hwp_cpu_control.specs.Forks.{threads_of}
-use Rattle.hwp_law_run.specs.hwp_law.Outcomes.{outcome_answer}
-use Rattle.hwp_law_run.specs.hwp_law.Records.{is_moved}
+use Rattle.hwp_law.specs.Outcomes.{outcome_answer}
+use Rattle.hwp_law.specs.Records.{is_moved}
 use Rattle.hwp_soft.specs.hwp_claim.declared.Found.{Found}
 use Rattle.hwp_cpu_row.specs.declared.FrameChange.{FrameChange}
 use Rattle.hwp_cpu_row.specs.declared.FrameChange.TheVariants as owns

@@ -1,47 +1,47 @@
 -- Why a command was answered so: by what a processor knows of it, of the words that its steps showed, of the histories that it
 -- saw and of the entries that it made.
 use Rattle.std.specs.Prelude.{◌≡◌, ◌≢◌, ◌⊎◌, ℕ, ◌+◌, ◌<◌, true, false, List, Option, None, Some, length, IsSomeAnd}
-use Rattle.hwp_law_run.specs.hwp_geom.declared.Damage.{Damage}
-use Rattle.hwp_law_run.specs.hwp_geom.declared.Damage.TheVariants as damages
-use Rattle.hwp_law_run.specs.hwp_geom.declared.Frame.{Frame}
-use Rattle.hwp_law_run.specs.hwp_geom.declared.Layout.{Layout}
-use Rattle.hwp_law_run.specs.hwp_geom.declared.Mask.{Mask}
-use Rattle.hwp_law_run.specs.hwp_geom.declared.Page.{Page}
-use Rattle.hwp_law_run.specs.hwp_geom.declared.Proc.{Proc}
-use Rattle.hwp_law_run.specs.hwp_geom.declared.Thread.{Thread}
-use Rattle.hwp_law_run.specs.hwp_geom.declared.VSlot.{VSlot}
-use Rattle.hwp_law_run.specs.hwp_geom.declared.Who.{Who}
-use Rattle.hwp_law_run.specs.hwp_geom.Limits.{line_limit}
-use Rattle.hwp_law_run.specs.hwp_kill.Prctl.{reply}
-use Rattle.hwp_law_run.specs.hwp_page.declared.At.{At}
-use Rattle.hwp_law_run.specs.hwp_page.declared.Met.TheVariants.{Word, Sigbus}
-use Rattle.hwp_law_run.specs.hwp_page.declared.Outcome.{Outcome}
-use Rattle.hwp_law_run.specs.hwp_page.declared.Outcome.TheVariants as outcomes
-use Rattle.hwp_law_run.specs.hwp_page.declared.PageState.{PageState}
-use Rattle.hwp_law_run.specs.hwp_page.declared.What.{What}
-use Rattle.hwp_law_run.specs.hwp_page.declared.What.TheVariants as entries
-use Rattle.hwp_law_run.specs.hwp_page.Situations.{outcome_of}
-use Rattle.hwp_law_run.specs.hwp_page.Refusals.{IsAway, IsDirty, IsLockedIn, IsMapped, IsUnused}
-use Rattle.hwp_law_run.specs.hwp_page.Step.{IsOf}
-use Rattle.hwp_law_run.specs.hwp_core_rule.declared.Made.{Made}
-use Rattle.hwp_law_run.specs.hwp_core_rule.declared.SharedWord.TheVariants as places
-use Rattle.hwp_law_run.specs.hwp_core_rule.declared.Spoiled.{Spoiled}
-use Rattle.hwp_law_run.specs.hwp_core_rule.declared.View.{View}
-use Rattle.hwp_law_run.specs.hwp_words.Counters.{hardware_of}
-use Rattle.hwp_law_run.specs.hwp_words.Frames.{count_of, is_poisoned}
-use Rattle.hwp_law_run.specs.hwp_core_rule.Lists.{SomeMember}
-use Rattle.hwp_law_run.specs.hwp_core_rule.Known.{HasMade, HasMadeNone, HasOnly, IsOnTheWay, Precedes, Saw, SawBadOf, SawStop, is_failure}
-use Rattle.hwp_law_run.specs.hwp_core_rule.Pages.{SawState}
-use Rattle.hwp_law_run.specs.hwp_script_read.declared.Command.{Command}
-use Rattle.hwp_law_run.specs.hwp_script_read.declared.Command.TheVariants as commands
-use Rattle.hwp_law_run.specs.hwp_report_text.declared.Answer.{Answer}
-use Rattle.hwp_law_run.specs.hwp_report_text.declared.Answer.TheVariants as answers
-use Rattle.hwp_law_run.specs.hwp_banks.Banks.{Banks}
-use Rattle.hwp_law_run.specs.hwp_law.Outcomes.{reply_answer}
-use Rattle.hwp_law_run.specs.hwp_law.Commands.{Access, access_of, can_fail, process_of_thread}
-use Rattle.hwp_law_run.specs.hwp_law.Settings.{arguments, last_policy, settings}
-use Rattle.hwp_law_run.specs.hwp_law.Pairings.{is_soft}
-use Rattle.hwp_law_run.specs.Shown.{IsRevivable}
+use Rattle.hwp_law.specs.hwp_geom.declared.Damage.{Damage}
+use Rattle.hwp_law.specs.hwp_geom.declared.Damage.TheVariants as damages
+use Rattle.hwp_law.specs.hwp_geom.declared.Frame.{Frame}
+use Rattle.hwp_law.specs.hwp_geom.declared.Layout.{Layout}
+use Rattle.hwp_law.specs.hwp_geom.declared.Mask.{Mask}
+use Rattle.hwp_law.specs.hwp_geom.declared.Page.{Page}
+use Rattle.hwp_law.specs.hwp_geom.declared.Proc.{Proc}
+use Rattle.hwp_law.specs.hwp_geom.declared.Thread.{Thread}
+use Rattle.hwp_law.specs.hwp_geom.declared.VSlot.{VSlot}
+use Rattle.hwp_law.specs.hwp_geom.declared.Who.{Who}
+use Rattle.hwp_law.specs.hwp_geom.Limits.{line_limit}
+use Rattle.hwp_law.specs.hwp_kill.Prctl.{reply}
+use Rattle.hwp_law.specs.hwp_page.declared.At.{At}
+use Rattle.hwp_law.specs.hwp_page.declared.Met.TheVariants.{Word, Sigbus}
+use Rattle.hwp_law.specs.hwp_page.declared.Outcome.{Outcome}
+use Rattle.hwp_law.specs.hwp_page.declared.Outcome.TheVariants as outcomes
+use Rattle.hwp_law.specs.hwp_page.declared.PageState.{PageState}
+use Rattle.hwp_law.specs.hwp_page.declared.What.{What}
+use Rattle.hwp_law.specs.hwp_page.declared.What.TheVariants as entries
+use Rattle.hwp_law.specs.hwp_page.Situations.{outcome_of}
+use Rattle.hwp_law.specs.hwp_page.Refusals.{IsAway, IsDirty, IsLockedIn, IsMapped, IsUnused}
+use Rattle.hwp_law.specs.hwp_page.Step.{IsOf}
+use Rattle.hwp_plain.specs.hwp_core_rule.declared.Made.{Made}
+use Rattle.hwp_plain.specs.hwp_core_rule.declared.SharedWord.TheVariants as places
+use Rattle.hwp_plain.specs.hwp_core_rule.declared.Spoiled.{Spoiled}
+use Rattle.hwp_plain.specs.hwp_core_rule.declared.View.{View}
+use Rattle.hwp_plain.specs.hwp_words.Counters.{hardware_of}
+use Rattle.hwp_plain.specs.hwp_words.Frames.{count_of, is_poisoned}
+use Rattle.hwp_plain.specs.hwp_core_rule.Lists.{SomeMember}
+use Rattle.hwp_plain.specs.hwp_core_rule.Known.{HasMade, HasMadeNone, HasOnly, IsOnTheWay, Precedes, Saw, SawBadOf, SawStop, is_failure}
+use Rattle.hwp_plain.specs.hwp_core_rule.Pages.{SawState}
+use Rattle.hwp_law.specs.hwp_script_read.declared.Command.{Command}
+use Rattle.hwp_law.specs.hwp_script_read.declared.Command.TheVariants as commands
+use Rattle.hwp_law.specs.hwp_report_text.declared.Answer.{Answer}
+use Rattle.hwp_law.specs.hwp_report_text.declared.Answer.TheVariants as answers
+use Rattle.hwp_law.specs.hwp_banks.Banks.{Banks}
+use Rattle.hwp_law.specs.Outcomes.{reply_answer}
+use Rattle.hwp_law.specs.Commands.{Access, access_of, can_fail, process_of_thread}
+use Rattle.hwp_law.specs.Settings.{arguments, last_policy, settings}
+use Rattle.hwp_law.specs.Pairings.{is_soft}
+use Rattle.hwp_law_served.specs.Shown.{IsRevivable}
 use Rattle.hwp_soft.specs.hwp_claim.declared.Found.{Found}
 use Rattle.hwp_soft.specs.hwp_claim_frame.Grabs.{WasFree}
 use Rattle.hwp_soft.specs.hwp_soft_move.Seizes.{IsUsers, SawKernel}

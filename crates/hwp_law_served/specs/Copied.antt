@@ -1,26 +1,26 @@
 -- A store whose page is copied first: what its command made, why it was answered so, and what it tells of its machine checks. This project's
 -- rule.
 use Rattle.std.specs.Prelude.{◌≡◌, ◌⊎◌, ℕ, ◌+◌, List, [], ◌∷◌, ◌++◌, Option, None, Some, length}
-use Rattle.hwp_law_run.specs.hwp_geom.declared.Layout.{Layout}
-use Rattle.hwp_law_run.specs.hwp_geom.declared.Mode.TheVariants as modes
-use Rattle.hwp_law_run.specs.hwp_geom.declared.Page.{Page}
-use Rattle.hwp_law_run.specs.hwp_geom.declared.Proc.{Proc}
-use Rattle.hwp_law_run.specs.hwp_geom.declared.Thread.{Thread}
-use Rattle.hwp_law_run.specs.hwp_geom.declared.VSlot.{VSlot}
-use Rattle.hwp_law_run.specs.hwp_geom.declared.Who.{Who}
-use Rattle.hwp_law_run.specs.hwp_page.declared.At.{At}
-use Rattle.hwp_law_run.specs.hwp_page.Refusals.{IsAway}
-use Rattle.hwp_law_run.specs.hwp_banks.declared.Origin.TheVariants as origins
-use Rattle.hwp_law_run.specs.hwp_banks.Banks.{Banks}
-use Rattle.hwp_law_run.specs.hwp_core_rule.declared.Made.{Made}
-use Rattle.hwp_law_run.specs.hwp_core_rule.declared.SharedWord.TheVariants as places
-use Rattle.hwp_law_run.specs.hwp_core_rule.declared.View.{View}
-use Rattle.hwp_law_run.specs.hwp_core_rule.Lists.{EachMember, SomeMember}
-use Rattle.hwp_law_run.specs.hwp_core_rule.Known.{IsAt, Saw, SawStop, deeds}
-use Rattle.hwp_law_run.specs.hwp_core_rule.Pages.{SawState}
-use Rattle.hwp_law_run.specs.hwp_report_text.declared.Answer.{Answer}
-use Rattle.hwp_law_run.specs.hwp_report_text.declared.Answer.TheVariants as answers
-use Rattle.hwp_law_run.specs.hwp_law.Commands.{process_of_thread}
+use Rattle.hwp_law.specs.hwp_geom.declared.Layout.{Layout}
+use Rattle.hwp_law.specs.hwp_geom.declared.Mode.TheVariants as modes
+use Rattle.hwp_law.specs.hwp_geom.declared.Page.{Page}
+use Rattle.hwp_law.specs.hwp_geom.declared.Proc.{Proc}
+use Rattle.hwp_law.specs.hwp_geom.declared.Thread.{Thread}
+use Rattle.hwp_law.specs.hwp_geom.declared.VSlot.{VSlot}
+use Rattle.hwp_law.specs.hwp_geom.declared.Who.{Who}
+use Rattle.hwp_law.specs.hwp_page.declared.At.{At}
+use Rattle.hwp_law.specs.hwp_page.Refusals.{IsAway}
+use Rattle.hwp_law.specs.hwp_banks.declared.Origin.TheVariants as origins
+use Rattle.hwp_law.specs.hwp_banks.Banks.{Banks}
+use Rattle.hwp_plain.specs.hwp_core_rule.declared.Made.{Made}
+use Rattle.hwp_plain.specs.hwp_core_rule.declared.SharedWord.TheVariants as places
+use Rattle.hwp_plain.specs.hwp_core_rule.declared.View.{View}
+use Rattle.hwp_plain.specs.hwp_core_rule.Lists.{EachMember, SomeMember}
+use Rattle.hwp_plain.specs.hwp_core_rule.Known.{IsAt, Saw, SawStop, deeds}
+use Rattle.hwp_plain.specs.hwp_core_rule.Pages.{SawState}
+use Rattle.hwp_law.specs.hwp_report_text.declared.Answer.{Answer}
+use Rattle.hwp_law.specs.hwp_report_text.declared.Answer.TheVariants as answers
+use Rattle.hwp_law.specs.Commands.{process_of_thread}
 use Rattle.hwp_cpu_row.specs.hwp_cpu_check.declared.EventOutcome.{EventOutcome}
 use Rattle.hwp_cpu_row.specs.hwp_cpu_check.Checks.{Check, left_by, lines_of}
 use Rattle.hwp_cpu_row.specs.hwp_cpu_check.Told.{first_signal}

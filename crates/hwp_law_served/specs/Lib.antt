@@ -1,3 +1,8 @@
+pub mod Turns
+pub mod Ends
+pub mod Shown
+pub mod Scrubs
+pub mod Run
 pub mod Copied
 pub mod Causes
 pub mod Accounts
@@ -9,29 +14,28 @@ pub mod Guests
 pub mod Served
 pub mod Runs
 pub mod Owed
-pub use Rattle.hwp_law_run.specs.hwp_banks as hwp_banks
+pub use Rattle.hwp_law.specs.hwp_banks as hwp_banks
 pub use Rattle.hwp_soft.specs.hwp_claim as hwp_claim
 pub use Rattle.hwp_soft.specs.hwp_claim_act as hwp_claim_act
 pub use Rattle.hwp_soft.specs.hwp_claim_frame as hwp_claim_frame
-pub use Rattle.hwp_law_run.specs.hwp_core_rule as hwp_core_rule
+pub use Rattle.hwp_plain.specs.hwp_core_rule as hwp_core_rule
+pub use Rattle.hwp_cpu_access.specs as hwp_cpu_access
 pub use Rattle.hwp_cpu_row.specs.hwp_cpu_check as hwp_cpu_check
+pub use Rattle.hwp_cpu_control.specs as hwp_cpu_control
 pub use Rattle.hwp_cpu_row.specs as hwp_cpu_row
 pub use Rattle.hwp_cpu_access.specs.hwp_evict as hwp_evict
-pub use Rattle.hwp_law_run.specs.hwp_geom as hwp_geom
-pub use Rattle.hwp_law_run.specs.hwp_kill as hwp_kill
-pub use Rattle.hwp_law_run.specs.hwp_law as hwp_law
-pub use Rattle.hwp_law_run.specs as hwp_law_run
-pub use Rattle.hwp_law_run.specs.hwp_page as hwp_page
-pub use Rattle.hwp_law_run.specs.hwp_plain as hwp_plain
-pub use Rattle.hwp_law_run.specs.hwp_report_text as hwp_report_text
-pub use Rattle.hwp_law_run.specs.hwp_script_lines as hwp_script_lines
-pub use Rattle.hwp_law_run.specs.hwp_script_read as hwp_script_read
+pub use Rattle.hwp_cpu_access.specs.hwp_fault as hwp_fault
+pub use Rattle.hwp_cpu_access.specs.hwp_fork as hwp_fork
+pub use Rattle.hwp_law.specs.hwp_geom as hwp_geom
+pub use Rattle.hwp_law.specs.hwp_kill as hwp_kill
+pub use Rattle.hwp_law.specs as hwp_law
+pub use Rattle.hwp_law.specs.hwp_page as hwp_page
+pub use Rattle.hwp_plain.specs as hwp_plain
+pub use Rattle.hwp_law.specs.hwp_report_text as hwp_report_text
+pub use Rattle.hwp_law.specs.hwp_script_lines as hwp_script_lines
+pub use Rattle.hwp_law.specs.hwp_script_read as hwp_script_read
 pub use Rattle.hwp_scrub.specs as hwp_scrub
-pub use Rattle.hwp_law_run.specs.hwp_severity as hwp_severity
+pub use Rattle.hwp_law.specs.hwp_severity as hwp_severity
 pub use Rattle.hwp_soft.specs as hwp_soft
 pub use Rattle.hwp_soft.specs.hwp_soft_move as hwp_soft_move
-pub use Rattle.hwp_law_run.specs.hwp_words as hwp_words
-pub use Rattle.hwp_cpu_access.specs.hwp_fault as hwp_fault
-pub use Rattle.hwp_cpu_access.specs as hwp_cpu_access
-pub use Rattle.hwp_cpu_control.specs as hwp_cpu_control
-pub use Rattle.hwp_cpu_access.specs.hwp_fork as hwp_fork
+pub use Rattle.hwp_plain.specs.hwp_words as hwp_words

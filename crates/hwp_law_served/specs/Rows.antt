@@ -1,19 +1,19 @@
 -- The rows of a processor, one for each command that is answered: the lines of the report and the notes of frames that they make.
 use Rattle.std.specs.Prelude.{ℕ, ◌+◌, ◌==◌, Bool, true, false, List, [], ◌∷◌, ◌++◌, Option, Some, None, option_map, map, filter, filter_map, flat_map}
 use Rattle.std.specs.List.{cons_option}
-use Rattle.hwp_law_run.specs.hwp_geom.declared.Cpu.{Cpu}
-use Rattle.hwp_law_run.specs.hwp_geom.declared.Frame.{Frame}
-use Rattle.hwp_law_run.specs.hwp_geom.declared.Who.{Who}
-use Rattle.hwp_law_run.specs.hwp_page.Situations.{outcome_of}
-use Rattle.hwp_law_run.specs.hwp_report_text.declared.Answer.{Answer}
-use Rattle.hwp_law_run.specs.hwp_report_text.declared.CpuLine.{CpuLine}
-use Rattle.hwp_law_run.specs.hwp_report_text.declared.CpuLine.TheVariants as lines
-use Rattle.hwp_law_run.specs.hwp_report_text.declared.GuestLine.{GuestLine}
-use Rattle.hwp_law_run.specs.hwp_report_text.declared.How.{How}
-use Rattle.hwp_law_run.specs.hwp_report_text.declared.How.TheVariants as hows
-use Rattle.hwp_law_run.specs.hwp_report_text.declared.MarkLine.{MarkLine}
-use Rattle.hwp_law_run.specs.hwp_report_text.declared.MarkLine.TheVariants as marks
-use Rattle.hwp_law_run.specs.hwp_report_text.declared.OfflinedLine.{OfflinedLine}
+use Rattle.hwp_law.specs.hwp_geom.declared.Cpu.{Cpu}
+use Rattle.hwp_law.specs.hwp_geom.declared.Frame.{Frame}
+use Rattle.hwp_law.specs.hwp_geom.declared.Who.{Who}
+use Rattle.hwp_law.specs.hwp_page.Situations.{outcome_of}
+use Rattle.hwp_law.specs.hwp_report_text.declared.Answer.{Answer}
+use Rattle.hwp_law.specs.hwp_report_text.declared.CpuLine.{CpuLine}
+use Rattle.hwp_law.specs.hwp_report_text.declared.CpuLine.TheVariants as lines
+use Rattle.hwp_law.specs.hwp_report_text.declared.GuestLine.{GuestLine}
+use Rattle.hwp_law.specs.hwp_report_text.declared.How.{How}
+use Rattle.hwp_law.specs.hwp_report_text.declared.How.TheVariants as hows
+use Rattle.hwp_law.specs.hwp_report_text.declared.MarkLine.{MarkLine}
+use Rattle.hwp_law.specs.hwp_report_text.declared.MarkLine.TheVariants as marks
+use Rattle.hwp_law.specs.hwp_report_text.declared.OfflinedLine.{OfflinedLine}
 use Rattle.hwp_soft.specs.hwp_claim.declared.Found.{Found}
 use Rattle.hwp_cpu_row.specs.declared.FrameChange.{FrameChange}
 use Rattle.hwp_cpu_row.specs.declared.FrameChange.TheVariants as owns

@@ -3,34 +3,34 @@ use Rattle.std.specs.Prelude.{◌≡◌, ℕ, ◌+◌, ◌*◌, ◌<◌, ◌==�
 use Rattle.std.specs.Int.{from_bool}
 use Rattle.std.specs.List.Sorted.{IsNonDecreasingBy, IsPermutation}
 use Rattle.std.specs.Option.{option_or}
-use Rattle.hwp_law_run.specs.hwp_geom.declared.Cpu.{Cpu}
-use Rattle.hwp_law_run.specs.hwp_geom.declared.Frame.{Frame}
-use Rattle.hwp_law_run.specs.hwp_geom.declared.Page.{Page}
-use Rattle.hwp_law_run.specs.hwp_geom.declared.Thread.{Thread}
-use Rattle.hwp_law_run.specs.hwp_geom.declared.VSlot.{VSlot}
-use Rattle.hwp_law_run.specs.hwp_geom.declared.Who.{Who}
-use Rattle.hwp_law_run.specs.hwp_page.Step.{IsOf}
-use Rattle.hwp_law_run.specs.hwp_core_rule.declared.State.{State}
-use Rattle.hwp_law_run.specs.hwp_core_rule.Opening.{opening}
-use Rattle.hwp_law_run.specs.hwp_core_rule.Rule.{Holds}
-use Rattle.hwp_law_run.specs.hwp_core_rule.Boards.{AreSeated, Played, view_of}
-use Rattle.hwp_law_run.specs.hwp_core_rule.Ranks.{Pending, words_at}
-use Rattle.hwp_law_run.specs.hwp_script_read.declared.Command.{Command}
-use Rattle.hwp_law_run.specs.hwp_script_read.declared.Command.TheVariants as commands
-use Rattle.hwp_law_run.specs.hwp_script_read.declared.Script.{Script}
-use Rattle.hwp_law_run.specs.hwp_report_text.declared.CpuLine.{CpuLine}
-use Rattle.hwp_law_run.specs.hwp_report_text.declared.FrameLine.{FrameLine}
-use Rattle.hwp_law_run.specs.hwp_report_text.declared.MarkLine.{MarkLine}
-use Rattle.hwp_law_run.specs.hwp_report_text.declared.Report.{Report}
-use Rattle.hwp_law_run.specs.hwp_report_text.declared.Stop.{Stop}
-use Rattle.hwp_law_run.specs.hwp_report_text.declared.StopCause.{StopCause}
-use Rattle.hwp_law_run.specs.hwp_report_text.declared.StopCause.TheVariants as causes
-use Rattle.hwp_law_run.specs.hwp_report_text.Acts.{is_panic, is_stopping}
-use Rattle.hwp_law_run.specs.hwp_law.Commands.{arrival_of, command_at}
-use Rattle.hwp_law_run.specs.hwp_severity.declared.Arrival.{Arrival}
-use Rattle.hwp_law_run.specs.hwp_law.Records.{cycle_in, is_poisoning}
-use Rattle.hwp_law_run.specs.Ends.{EndsWith}
-use Rattle.hwp_law_run.specs.Turns.{Leads}
+use Rattle.hwp_law.specs.hwp_geom.declared.Cpu.{Cpu}
+use Rattle.hwp_law.specs.hwp_geom.declared.Frame.{Frame}
+use Rattle.hwp_law.specs.hwp_geom.declared.Page.{Page}
+use Rattle.hwp_law.specs.hwp_geom.declared.Thread.{Thread}
+use Rattle.hwp_law.specs.hwp_geom.declared.VSlot.{VSlot}
+use Rattle.hwp_law.specs.hwp_geom.declared.Who.{Who}
+use Rattle.hwp_law.specs.hwp_page.Step.{IsOf}
+use Rattle.hwp_plain.specs.hwp_core_rule.declared.State.{State}
+use Rattle.hwp_plain.specs.hwp_core_rule.Opening.{opening}
+use Rattle.hwp_plain.specs.hwp_core_rule.Rule.{Holds}
+use Rattle.hwp_plain.specs.hwp_core_rule.Boards.{AreSeated, Played, view_of}
+use Rattle.hwp_plain.specs.hwp_core_rule.Ranks.{Pending, words_at}
+use Rattle.hwp_law.specs.hwp_script_read.declared.Command.{Command}
+use Rattle.hwp_law.specs.hwp_script_read.declared.Command.TheVariants as commands
+use Rattle.hwp_law.specs.hwp_script_read.declared.Script.{Script}
+use Rattle.hwp_law.specs.hwp_report_text.declared.CpuLine.{CpuLine}
+use Rattle.hwp_law.specs.hwp_report_text.declared.FrameLine.{FrameLine}
+use Rattle.hwp_law.specs.hwp_report_text.declared.MarkLine.{MarkLine}
+use Rattle.hwp_law.specs.hwp_report_text.declared.Report.{Report}
+use Rattle.hwp_law.specs.hwp_report_text.declared.Stop.{Stop}
+use Rattle.hwp_law.specs.hwp_report_text.declared.StopCause.{StopCause}
+use Rattle.hwp_law.specs.hwp_report_text.declared.StopCause.TheVariants as causes
+use Rattle.hwp_law.specs.hwp_report_text.Acts.{is_panic, is_stopping}
+use Rattle.hwp_law.specs.Commands.{arrival_of, command_at}
+use Rattle.hwp_law.specs.hwp_severity.declared.Arrival.{Arrival}
+use Rattle.hwp_law.specs.Records.{cycle_in, is_poisoning}
+use Rattle.hwp_law_served.specs.Ends.{EndsWith}
+use Rattle.hwp_law_served.specs.Turns.{Leads}
 use Rattle.hwp_cpu_row.specs.declared.Row.{Row}
 use Rattle.hwp_cpu_row.specs.hwp_cpu_check.declared.EventOutcome.{EventOutcome}
 use Rattle.hwp_cpu_row.specs.hwp_cpu_check.Told.{frame_of}

@@ -13,7 +13,7 @@ use Rattle.hwp_law_served.specs.hwp_report_text.declared.Report.{Report}
 use Rattle.hwp_law_served.specs.hwp_law.Places.{entry_at}
 use Rattle.hwp_law_served.specs.hwp_law.PageHistory.{IsHistory}
 use Rattle.hwp_law_served.specs.hwp_law.States.{HadState}
-use Rattle.hwp_law_served.proofs.of_hwp_law_run.Reported.{stands-in}
+use Rattle.hwp_law_served.proofs.Reported.{stands-in}
 
 -- an entry is allowed after those before it
 allowed-after : (layout : Layout) (page : Page) (s t : PageState) (list : List Entry) (i : ℕ) (e : Entry) → Leads layout page s list t → slice_get list i ≡ Some e → Allowed layout page (state_after s (take i list)) e.what

@@ -29,7 +29,7 @@ use Rattle.hwp_law_served.specs.hwp_report_text.declared.OfflineResult.{OfflineR
 use Rattle.hwp_law_served.specs.hwp_report_text.declared.OfflineResult.TheVariants as results
 use Rattle.hwp_law_served.specs.hwp_report_text.declared.Report.{Report}
 use Rattle.hwp_law_served.specs.hwp_law.Answers.{is_ample, named_frames, usable_from}
-use Rattle.hwp_law_served.proofs.of_hwp_law_run.Homes.{there-is}
+use Rattle.hwp_law_served.proofs.Homes.{there-is}
 use Rattle.hwp_law_served.proofs.of_hwp_core_rule.MoreEntries.{each-append}
 use Rattle.hwp_law_served.specs.hwp_claim_frame.Done.{Marking, marking_of, poisoning}
 use Rattle.hwp_law_served.specs.hwp_law.Commands.{command_at, has_watch}

@@ -47,8 +47,8 @@ use Rattle.hwp_law_served.specs.hwp_law.Settings.{arguments, last_policy, settin
 use Rattle.hwp_law_served.specs.hwp_law.Policies.{answered_before, policy_before}
 use Rattle.hwp_law_served.specs.hwp_law.Records.{how_in}
 use Rattle.hwp_law_served.specs.hwp_law.States.{HadState}
-use Rattle.hwp_law_served.proofs.of_hwp_law_run.Homes.{there-is}
-use Rattle.hwp_law_served.proofs.of_hwp_law_run.Reported.{listed-entry}
+use Rattle.hwp_law_served.proofs.Homes.{there-is}
+use Rattle.hwp_law_served.proofs.Reported.{listed-entry}
 use Rattle.hwp_law_served.specs.hwp_cpu_row.declared.FrameChange.{FrameChange}
 use Rattle.hwp_law_served.specs.hwp_cpu_row.declared.FrameChange.TheVariants as owns
 use Rattle.hwp_law_served.specs.hwp_cpu_check.declared.EventOutcome.{EventOutcome}
@@ -60,7 +60,7 @@ use Rattle.hwp_law_served.proofs.HadStates.{had}
 use Rattle.hwp_law_served.proofs.OfflineCames.{came-of}
 use Rattle.hwp_top_report.proofs.AllowedThere.{had-so}
 use Rattle.hwp_top_report.proofs.Ample.{not-ample}
-use Rattle.hwp_law_served.proofs.of_hwp_law_run.of_hwp_law.PageLocks.{had-unlocked}
+use Rattle.hwp_law_served.proofs.of_hwp_law.PageLocks.{had-unlocked}
 use Rattle.hwp_law_served.proofs.RunEnds.{IsEnd}
 use Rattle.hwp_top_report.proofs.endings.Gone.{is-gone}
 use Rattle.hwp_law_served.proofs.deeds.Made.{some-so}

@@ -25,7 +25,7 @@ use Rattle.hwp_cpu_row.specs.hwp_report_text.declared.Acted.{Acted}
 use Rattle.hwp_cpu_row.specs.hwp_report_text.declared.Acted.TheVariants as acts
 use Rattle.hwp_cpu_row.specs.hwp_report_text.Acts.{is_panic}
 use Rattle.hwp_cpu_row.specs.hwp_banks.Banks.{empty_banks}
-use Rattle.hwp_law_served.proofs.of_hwp_law_run.Homes.{there-is}
+use Rattle.hwp_law_served.proofs.Homes.{there-is}
 use Rattle.hwp_cpu_row.specs.hwp_claim.declared.Found.{Found}
 use Rattle.hwp_cpu_row.specs.declared.Row.{Row}
 use Rattle.hwp_cpu_row.specs.hwp_cpu_check.declared.EventOutcome.{EventOutcome}

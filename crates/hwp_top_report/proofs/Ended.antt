@@ -33,7 +33,7 @@ use Rattle.hwp_cpu_row.specs.hwp_report_text.declared.StopCause.TheVariants as c
 use Rattle.hwp_cpu_row.specs.hwp_report_text.Acts.{is_panic, is_stopping}
 use Rattle.hwp_cpu_row.specs.hwp_law.Commands.{arrival_of}
 use Rattle.hwp_cpu_row.specs.hwp_severity.declared.Arrival.{Arrival}
-use Rattle.hwp_law_served.specs.hwp_law_run.Ends.{IsFrameOn, IsStopOn}
+use Rattle.hwp_law_served.specs.Ends.{IsFrameOn, IsStopOn}
 use Rattle.hwp_cpu_row.specs.declared.Row.{Row}
 use Rattle.hwp_cpu_row.specs.hwp_cpu_check.declared.EventOutcome.{EventOutcome}
 use Rattle.hwp_cpu_row.specs.hwp_cpu_check.Told.{halts}

@@ -46,8 +46,8 @@ use Rattle.hwp_law_served.specs.hwp_law.Guests.{IsDenied}
 use Rattle.hwp_law_served.specs.hwp_law.Law.{IsLawful}
 use Rattle.hwp_law_served.specs.hwp_law.Lines.{answer_among, answer_of, answered, answers_from}
 use Rattle.hwp_law_served.specs.hwp_law.Policies.{answered_before, answered_on}
-use Rattle.hwp_law_served.proofs.of_hwp_law_run.of_hwp_law.ActedLaws.{command-acted}
-use Rattle.hwp_law_served.proofs.of_hwp_law_run.of_hwp_law.GuestLaws.{bad-more}
+use Rattle.hwp_law_served.proofs.of_hwp_law.ActedLaws.{command-acted}
+use Rattle.hwp_law_served.proofs.of_hwp_law.GuestLaws.{bad-more}
 use Rattle.hwp_top_report.proofs.forks.Forked.{valid-command}
 use Rattle.hwp_top_report.specs.GuestFrames.{AreBadFramesLeft, IsBehindCheck}
 use Rattle.hwp_top_report.proofs.Guests.{then-there}

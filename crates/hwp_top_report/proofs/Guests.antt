@@ -50,9 +50,9 @@ use Rattle.hwp_law_served.specs.hwp_cpu_row.Acts.{event_at}
 use Rattle.hwp_law_served.specs.Guests.{IsDeniedRow, IsGuestRow, SaysGone}
 use Rattle.hwp_law_served.specs.Handles.{answers_by}
 use Rattle.hwp_law_served.specs.Runs.{HaveServed, IsRunOf}
-use Rattle.hwp_law_served.proofs.of_hwp_law_run.Reported.{entry-listed}
-use Rattle.hwp_law_served.proofs.of_hwp_law_run.of_hwp_law.ActedLaws.{command-acted}
-use Rattle.hwp_law_served.proofs.of_hwp_law_run.of_hwp_law.CowLaws.{acting-thread}
+use Rattle.hwp_law_served.proofs.Reported.{entry-listed}
+use Rattle.hwp_law_served.proofs.of_hwp_law.ActedLaws.{command-acted}
+use Rattle.hwp_law_served.proofs.of_hwp_law.CowLaws.{acting-thread}
 use Rattle.hwp_law_served.proofs.LastBoard.{ended, ended-rows}
 use Rattle.hwp_law_served.proofs.RowLines.{answer-told, events-told, guest-told}
 use Rattle.hwp_law_served.proofs.RunEnds.{IsEnd, IsOf, of-deeds, own-view}

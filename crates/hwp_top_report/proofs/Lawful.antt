@@ -8,7 +8,7 @@ use Rattle.hwp_law_served.specs.hwp_core_rule.Boards.{Played}
 use Rattle.hwp_law_served.specs.hwp_script_read.declared.Script.{Script}
 use Rattle.hwp_law_served.specs.hwp_report_text.declared.Report.{Report}
 use Rattle.hwp_law_served.specs.hwp_law.Law.{AnswersFit, HasShape, HistoriesFit, IsLawful}
-use Rattle.hwp_law_served.proofs.of_hwp_law_run.Reported.{histories-lead, histories-ordered}
+use Rattle.hwp_law_served.proofs.Reported.{histories-lead, histories-ordered}
 use Rattle.hwp_law_served.specs.Runs.{HaveServed, IsRunOf}
 use Rattle.hwp_top_report.proofs.Caused.{all-caused, stop-agrees}
 use Rattle.hwp_top_report.proofs.Guests.{guests-kept}

@@ -37,4 +37,3 @@ mod LedBodies
 mod CachedEnds
 mod SwappedMarks
 pub use Rattle.hwp_law_served.proofs as of_hwp_law_served
-pub use Rattle.hwp_law_served.proofs.of_hwp_law_run as of_hwp_law_run

@@ -7,7 +7,7 @@ use Rattle.hwp_plain.specs.hwp_core_rule.Words.{Words}
 use Rattle.hwp_plain.proofs.of_hwp_core_rule.Lists.{at_last, at_longer, same-or}
 use Rattle.hwp_cpu_row.specs.hwp_report_text.declared.FrameLine.{FrameLine}
 use Rattle.hwp_cpu_row.specs.hwp_report_text.declared.MarkLine.{MarkLine}
-use Rattle.hwp_law_served.proofs.of_hwp_law_run.Homes.{there-is}
+use Rattle.hwp_law_served.proofs.Homes.{there-is}
 use Rattle.hwp_law_served.specs.Rows.{Note, record_of}
 use Rattle.hwp_law_served.specs.Runs.{AreSorted}
 use Rattle.hwp_top_report.specs.Closing.{AreLinesBy, IsLineBy, line_with}

@@ -19,8 +19,8 @@ use Rattle.hwp_plain.specs.hwp_core_rule.Boards.{AreSeated, view_of}
 use Rattle.hwp_cpu_row.specs.hwp_report_text.declared.How.{How}
 use Rattle.hwp_cpu_row.specs.hwp_report_text.declared.How.TheVariants as hows
 use Rattle.hwp_cpu_row.specs.hwp_report_text.declared.MarkLine.{MarkLine}
-use Rattle.hwp_law_served.specs.hwp_law_run.Ends.{AreMarks, IsListed, Tells, cause_of}
-use Rattle.hwp_law_served.proofs.of_hwp_law_run.Homes.{there-is}
+use Rattle.hwp_law_served.specs.Ends.{AreMarks, IsListed, Tells, cause_of}
+use Rattle.hwp_law_served.proofs.Homes.{there-is}
 use Rattle.hwp_law_served.specs.Accounts.{IsHow, IsLineOf, IsNote}
 use Rattle.hwp_law_served.specs.Rows.{Note, lines_of, record_of}
 use Rattle.hwp_law_served.proofs.RunEnds.{filter-has}

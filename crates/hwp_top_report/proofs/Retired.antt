@@ -26,10 +26,10 @@ use Rattle.hwp_law_served.specs.hwp_core_rule.Boards.{Played}
 use Rattle.hwp_law_served.specs.hwp_core_rule.Turns.{Member}
 use Rattle.hwp_law_served.specs.hwp_script_read.declared.Script.{Script}
 use Rattle.hwp_law_served.specs.hwp_report_text.declared.Report.{Report}
-use Rattle.hwp_law_served.specs.hwp_law_run.Run.{CoreRun}
-use Rattle.hwp_law_served.specs.hwp_law_run.Turns.{Leads}
-use Rattle.hwp_law_served.proofs.of_hwp_law_run.Homes.{there-is}
-use Rattle.hwp_law_served.proofs.of_hwp_law_run.TurnLeads.{leads-hold}
+use Rattle.hwp_law_served.specs.Run.{CoreRun}
+use Rattle.hwp_law_served.specs.Turns.{Leads}
+use Rattle.hwp_law_served.proofs.Homes.{there-is}
+use Rattle.hwp_law_served.proofs.TurnLeads.{leads-hold}
 use Rattle.hwp_top_report.specs.Retired.{AreHandledRetired, IsBoardOf, IsRetired}
 
 -- a slot of no page's name is empty

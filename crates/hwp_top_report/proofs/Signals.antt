@@ -23,7 +23,7 @@ use Rattle.hwp_law_served.specs.hwp_law.Settings.{last_policy, settings}
 use Rattle.hwp_law_served.specs.hwp_law.Acting.{acting_script}
 use Rattle.hwp_law_served.specs.hwp_law.Policies.{answered_on}
 use Rattle.hwp_law_served.specs.hwp_law.SeenPolicies.{IsPolicySeen, answered_around, cpu_of_thread, seen_in}
-use Rattle.hwp_law_served.proofs.of_hwp_law_run.of_hwp_law.ActedLaws.{settings-acted}
+use Rattle.hwp_law_served.proofs.of_hwp_law.ActedLaws.{settings-acted}
 use Rattle.hwp_law_served.specs.hwp_law.States.{HadState}
 use Rattle.hwp_top_report.specs.Signals.{AreFailuresAsModel, IsFailureAsModel}
 use Rattle.hwp_top_report.proofs.AllowedThere.{allowed-there, had-so}

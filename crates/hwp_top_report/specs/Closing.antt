@@ -25,7 +25,7 @@ use Rattle.hwp_cpu_row.specs.hwp_report_text.declared.StopCause.{StopCause}
 use Rattle.hwp_cpu_row.specs.hwp_report_text.declared.StopCause.TheVariants as causes
 use Rattle.hwp_cpu_row.specs.hwp_report_text.Acts.{is_panic}
 use Rattle.hwp_cpu_row.specs.hwp_law.Commands.{arrival_of}
-use Rattle.hwp_law_served.specs.hwp_law_run.Ends.{AreMarks, EndsWith, place_in}
+use Rattle.hwp_law_served.specs.Ends.{AreMarks, EndsWith, place_in}
 use Rattle.hwp_cpu_row.specs.hwp_claim.declared.Found.{Found}
 use Rattle.hwp_cpu_row.specs.declared.Offlining.{Offlining}
 use Rattle.hwp_cpu_row.specs.declared.Row.{Row}

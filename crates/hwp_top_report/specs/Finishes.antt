@@ -11,7 +11,7 @@ use Rattle.hwp_table_words.specs.hwp_plain.Openings.{home_with}
 use Rattle.hwp_table_words.specs.Ends.{EndValue}
 use Rattle.hwp_cpu_row.specs.hwp_script_read.declared.Script.{Script}
 use Rattle.hwp_cpu_row.specs.hwp_report_text.declared.Report.{Report}
-use Rattle.hwp_law_served.specs.hwp_law_run.Turns.{Leads}
+use Rattle.hwp_law_served.specs.Turns.{Leads}
 use Rattle.hwp_cpu_row.specs.declared.Row.{Row}
 use Rattle.hwp_law_served.specs.Runs.{HaveServed}
 use Rattle.hwp_top_report.specs.Closing.{IsClosing, lines_of_all}

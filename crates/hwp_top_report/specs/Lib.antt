@@ -16,6 +16,5 @@ pub use Rattle.hwp_cpu_row.specs.hwp_cpu_check as hwp_cpu_check
 pub use Rattle.hwp_cpu_row.specs as hwp_cpu_row
 pub use Rattle.hwp_law_served.specs.hwp_law as hwp_law
 pub use Rattle.hwp_law_served.specs as hwp_law_served
-pub use Rattle.hwp_law_served.specs.hwp_law_run as hwp_law_run
 pub use Rattle.hwp_cpu_row.specs.hwp_report_text as hwp_report_text
 pub use Rattle.hwp_cpu_row.specs.hwp_severity as hwp_severity

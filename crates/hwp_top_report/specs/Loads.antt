@@ -23,7 +23,7 @@ use Rattle.hwp_law_served.specs.hwp_core_rule.Boards.{Played}
 use Rattle.hwp_law_served.specs.hwp_report_text.declared.Report.{Report}
 use Rattle.hwp_law_served.specs.hwp_law.Places.{entry_at}
 use Rattle.hwp_law_served.specs.hwp_law.States.{HadState}
-use Rattle.hwp_law_served.specs.hwp_law_run.Turns.{TurnBy}
+use Rattle.hwp_law_served.specs.Turns.{TurnBy}
 
 -- the seat has the frame's lock, and in hand the body of the page, which it took from the frame
 pub record HasPageIn (page : Page) (frame : Frame) (view : View) : Type 0 where

@@ -12,7 +12,7 @@ use Rattle.hwp_law_served.specs.hwp_core_rule.Opening.{opening}
 use Rattle.hwp_law_served.specs.hwp_core_rule.Words.{Words, free_bit, words_of}
 use Rattle.hwp_law_served.specs.hwp_core_rule.parts.Places.{in_hand}
 use Rattle.hwp_law_served.specs.hwp_core_rule.Boards.{Played}
-use Rattle.hwp_law_served.specs.hwp_law_run.Turns.{Leads}
+use Rattle.hwp_law_served.specs.Turns.{Leads}
 
 -- The frame is out of use: it is poisoned, its free bit is 0, it is in nobody's hand, no page owns it, and no translation word
 -- and no cache word names it, which each would do by the frame's number plus 1. While it isn't locked, its slot has no page's

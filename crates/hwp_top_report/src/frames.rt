@@ -2,7 +2,7 @@ ghost use Rattle.std.specs.Prelude.{◌≡◌, ◌<◌, ◌≤◌, IfOk};
 ghost use Rattle.std.specs.List.{sum_by};
 ghost use Rattle.hwp_plain.specs.hwp_words.Frames.{poison_of};
 ghost use Rattle.hwp_plain.specs.hwp_core_rule.Words.{words_of};
-ghost use Rattle.hwp_law_served.specs.hwp_law_run.Ends.{place_in};
+ghost use Rattle.hwp_law_served.specs.Ends.{place_in};
 ghost use Rattle.hwp_top_report.specs.Closing.{AreLinesBy, AreWordsOf, line_with};
 
 use crate::records::{gather, ordered};

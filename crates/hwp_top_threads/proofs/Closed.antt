@@ -16,7 +16,7 @@ use Rattle.hwp_threads.specs.Parts.{Own}
 use Rattle.hwp_top_turns.specs.hwp_script_read.declared.Script.{Script}
 use Rattle.hwp_top_turns.specs.hwp_script_read.Valid.{IsValid}
 use Rattle.hwp_top_turns.specs.hwp_report_text.declared.Report.{Report}
-use Rattle.hwp_top_turns.proofs.of_hwp_law_run.Homes.{there-is}
+use Rattle.hwp_top_turns.proofs.of_hwp_law_served.Homes.{there-is}
 use Rattle.hwp_top_turns.specs.hwp_cpu_row.declared.Row.{Row}
 use Rattle.hwp_top_turns.specs.hwp_law.Acting.{acting_script, copied_at}
 use Rattle.hwp_top_turns.specs.hwp_law_served.Runs.{IsRunOf}

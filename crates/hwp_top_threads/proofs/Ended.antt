@@ -28,9 +28,9 @@ use Rattle.hwp_top_turns.specs.hwp_script_read.declared.Script.{Script}
 use Rattle.hwp_top_turns.specs.hwp_script_read.Valid.{IsValid}
 use Rattle.hwp_top_turns.specs.hwp_plain.Order.{logged}
 use Rattle.hwp_top_turns.specs.hwp_plain.Ready.{Claimed}
-use Rattle.hwp_top_turns.specs.hwp_law_run.Turns.{Leads}
-use Rattle.hwp_top_turns.proofs.of_hwp_law_run.Homes.{there-is}
-use Rattle.hwp_top_turns.proofs.of_hwp_law_run.TurnLeads.{leads-hold, leads-on}
+use Rattle.hwp_top_turns.specs.hwp_law_served.Turns.{Leads}
+use Rattle.hwp_top_turns.proofs.of_hwp_law_served.Homes.{there-is}
+use Rattle.hwp_top_turns.proofs.of_hwp_law_served.TurnLeads.{leads-hold, leads-on}
 use Rattle.hwp_top_turns.specs.hwp_cpu_row.declared.Row.{Row}
 use Rattle.hwp_top_turns.specs.hwp_cpu.declared.Processor.{Processor}
 use Rattle.hwp_top_turns.specs.hwp_cpu.Processors.{plan, plan_of}

@@ -28,7 +28,7 @@ use Rattle.hwp_threads.proofs.SeatMoves.{bare-when-over, dealt-moved, have-moved
 use Rattle.hwp_top_turns.specs.hwp_script_read.declared.Script.{Script}
 use Rattle.hwp_top_turns.specs.hwp_script_read.Valid.{IsValid}
 use Rattle.hwp_top_turns.specs.hwp_plain.Order.{cpu_of as number_of}
-use Rattle.hwp_top_turns.proofs.of_hwp_law_run.Homes.{there-is}
+use Rattle.hwp_top_turns.proofs.of_hwp_law_served.Homes.{there-is}
 use Rattle.hwp_top_turns.specs.hwp_cpu.declared.Processor.{Processor}
 use Rattle.hwp_top_turns.specs.hwp_cpu.Serving.{Fits}
 use Rattle.hwp_top_turns.proofs.of_hwp_cpu.Ends.{opening-fits}

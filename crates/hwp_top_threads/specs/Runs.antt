@@ -16,11 +16,11 @@ use Rattle.hwp_threads.specs.Parts.{AreParts, Own}
 use Rattle.hwp_top_turns.specs.hwp_script_read.declared.Script.{Script}
 use Rattle.hwp_top_turns.specs.hwp_plain.Order.{logged}
 use Rattle.hwp_top_turns.specs.hwp_report_text.declared.Report.{Report}
-use Rattle.hwp_top_turns.specs.hwp_law_run.Ends.{EndsWith}
-use Rattle.hwp_top_turns.specs.hwp_law_run.Scrubs.{ScrubsShown}
+use Rattle.hwp_top_turns.specs.hwp_law_served.Ends.{EndsWith}
+use Rattle.hwp_top_turns.specs.hwp_law_served.Scrubs.{ScrubsShown}
 use Rattle.hwp_top_turns.specs.hwp_law.Acting.{acting_script, copied_at}
-use Rattle.hwp_top_turns.specs.hwp_law_run.Shown.{IsShown}
-use Rattle.hwp_top_turns.specs.hwp_law_run.Turns.{Leads}
+use Rattle.hwp_top_turns.specs.hwp_law_served.Shown.{IsShown}
+use Rattle.hwp_top_turns.specs.hwp_law_served.Turns.{Leads}
 use Rattle.hwp_top_turns.specs.hwp_cpu_row.declared.Row.{Row}
 use Rattle.hwp_top_turns.specs.hwp_law_served.Runs.{AreRecords, HaveServed, notes_of}
 use Rattle.hwp_top_turns.specs.hwp_cpu.declared.Processor.{Processor}

@@ -19,8 +19,8 @@ use Rattle.hwp_plain.specs.hwp_script_read.Valid.{AreLists, IsCommandOf, IsValid
 use Rattle.hwp_plain.specs.Order.{InOrder, IsAt, Running, cpu_of, running}
 use Rattle.hwp_plain.specs.Ready.{IsCrew}
 use Rattle.hwp_plain.proofs.CrewOpens.{opening-crew}
-use Rattle.hwp_top_report.proofs.of_hwp_law_run.Homes.{there-is}
-use Rattle.hwp_top_report.proofs.of_hwp_law_run.RunKeeps.{kept-ordered}
+use Rattle.hwp_top_report.proofs.of_hwp_law_served.Homes.{there-is}
+use Rattle.hwp_top_report.proofs.of_hwp_law_served.TurnKeeps.{kept-ordered}
 use Rattle.hwp_top_report.specs.hwp_cpu_row.declared.Row.{Row}
 use Rattle.hwp_top_report.specs.hwp_law_served.Runs.{HaveServed}
 use Rattle.hwp_cpu.specs.declared.Processor.{Processor}

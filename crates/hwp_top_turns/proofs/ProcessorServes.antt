@@ -13,7 +13,7 @@ use Rattle.hwp_plain.specs.hwp_script_read.declared.Command.{Command}
 use Rattle.hwp_plain.specs.hwp_script_read.declared.Script.{Script}
 use Rattle.hwp_plain.specs.hwp_script_read.Valid.{IsValid}
 use Rattle.hwp_plain.specs.Order.{cpu_of}
-use Rattle.hwp_top_report.proofs.of_hwp_law_run.Homes.{there-is}
+use Rattle.hwp_top_report.proofs.of_hwp_law_served.Homes.{there-is}
 use Rattle.hwp_top_report.specs.hwp_cpu_row.declared.Row.{Row}
 use Rattle.hwp_top_report.specs.hwp_law_served.Rows.{lines_from}
 use Rattle.hwp_top_report.specs.hwp_law_served.Runs.{HaveServed}

@@ -8,8 +8,8 @@ use Rattle.hwp_table_words.specs.hwp_core_rule.declared.State.{State}
 use Rattle.hwp_table_words.specs.hwp_core_rule.Opening.{opening}
 use Rattle.hwp_table_words.specs.hwp_core_rule.Boards.{Played}
 use Rattle.hwp_plain.specs.Order.{logged}
-use Rattle.hwp_top_report.specs.hwp_law_run.Ends.{EndsWith}
-use Rattle.hwp_top_report.specs.hwp_law_run.Turns.{Leads}
+use Rattle.hwp_top_report.specs.hwp_law_served.Ends.{EndsWith}
+use Rattle.hwp_top_report.specs.hwp_law_served.Turns.{Leads}
 use Rattle.hwp_top_report.specs.hwp_cpu_row.declared.Row.{Row}
 use Rattle.hwp_top_report.specs.hwp_law_served.Runs.{HaveServed, IsRunOf}
 use Rattle.hwp_top_report.proofs.AnswerSights.{report-shown, scrubs-shown}

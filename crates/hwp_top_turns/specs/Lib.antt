@@ -16,7 +16,6 @@ pub use Rattle.hwp_table_words.specs.hwp_kill as hwp_kill
 pub use Rattle.hwp_top_report.specs.hwp_law as hwp_law
 pub use Rattle.hwp_top_report.specs as hwp_top_report
 pub use Rattle.hwp_top_report.specs.hwp_law_served as hwp_law_served
-pub use Rattle.hwp_top_report.specs.hwp_law_run as hwp_law_run
 pub use Rattle.hwp_plain.specs as hwp_plain
 pub use Rattle.hwp_top_report.specs.hwp_report_text as hwp_report_text
 pub use Rattle.hwp_plain.specs.hwp_script_lines as hwp_script_lines

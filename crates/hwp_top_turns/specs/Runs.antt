@@ -16,7 +16,7 @@ use Rattle.hwp_plain.specs.Order.{InOrder, Running, logged, running}
 use Rattle.hwp_top_report.specs.hwp_report_text.declared.Report.{Report}
 use Rattle.hwp_top_report.specs.hwp_law.Law.{IsLawful}
 use Rattle.hwp_top_report.specs.hwp_law.Runs.{IsOfRun}
-use Rattle.hwp_top_report.specs.hwp_law_run.Run.{CoreRun}
+use Rattle.hwp_top_report.specs.hwp_law_served.Run.{CoreRun}
 use Rattle.hwp_top_report.specs.hwp_cpu_row.declared.Row.{Row}
 use Rattle.hwp_top_report.specs.hwp_law_served.Runs.{AreRecords, HaveServed, notes_of}
 use Rattle.hwp_cpu.specs.declared.Processor.{Processor}

@@ -17,7 +17,7 @@ use Rattle.hwp_law_served.specs.hwp_soft.declared.UnpoisonAnswer.{UnpoisonAnswer
 use Rattle.hwp_law_served.specs.hwp_soft.declared.UnpoisonAnswer.TheVariants as answers
 use Rattle.hwp_law_served.specs.hwp_soft.Unpoisons as unpoisons
 use Rattle.hwp_law_served.specs.hwp_soft.Unpoisons.{is_revivable}
-use Rattle.hwp_law_served.specs.hwp_law_run.Shown.{IsRevivable}
+use Rattle.hwp_law_served.specs.Shown.{IsRevivable}
 use Rattle.hwp_cpu_command.specs.declared.Job.{Job}
 use Rattle.hwp_cpu_command.specs.declared.Job.TheVariants as jobs
 use Rattle.hwp_cpu_command.specs.Answers.{unpoison_answer}

@@ -4,33 +4,33 @@ use Rattle.std.proofs.Math.Path.{fun_ext}
 use Rattle.std.proofs.lemmas.List.Sums.{fold-append}
 use Rattle.std.specs.List.{cons_option}
 use Rattle.std.proofs.lemmas.Option.{none-some, same_Some}
-use Rattle.hwp_law_run.specs.hwp_geom.declared.Cpu.{Cpu}
-use Rattle.hwp_law_run.specs.hwp_geom.declared.Damage.{Damage}
-use Rattle.hwp_law_run.specs.hwp_geom.declared.Damage.TheVariants as damages
-use Rattle.hwp_law_run.specs.hwp_geom.declared.FileNo.{FileNo}
-use Rattle.hwp_law_run.specs.hwp_geom.declared.Frame.{Frame}
-use Rattle.hwp_law_run.specs.hwp_geom.declared.Layout.{Layout}
-use Rattle.hwp_law_run.specs.hwp_geom.declared.Thread.{Thread}
-use Rattle.hwp_law_run.specs.hwp_geom.declared.VSlot.{VSlot}
-use Rattle.hwp_law_run.specs.hwp_geom.declared.Who.{Who}
-use Rattle.hwp_law_run.specs.hwp_kill.declared.Policy.{Policy}
-use Rattle.hwp_law_run.specs.hwp_banks.Banks.{Banks, empty_banks}
-use Rattle.hwp_law_run.specs.hwp_core_rule.declared.Made.{Made}
-use Rattle.hwp_law_run.specs.hwp_core_rule.declared.Mark.{Mark}
-use Rattle.hwp_law_run.specs.hwp_core_rule.declared.Setting.{Setting}
-use Rattle.hwp_law_run.specs.hwp_core_rule.declared.Spoiled.{Spoiled}
-use Rattle.hwp_law_run.specs.hwp_core_rule.declared.View.{View}
-use Rattle.hwp_law_run.specs.hwp_core_rule.Lists.{EachMember}
-use Rattle.hwp_law_run.specs.hwp_script_read.declared.Command.{Command}
-use Rattle.hwp_law_run.specs.hwp_script_read.declared.Command.TheVariants as commands
-use Rattle.hwp_law_run.specs.hwp_report_text.declared.Answer.{Answer}
-use Rattle.hwp_law_run.specs.hwp_law.Cows.{acting, copied_from}
-use Rattle.hwp_law_run.specs.hwp_law.Settings.{set_after, set_behind, setting_of, settings, unset}
-use Rattle.hwp_law_run.specs.hwp_law.Watched.{Watched, watched_after}
-use Rattle.hwp_law_run.specs.hwp_law.Acting.{acting_from}
-use Rattle.hwp_law_run.specs.hwp_law.Losses.{tells_number}
-use Rattle.hwp_law_run.proofs.of_hwp_law.ActedLaws.{acted-at, set-acted}
-use Rattle.hwp_law_run.proofs.of_hwp_law.CowLaws.{acting-sets}
+use Rattle.hwp_law.specs.hwp_geom.declared.Cpu.{Cpu}
+use Rattle.hwp_law.specs.hwp_geom.declared.Damage.{Damage}
+use Rattle.hwp_law.specs.hwp_geom.declared.Damage.TheVariants as damages
+use Rattle.hwp_law.specs.hwp_geom.declared.FileNo.{FileNo}
+use Rattle.hwp_law.specs.hwp_geom.declared.Frame.{Frame}
+use Rattle.hwp_law.specs.hwp_geom.declared.Layout.{Layout}
+use Rattle.hwp_law.specs.hwp_geom.declared.Thread.{Thread}
+use Rattle.hwp_law.specs.hwp_geom.declared.VSlot.{VSlot}
+use Rattle.hwp_law.specs.hwp_geom.declared.Who.{Who}
+use Rattle.hwp_law.specs.hwp_kill.declared.Policy.{Policy}
+use Rattle.hwp_law.specs.hwp_banks.Banks.{Banks, empty_banks}
+use Rattle.hwp_plain.specs.hwp_core_rule.declared.Made.{Made}
+use Rattle.hwp_plain.specs.hwp_core_rule.declared.Mark.{Mark}
+use Rattle.hwp_plain.specs.hwp_core_rule.declared.Setting.{Setting}
+use Rattle.hwp_plain.specs.hwp_core_rule.declared.Spoiled.{Spoiled}
+use Rattle.hwp_plain.specs.hwp_core_rule.declared.View.{View}
+use Rattle.hwp_plain.specs.hwp_core_rule.Lists.{EachMember}
+use Rattle.hwp_law.specs.hwp_script_read.declared.Command.{Command}
+use Rattle.hwp_law.specs.hwp_script_read.declared.Command.TheVariants as commands
+use Rattle.hwp_law.specs.hwp_report_text.declared.Answer.{Answer}
+use Rattle.hwp_law.specs.Cows.{acting, copied_from}
+use Rattle.hwp_law.specs.Settings.{set_after, set_behind, setting_of, settings, unset}
+use Rattle.hwp_law.specs.Watched.{Watched, watched_after}
+use Rattle.hwp_law.specs.Acting.{acting_from}
+use Rattle.hwp_law.specs.Losses.{tells_number}
+use Rattle.hwp_law.proofs.ActedLaws.{acted-at, set-acted}
+use Rattle.hwp_law.proofs.CowLaws.{acting-sets}
 use Rattle.hwp_cpu_row.specs.declared.Row.{Row}
 use Rattle.hwp_cpu_row.specs.Acts.{told_notes}
 use Rattle.hwp_cpu_row.specs.hwp_cpu_check.declared.EventOutcome.{EventOutcome}

@@ -5,15 +5,15 @@ use Rattle.std.specs.List.{range_with_len}
 use Rattle.std.proofs.lemmas.Bool.{both_ways, eq-eqb, eqb-true, ne_eqb}
 use Rattle.std.proofs.lemmas.List.{map-append}
 use Rattle.std.proofs.lemmas.List.Elements.{filter-append}
-use Rattle.hwp_law_run.specs.hwp_geom.declared.Mask.{Mask}
-use Rattle.hwp_law_run.specs.hwp_geom.declared.Page.{Page}
-use Rattle.hwp_law_run.specs.hwp_geom.declared.VSlot.{VSlot}
-use Rattle.hwp_law_run.specs.hwp_page.declared.What.{What}
-use Rattle.hwp_law_run.specs.hwp_page.declared.What.TheVariants as entries
-use Rattle.hwp_law_run.specs.hwp_core_rule.declared.Made.{Made}
-use Rattle.hwp_law_run.specs.hwp_core_rule.Lists.{EachMember}
-use Rattle.hwp_law_run.specs.hwp_law.Commands.{is_check}
-use Rattle.hwp_law_run.specs.hwp_law.Copies.{checks_by, lines_at}
+use Rattle.hwp_law.specs.hwp_geom.declared.Mask.{Mask}
+use Rattle.hwp_law.specs.hwp_geom.declared.Page.{Page}
+use Rattle.hwp_law.specs.hwp_geom.declared.VSlot.{VSlot}
+use Rattle.hwp_law.specs.hwp_page.declared.What.{What}
+use Rattle.hwp_law.specs.hwp_page.declared.What.TheVariants as entries
+use Rattle.hwp_plain.specs.hwp_core_rule.declared.Made.{Made}
+use Rattle.hwp_plain.specs.hwp_core_rule.Lists.{EachMember}
+use Rattle.hwp_law.specs.Commands.{is_check}
+use Rattle.hwp_law.specs.Copies.{checks_by, lines_at}
 use Rattle.hwp_law_served.proofs.copied.CopyCounts.{num}
 use Rattle.hwp_law_served.proofs.copied.OwnIn.{in_page}
 

@@ -4,37 +4,37 @@ use Rattle.std.specs.Int.{from_bool}
 use Rattle.std.specs.List.{sum_by}
 use Rattle.std.proofs.lemmas.Bool.{and_from, and_parts, eq-eqb, eqb-true}
 use Rattle.std.proofs.lemmas.Option.{none-some, same_Some}
-use Rattle.hwp_law_run.specs.hwp_geom.declared.Frame.{Frame}
-use Rattle.hwp_law_run.specs.hwp_geom.declared.Layout.{Layout}
-use Rattle.hwp_law_run.specs.hwp_geom.declared.Page.{Page}
-use Rattle.hwp_law_run.specs.hwp_geom.declared.Who.{Who}
-use Rattle.hwp_law_run.specs.hwp_page.declared.Entry.{Entry}
-use Rattle.hwp_law_run.specs.hwp_core_rule.declared.InHand.{InHand}
-use Rattle.hwp_law_run.specs.hwp_core_rule.declared.Log.{Log}
-use Rattle.hwp_law_run.specs.hwp_core_rule.declared.Made.{Made}
-use Rattle.hwp_law_run.specs.hwp_core_rule.declared.Rec.{Rec}
-use Rattle.hwp_law_run.specs.hwp_core_rule.declared.Sight.{Sight}
-use Rattle.hwp_law_run.specs.hwp_core_rule.declared.SlotMove.{SlotMove}
-use Rattle.hwp_law_run.specs.hwp_core_rule.declared.SlotMove.TheVariants as moves
-use Rattle.hwp_law_run.specs.hwp_core_rule.declared.Stamp.{Stamp}
-use Rattle.hwp_law_run.specs.hwp_core_rule.declared.State.{State}
-use Rattle.hwp_law_run.specs.hwp_core_rule.declared.View.{View}
-use Rattle.hwp_law_run.specs.hwp_core_rule.Asks.{Extends}
-use Rattle.hwp_law_run.specs.hwp_core_rule.Lists.{EachMember, of_home, sum_all, sum_bodies}
-use Rattle.hwp_law_run.specs.hwp_core_rule.Moves.{Move}
-use Rattle.hwp_law_run.specs.hwp_core_rule.Rule.{Holds, holder_of}
-use Rattle.hwp_law_run.specs.hwp_core_rule.SlotMoves.{MeetsSlot, slot_move}
-use Rattle.hwp_law_run.specs.hwp_core_rule.Views.{body_of, is_body_of, made_from, more_of, noted, stamp_of, view_after}
-use Rattle.hwp_law_run.specs.hwp_core_rule.parts.Bodies.{Holder}
-use Rattle.hwp_law_run.specs.hwp_core_rule.parts.Entries.{weigh, weigh_from}
-use Rattle.hwp_law_run.proofs.of_hwp_core_rule.AsksNoted.{asks-noted}
-use Rattle.hwp_law_run.proofs.of_hwp_core_rule.CountsBelow.{some-term}
-use Rattle.hwp_law_run.proofs.of_hwp_core_rule.ListDrops.{find-is}
-use Rattle.hwp_law_run.proofs.of_hwp_core_rule.Lists.{at_map, same-or, sum-map, term-le, terms-le}
-use Rattle.hwp_law_run.proofs.Homes.{home-within}
-use Rattle.hwp_law_run.proofs.Legal.{bodies-by}
-use Rattle.hwp_law_run.proofs.SightOrder.{at-one, at-within, is_at, is_of}
-use Rattle.hwp_law_run.proofs.StepAdds.{AddsLength, AddsMade, AddsNothing, adds}
+use Rattle.hwp_law.specs.hwp_geom.declared.Frame.{Frame}
+use Rattle.hwp_law.specs.hwp_geom.declared.Layout.{Layout}
+use Rattle.hwp_law.specs.hwp_geom.declared.Page.{Page}
+use Rattle.hwp_law.specs.hwp_geom.declared.Who.{Who}
+use Rattle.hwp_law.specs.hwp_page.declared.Entry.{Entry}
+use Rattle.hwp_plain.specs.hwp_core_rule.declared.InHand.{InHand}
+use Rattle.hwp_plain.specs.hwp_core_rule.declared.Log.{Log}
+use Rattle.hwp_plain.specs.hwp_core_rule.declared.Made.{Made}
+use Rattle.hwp_plain.specs.hwp_core_rule.declared.Rec.{Rec}
+use Rattle.hwp_plain.specs.hwp_core_rule.declared.Sight.{Sight}
+use Rattle.hwp_plain.specs.hwp_core_rule.declared.SlotMove.{SlotMove}
+use Rattle.hwp_plain.specs.hwp_core_rule.declared.SlotMove.TheVariants as moves
+use Rattle.hwp_plain.specs.hwp_core_rule.declared.Stamp.{Stamp}
+use Rattle.hwp_plain.specs.hwp_core_rule.declared.State.{State}
+use Rattle.hwp_plain.specs.hwp_core_rule.declared.View.{View}
+use Rattle.hwp_plain.specs.hwp_core_rule.Asks.{Extends}
+use Rattle.hwp_plain.specs.hwp_core_rule.Lists.{EachMember, of_home, sum_all, sum_bodies}
+use Rattle.hwp_plain.specs.hwp_core_rule.Moves.{Move}
+use Rattle.hwp_plain.specs.hwp_core_rule.Rule.{Holds, holder_of}
+use Rattle.hwp_plain.specs.hwp_core_rule.SlotMoves.{MeetsSlot, slot_move}
+use Rattle.hwp_plain.specs.hwp_core_rule.Views.{body_of, is_body_of, made_from, more_of, noted, stamp_of, view_after}
+use Rattle.hwp_plain.specs.hwp_core_rule.parts.Bodies.{Holder}
+use Rattle.hwp_plain.specs.hwp_core_rule.parts.Entries.{weigh, weigh_from}
+use Rattle.hwp_plain.proofs.of_hwp_core_rule.AsksNoted.{asks-noted}
+use Rattle.hwp_plain.proofs.of_hwp_core_rule.CountsBelow.{some-term}
+use Rattle.hwp_plain.proofs.of_hwp_core_rule.ListDrops.{find-is}
+use Rattle.hwp_plain.proofs.of_hwp_core_rule.Lists.{at_map, same-or, sum-map, term-le, terms-le}
+use Rattle.hwp_law_served.proofs.Homes.{home-within}
+use Rattle.hwp_law_served.proofs.Legal.{bodies-by}
+use Rattle.hwp_law_served.proofs.SightOrder.{at-one, at-within, is_at, is_of}
+use Rattle.hwp_law_served.proofs.StepEntries.{AddsLength, AddsMade, AddsNothing, adds}
 use Rattle.hwp_law_served.proofs.RunKeeps.{IsKept}
 
 -- those of one page rise

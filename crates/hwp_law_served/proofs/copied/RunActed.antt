@@ -2,27 +2,27 @@
 use Rattle.std.proofs.Common.{◌≡◌, ℕ, ◌+◌, List, [], ◌∷◌, Option, None, Some, length, option_and_then, option_map, slice_get, take, unwrap_or, refl, sym, ap, ◌∙◌, subst, arith}
 use Rattle.std.specs.List.{zip}
 use Rattle.std.proofs.lemmas.Option.{none-some, same_Some}
-use Rattle.hwp_law_run.specs.hwp_geom.declared.Cpu.{Cpu}
-use Rattle.hwp_law_run.specs.hwp_geom.declared.Layout.{Layout}
-use Rattle.hwp_law_run.specs.hwp_geom.declared.VSlot.{VSlot}
-use Rattle.hwp_law_run.specs.hwp_geom.declared.Who.{Who}
-use Rattle.hwp_law_run.specs.hwp_core_rule.declared.State.{State}
-use Rattle.hwp_law_run.specs.hwp_core_rule.declared.View.{View}
-use Rattle.hwp_law_run.specs.hwp_core_rule.Boards.{view_of}
-use Rattle.hwp_law_run.specs.hwp_script_read.declared.Command.{Command}
-use Rattle.hwp_law_run.specs.hwp_script_read.declared.Command.TheVariants as commands
-use Rattle.hwp_law_run.specs.hwp_script_read.declared.Script.{Script}
-use Rattle.hwp_law_run.specs.hwp_report_text.declared.Answer.{Answer}
-use Rattle.hwp_law_run.specs.hwp_report_text.declared.CpuLine.{CpuLine}
-use Rattle.hwp_law_run.specs.hwp_report_text.declared.Report.{Report}
-use Rattle.hwp_law_run.specs.hwp_report_text.declared.Stop.{Stop}
-use Rattle.hwp_law_run.specs.hwp_report_text.declared.StopCause.{StopCause}
-use Rattle.hwp_law_run.specs.hwp_law.Commands.{command_at}
-use Rattle.hwp_law_run.specs.hwp_law.Cows.{acting, copied_from}
-use Rattle.hwp_law_run.specs.hwp_law.Acting.{acting_from, acting_lists, acting_script, copied_at}
-use Rattle.hwp_law_run.specs.hwp_law.Lines.{answered, answers_to}
-use Rattle.hwp_law_run.specs.hwp_law.Policies.{answered_before, answered_on}
-use Rattle.hwp_law_run.proofs.of_hwp_law.ActedLaws.{command-acted, list-at}
+use Rattle.hwp_law.specs.hwp_geom.declared.Cpu.{Cpu}
+use Rattle.hwp_law.specs.hwp_geom.declared.Layout.{Layout}
+use Rattle.hwp_law.specs.hwp_geom.declared.VSlot.{VSlot}
+use Rattle.hwp_law.specs.hwp_geom.declared.Who.{Who}
+use Rattle.hwp_plain.specs.hwp_core_rule.declared.State.{State}
+use Rattle.hwp_plain.specs.hwp_core_rule.declared.View.{View}
+use Rattle.hwp_plain.specs.hwp_core_rule.Boards.{view_of}
+use Rattle.hwp_law.specs.hwp_script_read.declared.Command.{Command}
+use Rattle.hwp_law.specs.hwp_script_read.declared.Command.TheVariants as commands
+use Rattle.hwp_law.specs.hwp_script_read.declared.Script.{Script}
+use Rattle.hwp_law.specs.hwp_report_text.declared.Answer.{Answer}
+use Rattle.hwp_law.specs.hwp_report_text.declared.CpuLine.{CpuLine}
+use Rattle.hwp_law.specs.hwp_report_text.declared.Report.{Report}
+use Rattle.hwp_law.specs.hwp_report_text.declared.Stop.{Stop}
+use Rattle.hwp_law.specs.hwp_report_text.declared.StopCause.{StopCause}
+use Rattle.hwp_law.specs.Commands.{command_at}
+use Rattle.hwp_law.specs.Cows.{acting, copied_from}
+use Rattle.hwp_law.specs.Acting.{acting_from, acting_lists, acting_script, copied_at}
+use Rattle.hwp_law.specs.Lines.{answered, answers_to}
+use Rattle.hwp_law.specs.Policies.{answered_before, answered_on}
+use Rattle.hwp_law.proofs.ActedLaws.{command-acted, list-at}
 use Rattle.hwp_cpu_row.specs.declared.Row.{Row}
 use Rattle.hwp_cpu_row.specs.hwp_cpu_check.declared.EventOutcome.{EventOutcome}
 use Rattle.hwp_law_served.specs.Handles.{answers_by}

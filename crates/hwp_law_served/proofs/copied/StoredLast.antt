@@ -2,18 +2,18 @@
 use Rattle.std.proofs.Common.{◌≡◌, ◌⊎◌, inl, inr, ℕ, ◌+◌, Bool, true, false, if◌then◌else◌, nat_lt, List, [], ◌∷◌, ◌++◌, append-nil, append_assoc, refl, sym, ap, ◌∙◌, subst, true≢false}
 use Rattle.std.proofs.lemmas.List.Concat.{flat_map-append}
 use Rattle.std.proofs.lemmas.Option.{none-some}
-use Rattle.hwp_law_run.specs.hwp_geom.declared.Layout.{Layout}
-use Rattle.hwp_law_run.specs.hwp_geom.declared.Page.{Page}
-use Rattle.hwp_law_run.specs.hwp_geom.declared.VSlot.{VSlot}
-use Rattle.hwp_law_run.specs.hwp_geom.Limits.{line_limit}
-use Rattle.hwp_law_run.specs.hwp_banks.Banks.{Banks}
-use Rattle.hwp_law_run.specs.hwp_page.declared.At.{At}
-use Rattle.hwp_law_run.specs.hwp_page.declared.Met.TheVariants.{Word}
-use Rattle.hwp_law_run.specs.hwp_page.declared.What.TheVariants as entries
-use Rattle.hwp_law_run.specs.hwp_core_rule.declared.Made.{Made}
-use Rattle.hwp_law_run.specs.hwp_core_rule.declared.View.{View}
-use Rattle.hwp_law_run.specs.hwp_core_rule.Lists.{EachMember}
-use Rattle.hwp_law_run.specs.hwp_core_rule.Known.{IsAt, deeds}
+use Rattle.hwp_law.specs.hwp_geom.declared.Layout.{Layout}
+use Rattle.hwp_law.specs.hwp_geom.declared.Page.{Page}
+use Rattle.hwp_law.specs.hwp_geom.declared.VSlot.{VSlot}
+use Rattle.hwp_law.specs.hwp_geom.Limits.{line_limit}
+use Rattle.hwp_law.specs.hwp_banks.Banks.{Banks}
+use Rattle.hwp_law.specs.hwp_page.declared.At.{At}
+use Rattle.hwp_law.specs.hwp_page.declared.Met.TheVariants.{Word}
+use Rattle.hwp_law.specs.hwp_page.declared.What.TheVariants as entries
+use Rattle.hwp_plain.specs.hwp_core_rule.declared.Made.{Made}
+use Rattle.hwp_plain.specs.hwp_core_rule.declared.View.{View}
+use Rattle.hwp_plain.specs.hwp_core_rule.Lists.{EachMember}
+use Rattle.hwp_plain.specs.hwp_core_rule.Known.{IsAt, deeds}
 use Rattle.hwp_cpu_row.specs.hwp_cpu_check.declared.EventOutcome.{EventOutcome}
 use Rattle.hwp_cpu_row.specs.hwp_cpu_check.Checks.{left_by}
 use Rattle.hwp_cpu_access.specs.hwp_fault.declared.Request.{Request}

@@ -2,21 +2,21 @@
 use Rattle.std.proofs.Common.{◌≡◌, ◌⊎◌, inl, inr, ℕ, suc, ◌+◌, ◌<◌, ◌≤◌, ◌==◌, Bool, true, false, cond, if◌then◌else◌, nat_lt, List, [], ◌∷◌, ◌++◌, Option, None, Some, filter_map, length, map, refl, sym, ap, ◌∙◌, subst, arith, true≢false}
 use Rattle.std.specs.List.{cons_option}
 use Rattle.std.proofs.lemmas.Bool.{both_ways, cases_eq, eq-eqb, false_from_ne_true, lt-ltb, ne_eqb}
-use Rattle.hwp_law_run.specs.hwp_geom.declared.Layout.{Layout}
-use Rattle.hwp_law_run.specs.hwp_geom.declared.Page.{Page}
-use Rattle.hwp_law_run.specs.hwp_geom.declared.VSlot.{VSlot}
-use Rattle.hwp_law_run.specs.hwp_geom.declared.Who.{Who}
-use Rattle.hwp_law_run.specs.hwp_geom.Limits.{line_limit}
-use Rattle.hwp_law_run.specs.hwp_banks.Banks.{Banks}
-use Rattle.hwp_law_run.specs.hwp_page.declared.Met.TheVariants.{Word}
-use Rattle.hwp_law_run.specs.hwp_page.declared.What.{What}
-use Rattle.hwp_law_run.specs.hwp_page.declared.What.TheVariants as entries
-use Rattle.hwp_law_run.specs.hwp_core_rule.declared.Made.{Made}
-use Rattle.hwp_law_run.specs.hwp_core_rule.declared.View.{View}
-use Rattle.hwp_law_run.specs.hwp_core_rule.Lists.{EachMember, SomeMember}
-use Rattle.hwp_law_run.proofs.of_hwp_core_rule.Lists.{at_last, at_longer}
-use Rattle.hwp_law_run.specs.hwp_law.Copies.{is_store}
-use Rattle.hwp_law_run.specs.hwp_law.Private.{last_word, word_in}
+use Rattle.hwp_law.specs.hwp_geom.declared.Layout.{Layout}
+use Rattle.hwp_law.specs.hwp_geom.declared.Page.{Page}
+use Rattle.hwp_law.specs.hwp_geom.declared.VSlot.{VSlot}
+use Rattle.hwp_law.specs.hwp_geom.declared.Who.{Who}
+use Rattle.hwp_law.specs.hwp_geom.Limits.{line_limit}
+use Rattle.hwp_law.specs.hwp_banks.Banks.{Banks}
+use Rattle.hwp_law.specs.hwp_page.declared.Met.TheVariants.{Word}
+use Rattle.hwp_law.specs.hwp_page.declared.What.{What}
+use Rattle.hwp_law.specs.hwp_page.declared.What.TheVariants as entries
+use Rattle.hwp_plain.specs.hwp_core_rule.declared.Made.{Made}
+use Rattle.hwp_plain.specs.hwp_core_rule.declared.View.{View}
+use Rattle.hwp_plain.specs.hwp_core_rule.Lists.{EachMember, SomeMember}
+use Rattle.hwp_plain.proofs.of_hwp_core_rule.Lists.{at_last, at_longer}
+use Rattle.hwp_law.specs.Copies.{is_store}
+use Rattle.hwp_law.specs.Private.{last_word, word_in}
 use Rattle.hwp_cpu_row.specs.hwp_cpu_check.Checks.{left_by}
 use Rattle.hwp_cpu_access.specs.hwp_fault.declared.Request.{Request}
 use Rattle.hwp_cpu_access.specs.hwp_fault.Accesses.{what_of}

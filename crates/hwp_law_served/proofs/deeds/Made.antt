@@ -2,38 +2,38 @@
 use Rattle.std.proofs.Common.{◌≡◌, ◌≢◌, inl, inr, ℕ, Bool, true, false, List, [], Option, Some, IsTrue, slice_get, option_and_then, refl, sym, ap, ◌∙◌, subst, arith}
 use Rattle.std.proofs.lemmas.Option.{none-some}
 use Rattle.std.specs.Prelude.{IsSomeAnd}
-use Rattle.hwp_law_run.specs.hwp_geom.declared.VSlot.{VSlot}
-use Rattle.hwp_law_run.specs.hwp_geom.declared.Cpu.{Cpu}
-use Rattle.hwp_law_run.specs.hwp_geom.declared.Layout.{Layout}
-use Rattle.hwp_law_run.specs.hwp_geom.declared.Page.{Page}
-use Rattle.hwp_law_run.specs.hwp_geom.declared.Who.{Who}
-use Rattle.hwp_law_run.specs.hwp_page.declared.At.{At}
-use Rattle.hwp_law_run.specs.hwp_page.declared.Entry.{Entry}
-use Rattle.hwp_law_run.specs.hwp_page.declared.What.{What}
-use Rattle.hwp_law_run.specs.hwp_page.declared.What.TheVariants as entries
-use Rattle.hwp_law_run.specs.hwp_core_rule.declared.Made.{Made}
-use Rattle.hwp_law_run.specs.hwp_core_rule.declared.State.{State}
-use Rattle.hwp_law_run.specs.hwp_core_rule.declared.View.{View}
-use Rattle.hwp_law_run.specs.hwp_script_read.declared.Command.{Command}
-use Rattle.hwp_law_run.specs.hwp_script_read.declared.Command.TheVariants as commands
-use Rattle.hwp_law_run.specs.hwp_script_read.declared.Script.{Script}
-use Rattle.hwp_law_run.specs.hwp_report_text.Offlines.{offline_answer}
-use Rattle.hwp_law_run.specs.hwp_report_text.declared.Answer.{Answer}
-use Rattle.hwp_law_run.specs.hwp_report_text.declared.Answer.TheVariants as answers
-use Rattle.hwp_law_run.specs.hwp_report_text.declared.CpuLine.{CpuLine}
-use Rattle.hwp_law_run.specs.hwp_report_text.declared.CpuLine.TheVariants as lines
-use Rattle.hwp_law_run.specs.hwp_report_text.declared.OfflineResult.{OfflineResult}
-use Rattle.hwp_law_run.specs.hwp_report_text.declared.OfflineResult.TheVariants as results
-use Rattle.hwp_law_run.specs.hwp_report_text.declared.Report.{Report}
-use Rattle.hwp_law_run.specs.hwp_law.Answers.{IsNamed, named_in}
-use Rattle.hwp_law_run.specs.hwp_law.Copies.{AreNamed, must_be_named}
-use Rattle.hwp_law_run.specs.hwp_law.Entries.{AreMadeBy, CanStandIn, Makes}
-use Rattle.hwp_law_run.specs.hwp_law.Commands.{can_offline, command_at, has_watch}
-use Rattle.hwp_law_run.specs.hwp_law.Lines.{seq_of}
-use Rattle.hwp_law_run.specs.hwp_law.Places.{entry_at}
-use Rattle.hwp_law_run.specs.hwp_law.States.{entry_named}
-use Rattle.hwp_law_run.proofs.of_hwp_law.Extents.{makes-watched}
-use Rattle.hwp_law_run.proofs.Reported.{entry-listed}
+use Rattle.hwp_law.specs.hwp_geom.declared.VSlot.{VSlot}
+use Rattle.hwp_law.specs.hwp_geom.declared.Cpu.{Cpu}
+use Rattle.hwp_law.specs.hwp_geom.declared.Layout.{Layout}
+use Rattle.hwp_law.specs.hwp_geom.declared.Page.{Page}
+use Rattle.hwp_law.specs.hwp_geom.declared.Who.{Who}
+use Rattle.hwp_law.specs.hwp_page.declared.At.{At}
+use Rattle.hwp_law.specs.hwp_page.declared.Entry.{Entry}
+use Rattle.hwp_law.specs.hwp_page.declared.What.{What}
+use Rattle.hwp_law.specs.hwp_page.declared.What.TheVariants as entries
+use Rattle.hwp_plain.specs.hwp_core_rule.declared.Made.{Made}
+use Rattle.hwp_plain.specs.hwp_core_rule.declared.State.{State}
+use Rattle.hwp_plain.specs.hwp_core_rule.declared.View.{View}
+use Rattle.hwp_law.specs.hwp_script_read.declared.Command.{Command}
+use Rattle.hwp_law.specs.hwp_script_read.declared.Command.TheVariants as commands
+use Rattle.hwp_law.specs.hwp_script_read.declared.Script.{Script}
+use Rattle.hwp_law.specs.hwp_report_text.Offlines.{offline_answer}
+use Rattle.hwp_law.specs.hwp_report_text.declared.Answer.{Answer}
+use Rattle.hwp_law.specs.hwp_report_text.declared.Answer.TheVariants as answers
+use Rattle.hwp_law.specs.hwp_report_text.declared.CpuLine.{CpuLine}
+use Rattle.hwp_law.specs.hwp_report_text.declared.CpuLine.TheVariants as lines
+use Rattle.hwp_law.specs.hwp_report_text.declared.OfflineResult.{OfflineResult}
+use Rattle.hwp_law.specs.hwp_report_text.declared.OfflineResult.TheVariants as results
+use Rattle.hwp_law.specs.hwp_report_text.declared.Report.{Report}
+use Rattle.hwp_law.specs.Answers.{IsNamed, named_in}
+use Rattle.hwp_law.specs.Copies.{AreNamed, must_be_named}
+use Rattle.hwp_law.specs.Entries.{AreMadeBy, CanStandIn, Makes}
+use Rattle.hwp_law.specs.Commands.{can_offline, command_at, has_watch}
+use Rattle.hwp_law.specs.Lines.{seq_of}
+use Rattle.hwp_law.specs.Places.{entry_at}
+use Rattle.hwp_law.specs.States.{entry_named}
+use Rattle.hwp_law.proofs.Extents.{makes-watched}
+use Rattle.hwp_law_served.proofs.Reported.{entry-listed}
 use Rattle.hwp_cpu_row.specs.declared.Offlining.{Offlining}
 use Rattle.hwp_cpu_row.specs.declared.Row.{Row}
 use Rattle.hwp_law_served.specs.Causes.{IsBeside}

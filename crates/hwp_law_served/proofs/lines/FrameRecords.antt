@@ -8,23 +8,23 @@ use Rattle.std.proofs.lemmas.Bool.{eq-eqb, eqb-true, false_from_ne_true}
 use Rattle.std.proofs.lemmas.List.Sorted.{sum_by-IsPermutation}
 use Rattle.std.proofs.lemmas.List.Sums.{sum_by-cons}
 use Rattle.std.proofs.lemmas.Option.{slice_get-get_or}
-use Rattle.hwp_law_run.specs.hwp_geom.declared.Cpu.{Cpu}
-use Rattle.hwp_law_run.specs.hwp_geom.declared.Frame.{Frame}
-use Rattle.hwp_law_run.specs.hwp_geom.declared.Layout.{Layout}
-use Rattle.hwp_law_run.specs.hwp_geom.Pairs.{Pairs}
-use Rattle.hwp_law_run.specs.hwp_core_rule.declared.Mark.{Mark}
-use Rattle.hwp_law_run.specs.hwp_core_rule.declared.MarkKind.{MarkKind}
-use Rattle.hwp_law_run.specs.hwp_core_rule.declared.MarkKind.TheVariants as kinds
-use Rattle.hwp_law_run.specs.hwp_core_rule.declared.State.{State}
-use Rattle.hwp_law_run.specs.hwp_core_rule.declared.View.{View}
-use Rattle.hwp_law_run.specs.hwp_core_rule.Lists.{EachMember, sum_all}
-use Rattle.hwp_law_run.specs.hwp_core_rule.Rule.{Holds}
-use Rattle.hwp_law_run.specs.hwp_core_rule.Words.{sum_below, words_of}
-use Rattle.hwp_law_run.specs.hwp_core_rule.parts.Counter.{is_revival}
-use Rattle.hwp_law_run.proofs.of_hwp_core_rule.CountsBelow.{below-swap}
-use Rattle.hwp_law_run.proofs.of_hwp_core_rule.Lists.{same-or, sum-map, sum-zero, terms-le}
-use Rattle.hwp_law_run.specs.hwp_core_rule.Boards.{AreSeated, view_of}
-use Rattle.hwp_law_run.specs.hwp_report_text.declared.MarkLine.{MarkLine}
+use Rattle.hwp_law.specs.hwp_geom.declared.Cpu.{Cpu}
+use Rattle.hwp_law.specs.hwp_geom.declared.Frame.{Frame}
+use Rattle.hwp_law.specs.hwp_geom.declared.Layout.{Layout}
+use Rattle.hwp_law.specs.hwp_geom.Pairs.{Pairs}
+use Rattle.hwp_plain.specs.hwp_core_rule.declared.Mark.{Mark}
+use Rattle.hwp_plain.specs.hwp_core_rule.declared.MarkKind.{MarkKind}
+use Rattle.hwp_plain.specs.hwp_core_rule.declared.MarkKind.TheVariants as kinds
+use Rattle.hwp_plain.specs.hwp_core_rule.declared.State.{State}
+use Rattle.hwp_plain.specs.hwp_core_rule.declared.View.{View}
+use Rattle.hwp_plain.specs.hwp_core_rule.Lists.{EachMember, sum_all}
+use Rattle.hwp_plain.specs.hwp_core_rule.Rule.{Holds}
+use Rattle.hwp_plain.specs.hwp_core_rule.Words.{sum_below, words_of}
+use Rattle.hwp_plain.specs.hwp_core_rule.parts.Counter.{is_revival}
+use Rattle.hwp_plain.proofs.of_hwp_core_rule.CountsBelow.{below-swap}
+use Rattle.hwp_plain.proofs.of_hwp_core_rule.Lists.{same-or, sum-map, sum-zero, terms-le}
+use Rattle.hwp_plain.specs.hwp_core_rule.Boards.{AreSeated, view_of}
+use Rattle.hwp_law.specs.hwp_report_text.declared.MarkLine.{MarkLine}
 use Rattle.hwp_law_served.specs.Accounts.{IsLineOf, IsNote}
 use Rattle.hwp_law_served.specs.Rows.{Note, lines_of, record_of}
 use Rattle.hwp_law_served.specs.Runs.{AreSorted, IsRecord, notes_on, place_in}

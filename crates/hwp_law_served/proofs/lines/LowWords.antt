@@ -2,24 +2,24 @@
 use Rattle.std.proofs.Common.{◌≡◌, ℕ, zero, suc, ◌*◌, ◌^◌, ◌%◌, ◌<◌, Bool, true, false, List, [], ◌∷◌, replicate, refl, sym, ap, ◌∙◌, subst, arith, true≢false}
 use Rattle.std.proofs.lemmas.Nat.{or_lt}
 use Rattle.std.proofs.lemmas.Option.{none-some, same_Some}
-use Rattle.hwp_law_run.specs.hwp_geom.declared.Layout.{Layout}
-use Rattle.hwp_law_run.specs.hwp_core_rule.declared.SharedWord.{SharedWord}
-use Rattle.hwp_law_run.specs.hwp_core_rule.declared.SharedWord.TheVariants as places
-use Rattle.hwp_law_run.specs.hwp_core_rule.declared.Rec.{Rec}
-use Rattle.hwp_law_run.specs.hwp_core_rule.declared.State.{State}
-use Rattle.hwp_law_run.specs.hwp_core_rule.declared.Step.{Step}
-use Rattle.hwp_law_run.specs.hwp_core_rule.declared.Step.TheVariants as steps
-use Rattle.hwp_law_run.specs.hwp_core_rule.Lists.{EachMember}
-use Rattle.hwp_law_run.specs.hwp_core_rule.Moves.{Move}
-use Rattle.hwp_law_run.specs.hwp_core_rule.Opening.{opening}
-use Rattle.hwp_law_run.specs.hwp_core_rule.Rule.{Holds}
-use Rattle.hwp_law_run.specs.hwp_core_rule.Steps.{place_of, word_after}
-use Rattle.hwp_law_run.specs.hwp_core_rule.Words.{Words, put, words_of}
-use Rattle.hwp_law_run.proofs.of_hwp_core_rule.Lists.{each-set}
-use Rattle.hwp_law_run.proofs.of_hwp_core_rule.WordsOpen.{opening-bads, opening-weaks}
-use Rattle.hwp_law_run.proofs.of_hwp_core_rule.WordsByKind.{words-put}
-use Rattle.hwp_law_run.specs.hwp_core_rule.Boards.{Played}
-use Rattle.hwp_law_run.specs.Turns.{Leads}
+use Rattle.hwp_law.specs.hwp_geom.declared.Layout.{Layout}
+use Rattle.hwp_plain.specs.hwp_core_rule.declared.SharedWord.{SharedWord}
+use Rattle.hwp_plain.specs.hwp_core_rule.declared.SharedWord.TheVariants as places
+use Rattle.hwp_plain.specs.hwp_core_rule.declared.Rec.{Rec}
+use Rattle.hwp_plain.specs.hwp_core_rule.declared.State.{State}
+use Rattle.hwp_plain.specs.hwp_core_rule.declared.Step.{Step}
+use Rattle.hwp_plain.specs.hwp_core_rule.declared.Step.TheVariants as steps
+use Rattle.hwp_plain.specs.hwp_core_rule.Lists.{EachMember}
+use Rattle.hwp_plain.specs.hwp_core_rule.Moves.{Move}
+use Rattle.hwp_plain.specs.hwp_core_rule.Opening.{opening}
+use Rattle.hwp_plain.specs.hwp_core_rule.Rule.{Holds}
+use Rattle.hwp_plain.specs.hwp_core_rule.Steps.{place_of, word_after}
+use Rattle.hwp_plain.specs.hwp_core_rule.Words.{Words, put, words_of}
+use Rattle.hwp_plain.proofs.of_hwp_core_rule.Lists.{each-set}
+use Rattle.hwp_plain.proofs.of_hwp_core_rule.WordsOpen.{opening-bads, opening-weaks}
+use Rattle.hwp_plain.proofs.of_hwp_core_rule.WordsByKind.{words-put}
+use Rattle.hwp_plain.specs.hwp_core_rule.Boards.{Played}
+use Rattle.hwp_law_served.specs.Turns.{Leads}
 
 -- the words of bad and of weak lines have no bit but those of lines
 pub record AreOfLines (words : Words) : Type 0 where

@@ -2,37 +2,37 @@
 -- has its entry and is the command's answer, and a frame that was taken out of use isn't the kernel's, and the answer says so.
 use Rattle.std.proofs.Common.{◌≡◌, ℕ, ◌<◌, Bool, true, false, List, Option, Some, None, option_and_then, slice_get, refl, sym, ap, ◌∙◌, subst, true≢false}
 use Rattle.std.proofs.lemmas.Option.{none-some, same_Some, slice_get_within}
-use Rattle.hwp_law_run.specs.hwp_geom.declared.VSlot.{VSlot}
-use Rattle.hwp_law_run.specs.hwp_geom.declared.Cpu.{Cpu}
-use Rattle.hwp_law_run.specs.hwp_geom.declared.Frame.{Frame}
-use Rattle.hwp_law_run.specs.hwp_geom.declared.Layout.{Layout}
-use Rattle.hwp_law_run.specs.hwp_geom.declared.Thread.{Thread}
-use Rattle.hwp_law_run.specs.hwp_geom.declared.Who.{Who}
-use Rattle.hwp_law_run.specs.hwp_page.declared.At.{At}
-use Rattle.hwp_law_run.specs.hwp_page.declared.Outcome.{Outcome}
-use Rattle.hwp_law_run.specs.hwp_page.declared.Outcome.TheVariants as outcomes
-use Rattle.hwp_law_run.specs.hwp_page.declared.Situation.{Situation}
-use Rattle.hwp_law_run.specs.hwp_page.declared.Situation.TheVariants as situations
-use Rattle.hwp_law_run.specs.hwp_page.Situations.{outcome_of}
-use Rattle.hwp_law_run.specs.hwp_core_rule.declared.State.{State}
-use Rattle.hwp_law_run.specs.hwp_core_rule.declared.View.{View}
-use Rattle.hwp_law_run.specs.hwp_core_rule.Lists.{EachMember}
-use Rattle.hwp_law_run.specs.hwp_core_rule.Boards.{view_of}
+use Rattle.hwp_law.specs.hwp_geom.declared.VSlot.{VSlot}
+use Rattle.hwp_law.specs.hwp_geom.declared.Cpu.{Cpu}
+use Rattle.hwp_law.specs.hwp_geom.declared.Frame.{Frame}
+use Rattle.hwp_law.specs.hwp_geom.declared.Layout.{Layout}
+use Rattle.hwp_law.specs.hwp_geom.declared.Thread.{Thread}
+use Rattle.hwp_law.specs.hwp_geom.declared.Who.{Who}
+use Rattle.hwp_law.specs.hwp_page.declared.At.{At}
+use Rattle.hwp_law.specs.hwp_page.declared.Outcome.{Outcome}
+use Rattle.hwp_law.specs.hwp_page.declared.Outcome.TheVariants as outcomes
+use Rattle.hwp_law.specs.hwp_page.declared.Situation.{Situation}
+use Rattle.hwp_law.specs.hwp_page.declared.Situation.TheVariants as situations
+use Rattle.hwp_law.specs.hwp_page.Situations.{outcome_of}
+use Rattle.hwp_plain.specs.hwp_core_rule.declared.State.{State}
+use Rattle.hwp_plain.specs.hwp_core_rule.declared.View.{View}
+use Rattle.hwp_plain.specs.hwp_core_rule.Lists.{EachMember}
+use Rattle.hwp_plain.specs.hwp_core_rule.Boards.{view_of}
 use Rattle.hwp_soft.specs.hwp_claim_act.Abandoned.{IsOfPage}
 use Rattle.hwp_soft.specs.hwp_claim.Fails.{IsPageless}
-use Rattle.hwp_law_run.specs.hwp_script_read.declared.Command.{Command}
-use Rattle.hwp_law_run.specs.hwp_script_read.declared.Command.TheVariants as commands
-use Rattle.hwp_law_run.specs.hwp_script_read.declared.Script.{Script}
-use Rattle.hwp_law_run.specs.hwp_report_text.Offlines.{offline_answer}
-use Rattle.hwp_law_run.specs.hwp_report_text.declared.Answer.{Answer}
-use Rattle.hwp_law_run.specs.hwp_report_text.declared.Answer.TheVariants as answers
-use Rattle.hwp_law_run.specs.hwp_report_text.declared.OfflineResult.{OfflineResult}
-use Rattle.hwp_law_run.specs.hwp_report_text.declared.OfflineResult.TheVariants as results
-use Rattle.hwp_law_run.specs.hwp_report_text.declared.Report.{Report}
-use Rattle.hwp_law_run.specs.hwp_law.Commands.{current_thread}
-use Rattle.hwp_law_run.specs.hwp_law.Outcomes.{outcome_answer}
-use Rattle.hwp_law_run.specs.hwp_law.Records.{is_kernel_found, is_moved}
-use Rattle.hwp_law_run.proofs.Homes.{there-is}
+use Rattle.hwp_law.specs.hwp_script_read.declared.Command.{Command}
+use Rattle.hwp_law.specs.hwp_script_read.declared.Command.TheVariants as commands
+use Rattle.hwp_law.specs.hwp_script_read.declared.Script.{Script}
+use Rattle.hwp_law.specs.hwp_report_text.Offlines.{offline_answer}
+use Rattle.hwp_law.specs.hwp_report_text.declared.Answer.{Answer}
+use Rattle.hwp_law.specs.hwp_report_text.declared.Answer.TheVariants as answers
+use Rattle.hwp_law.specs.hwp_report_text.declared.OfflineResult.{OfflineResult}
+use Rattle.hwp_law.specs.hwp_report_text.declared.OfflineResult.TheVariants as results
+use Rattle.hwp_law.specs.hwp_report_text.declared.Report.{Report}
+use Rattle.hwp_law.specs.Commands.{current_thread}
+use Rattle.hwp_law.specs.Outcomes.{outcome_answer}
+use Rattle.hwp_law.specs.Records.{is_kernel_found, is_moved}
+use Rattle.hwp_law_served.proofs.Homes.{there-is}
 use Rattle.hwp_soft.specs.hwp_claim.declared.Found.{Found}
 use Rattle.hwp_cpu_row.specs.declared.FrameChange.{FrameChange}
 use Rattle.hwp_cpu_row.specs.declared.FrameChange.TheVariants as owns

@@ -3,28 +3,28 @@ use Rattle.std.proofs.Common.{◌≡◌, ◌≢◌, ℕ, zero, suc, ◌+◌, Boo
 use Rattle.std.specs.Prelude.{nat_lt}
 use Rattle.std.specs.List.{cons_option, list_any}
 use Rattle.std.proofs.lemmas.Option.{none-some, same_Some}
-use Rattle.hwp_law_run.specs.hwp_geom.declared.VSlot.{VSlot}
-use Rattle.hwp_law_run.specs.hwp_geom.declared.Cpu.{Cpu}
-use Rattle.hwp_law_run.specs.hwp_geom.declared.Frame.{Frame}
-use Rattle.hwp_law_run.specs.hwp_geom.declared.Layout.{Layout}
-use Rattle.hwp_law_run.specs.hwp_geom.declared.Who.{Who}
-use Rattle.hwp_law_run.specs.hwp_core_rule.declared.State.{State}
-use Rattle.hwp_law_run.specs.hwp_core_rule.declared.View.{View}
-use Rattle.hwp_law_run.specs.hwp_script_read.declared.Command.{Command}
-use Rattle.hwp_law_run.specs.hwp_script_read.declared.Command.TheVariants as commands
-use Rattle.hwp_law_run.specs.hwp_script_read.declared.Script.{Script}
-use Rattle.hwp_law_run.specs.hwp_report_text.declared.Answer.{Answer}
-use Rattle.hwp_law_run.specs.hwp_report_text.declared.Answer.TheVariants as answers
-use Rattle.hwp_law_run.specs.hwp_report_text.declared.CpuLine.{CpuLine}
-use Rattle.hwp_law_run.specs.hwp_report_text.declared.EventLine.{EventLine}
-use Rattle.hwp_law_run.specs.hwp_report_text.declared.OfflinedLine.{OfflinedLine}
-use Rattle.hwp_law_run.specs.hwp_report_text.declared.Report.{Report}
-use Rattle.hwp_law_run.specs.hwp_banks.Banks.{Banks}
-use Rattle.hwp_law_run.specs.hwp_law.Commands.{can_offline, has_watch, is_watch}
-use Rattle.hwp_law_run.specs.hwp_law.Notes.{checks, ends_machine, noted_frame, notes, notes_of_check, with_line}
-use Rattle.hwp_law_run.specs.hwp_law.Watched.{Watched, due, watched_after}
-use Rattle.hwp_law_run.specs.hwp_law.Lines.{events_of, offlined_of, rows_of}
-use Rattle.hwp_law_run.specs.hwp_law.Offlined.{due_of, watched_before, watched_from}
+use Rattle.hwp_law.specs.hwp_geom.declared.VSlot.{VSlot}
+use Rattle.hwp_law.specs.hwp_geom.declared.Cpu.{Cpu}
+use Rattle.hwp_law.specs.hwp_geom.declared.Frame.{Frame}
+use Rattle.hwp_law.specs.hwp_geom.declared.Layout.{Layout}
+use Rattle.hwp_law.specs.hwp_geom.declared.Who.{Who}
+use Rattle.hwp_plain.specs.hwp_core_rule.declared.State.{State}
+use Rattle.hwp_plain.specs.hwp_core_rule.declared.View.{View}
+use Rattle.hwp_law.specs.hwp_script_read.declared.Command.{Command}
+use Rattle.hwp_law.specs.hwp_script_read.declared.Command.TheVariants as commands
+use Rattle.hwp_law.specs.hwp_script_read.declared.Script.{Script}
+use Rattle.hwp_law.specs.hwp_report_text.declared.Answer.{Answer}
+use Rattle.hwp_law.specs.hwp_report_text.declared.Answer.TheVariants as answers
+use Rattle.hwp_law.specs.hwp_report_text.declared.CpuLine.{CpuLine}
+use Rattle.hwp_law.specs.hwp_report_text.declared.EventLine.{EventLine}
+use Rattle.hwp_law.specs.hwp_report_text.declared.OfflinedLine.{OfflinedLine}
+use Rattle.hwp_law.specs.hwp_report_text.declared.Report.{Report}
+use Rattle.hwp_law.specs.hwp_banks.Banks.{Banks}
+use Rattle.hwp_law.specs.Commands.{can_offline, has_watch, is_watch}
+use Rattle.hwp_law.specs.Notes.{checks, ends_machine, noted_frame, notes, notes_of_check, with_line}
+use Rattle.hwp_law.specs.Watched.{Watched, due, watched_after}
+use Rattle.hwp_law.specs.Lines.{events_of, offlined_of, rows_of}
+use Rattle.hwp_law.specs.Offlined.{due_of, watched_before, watched_from}
 use Rattle.hwp_cpu_row.specs.declared.Offlining.{Offlining}
 use Rattle.hwp_cpu_row.specs.declared.Row.{Row}
 use Rattle.hwp_cpu_row.specs.hwp_cpu_check.declared.EventOutcome.{EventOutcome}
@@ -32,7 +32,7 @@ use Rattle.hwp_law_served.specs.Handles.{answers_by}
 use Rattle.hwp_law_served.specs.Offlinings.{watched_along, watched_at}
 use Rattle.hwp_law_served.specs.Rows.{lines_from, offlined_at}
 use Rattle.hwp_law_served.specs.Told.{AreToldBy, AreToldWith}
-use Rattle.hwp_law_served.specs.hwp_cpu_row.Acts.{event_at, told_notes}
+use Rattle.hwp_cpu_row.specs.Acts.{event_at, told_notes}
 use Rattle.hwp_law_served.proofs.RowLines.{answered-so, events-at, events-told, offlined-told}
 use Rattle.hwp_law_served.proofs.RunEnds.{IsEnd, IsOf, served-of}
 

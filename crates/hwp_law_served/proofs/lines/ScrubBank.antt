@@ -2,27 +2,27 @@
 use Rattle.std.proofs.Common.{◌≡◌, ◌⊎◌, inl, inr, ℕ, List, [], ◌∷◌, ◌++◌, Option, Some, None, MatchBool, Bool, true, false, map, set, slice_get, slice_index_or, refl, sym, ap, ◌∙◌, subst}
 use Rattle.std.proofs.lemmas.List.{length-set}
 use Rattle.std.proofs.lemmas.Option.{get_or_from_slice_get, none-some, same_Some}
-use Rattle.hwp_law_run.specs.hwp_geom.declared.Frame.{Frame}
-use Rattle.hwp_law_run.specs.hwp_geom.declared.Layout.{Layout}
-use Rattle.hwp_law_run.specs.hwp_geom.declared.Thread.{Thread}
-use Rattle.hwp_law_run.specs.hwp_geom.declared.VSlot.{VSlot}
-use Rattle.hwp_law_run.specs.hwp_geom.declared.Who.{Who}
-use Rattle.hwp_law_run.specs.hwp_banks.declared.Event.{Event}
-use Rattle.hwp_law_run.specs.hwp_banks.declared.Origin.{Origin}
-use Rattle.hwp_law_run.specs.hwp_banks.declared.Origin.TheVariants as origins
-use Rattle.hwp_law_run.specs.hwp_banks.Events.{own_event}
-use Rattle.hwp_law_run.specs.hwp_banks.Logged.{logged, without_over}
-use Rattle.hwp_law_run.specs.hwp_core_rule.declared.View.{View}
-use Rattle.hwp_law_run.proofs.of_hwp_core_rule.Lists.{set_here}
-use Rattle.hwp_law_run.specs.hwp_script_read.declared.Command.{Command}
-use Rattle.hwp_law_run.specs.hwp_script_read.declared.Command.TheVariants as commands
-use Rattle.hwp_law_run.specs.hwp_report_text.declared.Answer.{Answer}
-use Rattle.hwp_law_run.specs.hwp_report_text.declared.Answer.TheVariants as answers
-use Rattle.hwp_law_run.specs.hwp_banks.Banks.{Banks, empty_banks, log_in}
-use Rattle.hwp_law_run.specs.hwp_law.Commands.{arrival_of}
-use Rattle.hwp_law_run.specs.hwp_severity.declared.Arrival.{Arrival}
-use Rattle.hwp_law_run.specs.hwp_law.Events.{logged_if_done}
-use Rattle.hwp_law_run.specs.hwp_banks.Banks.{raw_bank, raw_event}
+use Rattle.hwp_law.specs.hwp_geom.declared.Frame.{Frame}
+use Rattle.hwp_law.specs.hwp_geom.declared.Layout.{Layout}
+use Rattle.hwp_law.specs.hwp_geom.declared.Thread.{Thread}
+use Rattle.hwp_law.specs.hwp_geom.declared.VSlot.{VSlot}
+use Rattle.hwp_law.specs.hwp_geom.declared.Who.{Who}
+use Rattle.hwp_law.specs.hwp_banks.declared.Event.{Event}
+use Rattle.hwp_law.specs.hwp_banks.declared.Origin.{Origin}
+use Rattle.hwp_law.specs.hwp_banks.declared.Origin.TheVariants as origins
+use Rattle.hwp_law.specs.hwp_banks.Events.{own_event}
+use Rattle.hwp_law.specs.hwp_banks.Logged.{logged, without_over}
+use Rattle.hwp_plain.specs.hwp_core_rule.declared.View.{View}
+use Rattle.hwp_plain.proofs.of_hwp_core_rule.Lists.{set_here}
+use Rattle.hwp_law.specs.hwp_script_read.declared.Command.{Command}
+use Rattle.hwp_law.specs.hwp_script_read.declared.Command.TheVariants as commands
+use Rattle.hwp_law.specs.hwp_report_text.declared.Answer.{Answer}
+use Rattle.hwp_law.specs.hwp_report_text.declared.Answer.TheVariants as answers
+use Rattle.hwp_law.specs.hwp_banks.Banks.{Banks, empty_banks, log_in}
+use Rattle.hwp_law.specs.Commands.{arrival_of}
+use Rattle.hwp_law.specs.hwp_severity.declared.Arrival.{Arrival}
+use Rattle.hwp_law.specs.Events.{logged_if_done}
+use Rattle.hwp_law.specs.hwp_banks.Banks.{raw_bank, raw_event}
 use Rattle.hwp_cpu_row.specs.hwp_cpu_check.declared.Held.{Held}
 use Rattle.hwp_cpu_row.specs.hwp_cpu_check.declared.EventOutcome.{EventOutcome}
 use Rattle.hwp_cpu_row.specs.hwp_cpu_check.Checks.{Check, IsActedOn, left_by, with_own}

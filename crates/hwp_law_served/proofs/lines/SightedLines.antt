@@ -4,30 +4,30 @@ use Rattle.std.specs.Int.{bit_at, from_bool}
 use Rattle.std.specs.List.{sum_by}
 use Rattle.std.proofs.lemmas.Bool.{and_from, eq-eqb}
 use Rattle.std.proofs.lemmas.Option.{none-some, slice_get-get_or}
-use Rattle.hwp_law_run.specs.hwp_geom.declared.Damage.{Damage}
-use Rattle.hwp_law_run.specs.hwp_geom.declared.Damage.TheVariants as damages
-use Rattle.hwp_law_run.specs.hwp_geom.declared.Frame.{Frame}
-use Rattle.hwp_law_run.specs.hwp_geom.declared.Layout.{Layout}
-use Rattle.hwp_law_run.specs.hwp_geom.Limits.{line_limit}
-use Rattle.hwp_law_run.specs.hwp_page.Orders.{IsEarlier}
-use Rattle.hwp_law_run.specs.hwp_core_rule.declared.SharedWord.{SharedWord}
-use Rattle.hwp_law_run.specs.hwp_core_rule.declared.SharedWord.TheVariants as places
-use Rattle.hwp_law_run.specs.hwp_core_rule.declared.Rec.{Rec}
-use Rattle.hwp_law_run.specs.hwp_core_rule.declared.Sight.{Sight}
-use Rattle.hwp_law_run.specs.hwp_core_rule.declared.Spoiled.{Spoiled}
-use Rattle.hwp_law_run.specs.hwp_core_rule.declared.State.{State}
-use Rattle.hwp_law_run.specs.hwp_core_rule.declared.View.{View}
-use Rattle.hwp_law_run.specs.hwp_core_rule.Lists.{EachMember}
-use Rattle.hwp_law_run.specs.hwp_core_rule.Moves.{Move}
-use Rattle.hwp_law_run.specs.hwp_core_rule.Rule.{Holds}
-use Rattle.hwp_law_run.specs.hwp_core_rule.Steps.{damage_place, place_of}
-use Rattle.hwp_law_run.specs.hwp_core_rule.Views.{noted, view_after}
-use Rattle.hwp_law_run.specs.hwp_core_rule.Words.{IsPlace, Words, index, words_of}
-use Rattle.hwp_law_run.specs.hwp_core_rule.parts.Damage.{BitsStay, HasSpoiled, is_bad, is_spoil}
-use Rattle.hwp_law_run.proofs.of_hwp_core_rule.Lists.{at_map, each-push, term-le}
-use Rattle.hwp_law_run.proofs.of_hwp_core_rule.MoveKeeps.{shaped}
-use Rattle.hwp_law_run.proofs.of_hwp_core_rule.NotLater.{not-later}
-use Rattle.hwp_law_run.proofs.of_hwp_core_rule.WordsByKind.{words-read}
+use Rattle.hwp_law.specs.hwp_geom.declared.Damage.{Damage}
+use Rattle.hwp_law.specs.hwp_geom.declared.Damage.TheVariants as damages
+use Rattle.hwp_law.specs.hwp_geom.declared.Frame.{Frame}
+use Rattle.hwp_law.specs.hwp_geom.declared.Layout.{Layout}
+use Rattle.hwp_law.specs.hwp_geom.Limits.{line_limit}
+use Rattle.hwp_law.specs.hwp_page.Orders.{IsEarlier}
+use Rattle.hwp_plain.specs.hwp_core_rule.declared.SharedWord.{SharedWord}
+use Rattle.hwp_plain.specs.hwp_core_rule.declared.SharedWord.TheVariants as places
+use Rattle.hwp_plain.specs.hwp_core_rule.declared.Rec.{Rec}
+use Rattle.hwp_plain.specs.hwp_core_rule.declared.Sight.{Sight}
+use Rattle.hwp_plain.specs.hwp_core_rule.declared.Spoiled.{Spoiled}
+use Rattle.hwp_plain.specs.hwp_core_rule.declared.State.{State}
+use Rattle.hwp_plain.specs.hwp_core_rule.declared.View.{View}
+use Rattle.hwp_plain.specs.hwp_core_rule.Lists.{EachMember}
+use Rattle.hwp_plain.specs.hwp_core_rule.Moves.{Move}
+use Rattle.hwp_plain.specs.hwp_core_rule.Rule.{Holds}
+use Rattle.hwp_plain.specs.hwp_core_rule.Steps.{damage_place, place_of}
+use Rattle.hwp_plain.specs.hwp_core_rule.Views.{noted, view_after}
+use Rattle.hwp_plain.specs.hwp_core_rule.Words.{IsPlace, Words, index, words_of}
+use Rattle.hwp_plain.specs.hwp_core_rule.parts.Damage.{BitsStay, HasSpoiled, is_bad, is_spoil}
+use Rattle.hwp_plain.proofs.of_hwp_core_rule.Lists.{at_map, each-push, term-le}
+use Rattle.hwp_plain.proofs.of_hwp_core_rule.MoveKeeps.{shaped}
+use Rattle.hwp_plain.proofs.of_hwp_core_rule.NotLater.{not-later}
+use Rattle.hwp_plain.proofs.of_hwp_core_rule.WordsByKind.{words-read}
 use Rattle.hwp_law_served.proofs.StepAdds.{OneMore, adds-by}
 use Rattle.hwp_law_served.proofs.RunKeeps.{IsKept}
 use Rattle.hwp_law_served.proofs.lines.Spoils.{spoils-by}

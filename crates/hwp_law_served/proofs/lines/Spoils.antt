@@ -1,26 +1,26 @@
 -- The lines that a view lists as spoiled: a step leaves them, or lists one more of its command.
 use Rattle.std.proofs.Common.{◌≡◌, inl, inr, ℕ, ◌==◌, Bool, true, false, cond, Option, Some, None, refl, sym, subst}
-use Rattle.hwp_law_run.specs.hwp_geom.declared.Frame.{Frame}
-use Rattle.hwp_law_run.specs.hwp_geom.declared.Layout.{Layout}
-use Rattle.hwp_law_run.specs.hwp_geom.declared.Who.{Who}
-use Rattle.hwp_law_run.specs.hwp_core_rule.declared.InHand.{InHand}
-use Rattle.hwp_law_run.specs.hwp_core_rule.declared.Log.{Log}
-use Rattle.hwp_law_run.specs.hwp_core_rule.declared.Part.{Part}
-use Rattle.hwp_law_run.specs.hwp_core_rule.declared.SharedWord.{SharedWord}
-use Rattle.hwp_law_run.specs.hwp_core_rule.declared.SharedWord.TheVariants as places
-use Rattle.hwp_law_run.specs.hwp_core_rule.declared.Rec.{Rec}
-use Rattle.hwp_law_run.specs.hwp_core_rule.declared.Spoiled.{Spoiled}
-use Rattle.hwp_law_run.specs.hwp_core_rule.declared.State.{State}
-use Rattle.hwp_law_run.specs.hwp_core_rule.declared.Step.{Step}
-use Rattle.hwp_law_run.specs.hwp_core_rule.declared.Step.TheVariants as steps
-use Rattle.hwp_law_run.specs.hwp_core_rule.declared.View.{View}
-use Rattle.hwp_law_run.specs.hwp_core_rule.Lists.{EachMember, SomeMember}
-use Rattle.hwp_law_run.specs.hwp_core_rule.Logs.{log_of}
-use Rattle.hwp_law_run.specs.hwp_core_rule.Moves.{Move}
-use Rattle.hwp_law_run.specs.hwp_core_rule.Steps.{goes}
-use Rattle.hwp_law_run.specs.hwp_core_rule.Views.{body_of, listed_of, loaded, noted, put_home, taken, view_after, view_by}
-use Rattle.hwp_law_run.proofs.of_hwp_core_rule.Lists.{each-push, each-weaken, some-changed}
-use Rattle.hwp_law_run.proofs.of_hwp_core_rule.NoteKeeps.{past-now}
+use Rattle.hwp_law.specs.hwp_geom.declared.Frame.{Frame}
+use Rattle.hwp_law.specs.hwp_geom.declared.Layout.{Layout}
+use Rattle.hwp_law.specs.hwp_geom.declared.Who.{Who}
+use Rattle.hwp_plain.specs.hwp_core_rule.declared.InHand.{InHand}
+use Rattle.hwp_plain.specs.hwp_core_rule.declared.Log.{Log}
+use Rattle.hwp_plain.specs.hwp_core_rule.declared.Part.{Part}
+use Rattle.hwp_plain.specs.hwp_core_rule.declared.SharedWord.{SharedWord}
+use Rattle.hwp_plain.specs.hwp_core_rule.declared.SharedWord.TheVariants as places
+use Rattle.hwp_plain.specs.hwp_core_rule.declared.Rec.{Rec}
+use Rattle.hwp_plain.specs.hwp_core_rule.declared.Spoiled.{Spoiled}
+use Rattle.hwp_plain.specs.hwp_core_rule.declared.State.{State}
+use Rattle.hwp_plain.specs.hwp_core_rule.declared.Step.{Step}
+use Rattle.hwp_plain.specs.hwp_core_rule.declared.Step.TheVariants as steps
+use Rattle.hwp_plain.specs.hwp_core_rule.declared.View.{View}
+use Rattle.hwp_plain.specs.hwp_core_rule.Lists.{EachMember, SomeMember}
+use Rattle.hwp_plain.specs.hwp_core_rule.Logs.{log_of}
+use Rattle.hwp_plain.specs.hwp_core_rule.Moves.{Move}
+use Rattle.hwp_plain.specs.hwp_core_rule.Steps.{goes}
+use Rattle.hwp_plain.specs.hwp_core_rule.Views.{body_of, listed_of, loaded, noted, put_home, taken, view_after, view_by}
+use Rattle.hwp_plain.proofs.of_hwp_core_rule.Lists.{each-push, each-weaken, some-changed}
+use Rattle.hwp_plain.proofs.of_hwp_core_rule.NoteKeeps.{past-now}
 use Rattle.std.proofs.lemmas.Option.{none-some}
 use Rattle.hwp_law_served.proofs.StepAdds.{OneMore, adds-by}
 use Rattle.hwp_law_served.proofs.RunKeeps.{IsKept}

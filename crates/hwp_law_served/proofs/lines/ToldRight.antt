@@ -2,35 +2,35 @@
 -- entry, and a thread needed the page exactly where row S9 graded the event.
 use Rattle.std.proofs.Common.{◌≡◌, ℕ, ◌==◌, ◌&&◌, Bool, true, false, cond, nat_le, List, [], ◌∷◌, Option, Some, None, is_some, map, option_and_then, option_map, slice_get, refl, sym, ap, ◌∙◌, subst, true≢false}
 use Rattle.std.proofs.lemmas.Option.{none-some, same_Some}
-use Rattle.hwp_law_run.specs.hwp_geom.declared.Layout.{Layout}
-use Rattle.hwp_law_run.specs.hwp_geom.declared.Mode.{Mode}
-use Rattle.hwp_law_run.specs.hwp_geom.declared.Thread.{Thread}
-use Rattle.hwp_law_run.specs.hwp_geom.declared.VSlot.{VSlot}
-use Rattle.hwp_law_run.specs.hwp_geom.declared.Who.{Who}
-use Rattle.hwp_law_run.specs.hwp_banks.declared.Event.{Event}
-use Rattle.hwp_law_run.specs.hwp_banks.declared.Status.{Status}
-use Rattle.hwp_law_run.specs.hwp_banks.Status.{is_action_required}
-use Rattle.hwp_law_run.specs.hwp_page.declared.Outcome.{Outcome}
-use Rattle.hwp_law_run.specs.hwp_page.declared.Outcome.TheVariants as outcomes
-use Rattle.hwp_law_run.specs.hwp_page.Situations.{outcome_of}
-use Rattle.hwp_law_run.specs.hwp_severity.declared.Grade.{Grade}
-use Rattle.hwp_law_run.specs.hwp_severity.declared.McgBits.{McgBits}
-use Rattle.hwp_law_run.specs.hwp_severity.declared.Severity.{Severity}
-use Rattle.hwp_law_run.specs.hwp_severity.declared.Severity.TheVariants as severities
-use Rattle.hwp_law_run.specs.hwp_severity.Graded as grades
-use Rattle.hwp_law_run.specs.hwp_severity.Graded.{first_match, graded, is_access, is_placed, is_user}
-use Rattle.hwp_law_run.specs.hwp_core_rule.declared.View.{View}
-use Rattle.hwp_law_run.specs.hwp_core_rule.Lists.{EachMember}
-use Rattle.hwp_law_run.proofs.of_hwp_core_rule.Lists.{at_map, map-was}
-use Rattle.hwp_law_run.specs.hwp_script_read.declared.Command.{Command}
-use Rattle.hwp_law_run.specs.hwp_report_text.declared.Acted.{Acted}
-use Rattle.hwp_law_run.specs.hwp_report_text.declared.Acted.TheVariants as acts
-use Rattle.hwp_law_run.specs.hwp_report_text.declared.Answer.{Answer}
-use Rattle.hwp_law_run.specs.hwp_banks.Banks.{Banks}
-use Rattle.hwp_law_run.specs.hwp_law.Commands.{current_thread}
-use Rattle.hwp_law_run.specs.hwp_severity.declared.Arrival.{Arrival}
-use Rattle.hwp_law_run.specs.hwp_law.Outcomes.{outcome_act}
-use Rattle.hwp_law_run.specs.hwp_law.Records.{result_of}
+use Rattle.hwp_law.specs.hwp_geom.declared.Layout.{Layout}
+use Rattle.hwp_law.specs.hwp_geom.declared.Mode.{Mode}
+use Rattle.hwp_law.specs.hwp_geom.declared.Thread.{Thread}
+use Rattle.hwp_law.specs.hwp_geom.declared.VSlot.{VSlot}
+use Rattle.hwp_law.specs.hwp_geom.declared.Who.{Who}
+use Rattle.hwp_law.specs.hwp_banks.declared.Event.{Event}
+use Rattle.hwp_law.specs.hwp_banks.declared.Status.{Status}
+use Rattle.hwp_law.specs.hwp_banks.Status.{is_action_required}
+use Rattle.hwp_law.specs.hwp_page.declared.Outcome.{Outcome}
+use Rattle.hwp_law.specs.hwp_page.declared.Outcome.TheVariants as outcomes
+use Rattle.hwp_law.specs.hwp_page.Situations.{outcome_of}
+use Rattle.hwp_law.specs.hwp_severity.declared.Grade.{Grade}
+use Rattle.hwp_law.specs.hwp_severity.declared.McgBits.{McgBits}
+use Rattle.hwp_law.specs.hwp_severity.declared.Severity.{Severity}
+use Rattle.hwp_law.specs.hwp_severity.declared.Severity.TheVariants as severities
+use Rattle.hwp_law.specs.hwp_severity.Graded as grades
+use Rattle.hwp_law.specs.hwp_severity.Graded.{first_match, graded, is_access, is_placed, is_user}
+use Rattle.hwp_plain.specs.hwp_core_rule.declared.View.{View}
+use Rattle.hwp_plain.specs.hwp_core_rule.Lists.{EachMember}
+use Rattle.hwp_plain.proofs.of_hwp_core_rule.Lists.{at_map, map-was}
+use Rattle.hwp_law.specs.hwp_script_read.declared.Command.{Command}
+use Rattle.hwp_law.specs.hwp_report_text.declared.Acted.{Acted}
+use Rattle.hwp_law.specs.hwp_report_text.declared.Acted.TheVariants as acts
+use Rattle.hwp_law.specs.hwp_report_text.declared.Answer.{Answer}
+use Rattle.hwp_law.specs.hwp_banks.Banks.{Banks}
+use Rattle.hwp_law.specs.Commands.{current_thread}
+use Rattle.hwp_law.specs.hwp_severity.declared.Arrival.{Arrival}
+use Rattle.hwp_law.specs.Outcomes.{outcome_act}
+use Rattle.hwp_law.specs.Records.{result_of}
 use Rattle.hwp_soft.specs.hwp_claim.declared.Found.{Found}
 use Rattle.hwp_cpu_row.specs.hwp_cpu_check.declared.Held.{Held}
 use Rattle.hwp_cpu_row.specs.hwp_cpu_check.declared.EventOutcome.{EventOutcome}

@@ -7,41 +7,41 @@ use Rattle.std.proofs.lemmas.List.{length-append}
 use Rattle.std.proofs.lemmas.List.Elements.{filter-append}
 use Rattle.std.proofs.lemmas.List.Sums.{sum_by-append}
 use Rattle.std.proofs.lemmas.Option.{same_Some}
-use Rattle.hwp_law_run.specs.hwp_geom.declared.FileNo.{FileNo}
-use Rattle.hwp_law_run.specs.hwp_geom.declared.Frame.{Frame}
-use Rattle.hwp_law_run.specs.hwp_geom.declared.Layout.{Layout}
-use Rattle.hwp_law_run.specs.hwp_geom.declared.Page.{Page}
-use Rattle.hwp_law_run.specs.hwp_geom.declared.VSlot.{VSlot}
-use Rattle.hwp_law_run.specs.hwp_geom.declared.Who.{Who}
-use Rattle.hwp_law_run.specs.hwp_banks.Banks.{Banks}
-use Rattle.hwp_law_run.specs.hwp_page.declared.Entry.{Entry}
-use Rattle.hwp_law_run.specs.hwp_page.declared.What.{What}
-use Rattle.hwp_law_run.specs.hwp_page.declared.What.TheVariants as entries
-use Rattle.hwp_law_run.specs.hwp_page.History.{BodyValue}
-use Rattle.hwp_law_run.specs.hwp_page.Losses.{is_loss}
-use Rattle.hwp_law_run.specs.hwp_core_rule.declared.InHand.{InHand}
-use Rattle.hwp_law_run.specs.hwp_core_rule.declared.Log.{Log}
-use Rattle.hwp_law_run.specs.hwp_core_rule.declared.Made.{Made}
-use Rattle.hwp_law_run.specs.hwp_core_rule.declared.SharedWord.{SharedWord}
-use Rattle.hwp_law_run.specs.hwp_core_rule.declared.SharedWord.TheVariants as places
-use Rattle.hwp_law_run.specs.hwp_core_rule.declared.Stamp.{Stamp}
-use Rattle.hwp_law_run.specs.hwp_core_rule.declared.Step.{Step}
-use Rattle.hwp_law_run.specs.hwp_core_rule.declared.Step.TheVariants as steps
-use Rattle.hwp_law_run.specs.hwp_core_rule.declared.View.{View}
-use Rattle.hwp_law_run.specs.hwp_core_rule.Lists.{EachMember}
-use Rattle.hwp_law_run.specs.hwp_core_rule.Logs.{file_of, log_of}
-use Rattle.hwp_law_run.specs.hwp_core_rule.Steps.{goes}
-use Rattle.hwp_law_run.specs.hwp_core_rule.Views.{body_of, listed_of, loaded, loss_made, losses_made, made_from, more_of, noted, stamp_of, taken, view_by, without}
-use Rattle.hwp_law_run.proofs.of_hwp_core_rule.Lists.{sum-zero}
-use Rattle.hwp_law_run.specs.hwp_core_rule.Calls.{CanMake, Steps, logs}
-use Rattle.hwp_law_run.proofs.of_hwp_core_rule.StepLeaves.{content_of}
-use Rattle.hwp_law_run.specs.hwp_core_rule.Known.{deeds, is_by}
-use Rattle.hwp_law_run.proofs.of_hwp_core_rule.MadeEntries.{PutsNone}
-use Rattle.hwp_law_run.specs.hwp_script_read.declared.Command.{Command}
-use Rattle.hwp_law_run.specs.hwp_report_text.declared.Answer.{Answer}
-use Rattle.hwp_law_run.specs.hwp_law.Commands.{can_fail}
-use Rattle.hwp_law_run.specs.hwp_law.Entries.{Makes}
-use Rattle.hwp_law_run.specs.hwp_law.Pairings.{is_soft}
+use Rattle.hwp_law.specs.hwp_geom.declared.FileNo.{FileNo}
+use Rattle.hwp_law.specs.hwp_geom.declared.Frame.{Frame}
+use Rattle.hwp_law.specs.hwp_geom.declared.Layout.{Layout}
+use Rattle.hwp_law.specs.hwp_geom.declared.Page.{Page}
+use Rattle.hwp_law.specs.hwp_geom.declared.VSlot.{VSlot}
+use Rattle.hwp_law.specs.hwp_geom.declared.Who.{Who}
+use Rattle.hwp_law.specs.hwp_banks.Banks.{Banks}
+use Rattle.hwp_law.specs.hwp_page.declared.Entry.{Entry}
+use Rattle.hwp_law.specs.hwp_page.declared.What.{What}
+use Rattle.hwp_law.specs.hwp_page.declared.What.TheVariants as entries
+use Rattle.hwp_law.specs.hwp_page.History.{BodyValue}
+use Rattle.hwp_law.specs.hwp_page.Losses.{is_loss}
+use Rattle.hwp_plain.specs.hwp_core_rule.declared.InHand.{InHand}
+use Rattle.hwp_plain.specs.hwp_core_rule.declared.Log.{Log}
+use Rattle.hwp_plain.specs.hwp_core_rule.declared.Made.{Made}
+use Rattle.hwp_plain.specs.hwp_core_rule.declared.SharedWord.{SharedWord}
+use Rattle.hwp_plain.specs.hwp_core_rule.declared.SharedWord.TheVariants as places
+use Rattle.hwp_plain.specs.hwp_core_rule.declared.Stamp.{Stamp}
+use Rattle.hwp_plain.specs.hwp_core_rule.declared.Step.{Step}
+use Rattle.hwp_plain.specs.hwp_core_rule.declared.Step.TheVariants as steps
+use Rattle.hwp_plain.specs.hwp_core_rule.declared.View.{View}
+use Rattle.hwp_plain.specs.hwp_core_rule.Lists.{EachMember}
+use Rattle.hwp_plain.specs.hwp_core_rule.Logs.{file_of, log_of}
+use Rattle.hwp_plain.specs.hwp_core_rule.Steps.{goes}
+use Rattle.hwp_plain.specs.hwp_core_rule.Views.{body_of, listed_of, loaded, loss_made, losses_made, made_from, more_of, noted, stamp_of, taken, view_by, without}
+use Rattle.hwp_plain.proofs.of_hwp_core_rule.Lists.{sum-zero}
+use Rattle.hwp_plain.specs.hwp_core_rule.Calls.{CanMake, Steps, logs}
+use Rattle.hwp_plain.proofs.of_hwp_core_rule.StepLeaves.{content_of}
+use Rattle.hwp_plain.specs.hwp_core_rule.Known.{deeds, is_by}
+use Rattle.hwp_plain.proofs.of_hwp_core_rule.MadeEntries.{PutsNone}
+use Rattle.hwp_law.specs.hwp_script_read.declared.Command.{Command}
+use Rattle.hwp_law.specs.hwp_report_text.declared.Answer.{Answer}
+use Rattle.hwp_law.specs.Commands.{can_fail}
+use Rattle.hwp_law.specs.Entries.{Makes}
+use Rattle.hwp_law.specs.Pairings.{is_soft}
 use Rattle.hwp_cpu_row.specs.declared.Row.{Row}
 use Rattle.hwp_law_served.specs.Accounts.{IsAccounted}
 use Rattle.hwp_law_served.specs.Causes.{IsCausedWith}

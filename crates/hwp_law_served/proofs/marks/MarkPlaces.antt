@@ -5,23 +5,23 @@ use Rattle.std.specs.Int.{from_bool}
 use Rattle.std.specs.List.{sum_by}
 use Rattle.std.proofs.lemmas.Bool.{and_from, and_left, and_parts, and_right, eq-eqb, eqb-false, eqb-true, le-ltb, lt-ltb, ltb-false, ltb-true, ne_eqb}
 use Rattle.std.proofs.lemmas.List.Sums.{sum_by-append, sum_by-cons}
-use Rattle.hwp_law_run.specs.hwp_geom.declared.Layout.{Layout}
-use Rattle.hwp_law_run.specs.hwp_words.Frames.{cycle_of, poison_of}
-use Rattle.hwp_law_run.specs.hwp_core_rule.declared.Mark.{Mark}
-use Rattle.hwp_law_run.specs.hwp_core_rule.declared.MarkKind.{MarkKind}
-use Rattle.hwp_law_run.specs.hwp_core_rule.declared.MarkKind.TheVariants as kinds
-use Rattle.hwp_law_run.specs.hwp_core_rule.declared.Rec.{Rec}
-use Rattle.hwp_law_run.specs.hwp_core_rule.declared.State.{State}
-use Rattle.hwp_law_run.specs.hwp_core_rule.declared.View.{View}
-use Rattle.hwp_law_run.specs.hwp_core_rule.Lists.{sum_all}
-use Rattle.hwp_law_run.specs.hwp_core_rule.Moves.{Move}
-use Rattle.hwp_law_run.specs.hwp_core_rule.Rule.{Holds}
-use Rattle.hwp_law_run.specs.hwp_core_rule.Views.{view_after}
-use Rattle.hwp_law_run.specs.hwp_core_rule.Words.{words_of}
-use Rattle.hwp_law_run.specs.hwp_core_rule.parts.Counter.{is_poisoning, is_revival}
-use Rattle.hwp_law_run.proofs.of_hwp_core_rule.CountsBelow.{all-term, some-term}
-use Rattle.hwp_law_run.proofs.of_hwp_core_rule.Lists.{at_last, at_map, map-was, same-or, set_here, sum-map, sum-set}
-use Rattle.hwp_law_run.proofs.Homes.{there-is}
+use Rattle.hwp_law.specs.hwp_geom.declared.Layout.{Layout}
+use Rattle.hwp_plain.specs.hwp_words.Frames.{cycle_of, poison_of}
+use Rattle.hwp_plain.specs.hwp_core_rule.declared.Mark.{Mark}
+use Rattle.hwp_plain.specs.hwp_core_rule.declared.MarkKind.{MarkKind}
+use Rattle.hwp_plain.specs.hwp_core_rule.declared.MarkKind.TheVariants as kinds
+use Rattle.hwp_plain.specs.hwp_core_rule.declared.Rec.{Rec}
+use Rattle.hwp_plain.specs.hwp_core_rule.declared.State.{State}
+use Rattle.hwp_plain.specs.hwp_core_rule.declared.View.{View}
+use Rattle.hwp_plain.specs.hwp_core_rule.Lists.{sum_all}
+use Rattle.hwp_plain.specs.hwp_core_rule.Moves.{Move}
+use Rattle.hwp_plain.specs.hwp_core_rule.Rule.{Holds}
+use Rattle.hwp_plain.specs.hwp_core_rule.Views.{view_after}
+use Rattle.hwp_plain.specs.hwp_core_rule.Words.{words_of}
+use Rattle.hwp_plain.specs.hwp_core_rule.parts.Counter.{is_poisoning, is_revival}
+use Rattle.hwp_plain.proofs.of_hwp_core_rule.CountsBelow.{all-term, some-term}
+use Rattle.hwp_plain.proofs.of_hwp_core_rule.Lists.{at_last, at_map, map-was, same-or, set_here, sum-map, sum-set}
+use Rattle.hwp_law_served.proofs.Homes.{there-is}
 
 -- the place of a mark among those of its frame
 abbrev pub mark_place : Mark → ℕ

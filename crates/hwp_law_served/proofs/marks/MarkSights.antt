@@ -2,30 +2,30 @@
 -- are all of the processor's earlier commands, and none of its later ones.
 use Rattle.std.proofs.Common.{◌≡◌, ◌≢◌, ◌⊎◌, inl, inr, ℕ, ◌<◌, ◌≤◌, List, [], ◌∷◌, ◌++◌, Some, length, slice_get, slice_index, refl, sym, ap, ◌∙◌, subst, arith}
 use Rattle.std.proofs.lemmas.Option.{none-some}
-use Rattle.hwp_law_run.specs.hwp_geom.declared.Frame.{Frame}
-use Rattle.hwp_law_run.specs.hwp_geom.declared.Layout.{Layout}
-use Rattle.hwp_law_run.specs.hwp_geom.declared.Who.{Who}
-use Rattle.hwp_law_run.specs.hwp_page.Orders.{IsEarlier, IsNotLater}
-use Rattle.hwp_law_run.specs.hwp_words.Frames.{cycle_of, poison_of}
-use Rattle.hwp_law_run.specs.hwp_core_rule.declared.Mark.{Mark}
-use Rattle.hwp_law_run.specs.hwp_core_rule.declared.SharedWord.{SharedWord}
-use Rattle.hwp_law_run.specs.hwp_core_rule.declared.SharedWord.TheVariants as places
-use Rattle.hwp_law_run.specs.hwp_core_rule.declared.Rec.{Rec}
-use Rattle.hwp_law_run.specs.hwp_core_rule.declared.Sight.{Sight}
-use Rattle.hwp_law_run.specs.hwp_core_rule.declared.State.{State}
-use Rattle.hwp_law_run.specs.hwp_core_rule.declared.View.{View}
-use Rattle.hwp_law_run.specs.hwp_core_rule.Lists.{EachMember, SomeMember}
-use Rattle.hwp_law_run.specs.hwp_core_rule.Moves.{Move}
-use Rattle.hwp_law_run.specs.hwp_core_rule.Rule.{Holds}
-use Rattle.hwp_law_run.specs.hwp_core_rule.Steps.{place_of}
-use Rattle.hwp_law_run.specs.hwp_core_rule.Views.{noted, view_after}
-use Rattle.hwp_law_run.specs.hwp_core_rule.Words.{IsPlace, index, words_of}
-use Rattle.hwp_law_run.specs.hwp_core_rule.parts.Marks.{IsBefore}
-use Rattle.hwp_law_run.proofs.of_hwp_core_rule.Lists.{at_last, at_map, at_push, at_set, each-push, each-weaken, same-or, set_here, some-set}
-use Rattle.hwp_law_run.proofs.of_hwp_core_rule.MetWords.{frame-word}
-use Rattle.hwp_law_run.proofs.of_hwp_core_rule.MoveKeeps.{shaped}
-use Rattle.hwp_law_run.proofs.of_hwp_core_rule.NotLater.{not-later}
-use Rattle.hwp_law_run.proofs.Homes.{there-is}
+use Rattle.hwp_law.specs.hwp_geom.declared.Frame.{Frame}
+use Rattle.hwp_law.specs.hwp_geom.declared.Layout.{Layout}
+use Rattle.hwp_law.specs.hwp_geom.declared.Who.{Who}
+use Rattle.hwp_law.specs.hwp_page.Orders.{IsEarlier, IsNotLater}
+use Rattle.hwp_plain.specs.hwp_words.Frames.{cycle_of, poison_of}
+use Rattle.hwp_plain.specs.hwp_core_rule.declared.Mark.{Mark}
+use Rattle.hwp_plain.specs.hwp_core_rule.declared.SharedWord.{SharedWord}
+use Rattle.hwp_plain.specs.hwp_core_rule.declared.SharedWord.TheVariants as places
+use Rattle.hwp_plain.specs.hwp_core_rule.declared.Rec.{Rec}
+use Rattle.hwp_plain.specs.hwp_core_rule.declared.Sight.{Sight}
+use Rattle.hwp_plain.specs.hwp_core_rule.declared.State.{State}
+use Rattle.hwp_plain.specs.hwp_core_rule.declared.View.{View}
+use Rattle.hwp_plain.specs.hwp_core_rule.Lists.{EachMember, SomeMember}
+use Rattle.hwp_plain.specs.hwp_core_rule.Moves.{Move}
+use Rattle.hwp_plain.specs.hwp_core_rule.Rule.{Holds}
+use Rattle.hwp_plain.specs.hwp_core_rule.Steps.{place_of}
+use Rattle.hwp_plain.specs.hwp_core_rule.Views.{noted, view_after}
+use Rattle.hwp_plain.specs.hwp_core_rule.Words.{IsPlace, index, words_of}
+use Rattle.hwp_plain.specs.hwp_core_rule.parts.Marks.{IsBefore}
+use Rattle.hwp_plain.proofs.of_hwp_core_rule.Lists.{at_last, at_map, at_push, at_set, each-push, each-weaken, same-or, set_here, some-set}
+use Rattle.hwp_plain.proofs.of_hwp_core_rule.MetWords.{frame-word}
+use Rattle.hwp_plain.proofs.of_hwp_core_rule.MoveKeeps.{shaped}
+use Rattle.hwp_plain.proofs.of_hwp_core_rule.NotLater.{not-later}
+use Rattle.hwp_law_served.proofs.Homes.{there-is}
 use Rattle.hwp_law_served.proofs.StepAdds.{OneMore, adds-by, some-more}
 use Rattle.hwp_law_served.proofs.RunKeeps.{IsKept}
 use Rattle.hwp_law_served.proofs.marks.OrderedLists.{IsOrdered, ordered-push}

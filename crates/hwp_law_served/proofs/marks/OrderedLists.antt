@@ -6,9 +6,9 @@ use Rattle.std.proofs.lemmas.List.Kept.{AllPairs-filter}
 use Rattle.std.proofs.lemmas.List.Quantifiers.{all_pairs_push}
 use Rattle.std.proofs.lemmas.List.Sorted.{Contains-permutation}
 use Rattle.std.proofs.lemmas.Option.{get_or_from_slice_get, none-some, same_Some, slice_get-get_or, slice_get_within}
-use Rattle.hwp_law_run.specs.hwp_core_rule.Lists.{EachMember, SomeMember}
-use Rattle.hwp_law_run.proofs.of_hwp_core_rule.Lists.{map-was, same-or}
-use Rattle.hwp_law_run.proofs.Homes.{there-is}
+use Rattle.hwp_plain.specs.hwp_core_rule.Lists.{EachMember, SomeMember}
+use Rattle.hwp_plain.proofs.of_hwp_core_rule.Lists.{map-was, same-or}
+use Rattle.hwp_law_served.proofs.Homes.{there-is}
 
 -- each member has the relation to all later ones
 abbrev pub IsOrdered : {A : Type 0} → (A → A → Type 0) → List A → Type 0

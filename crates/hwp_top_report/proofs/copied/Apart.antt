@@ -21,7 +21,7 @@ use Rattle.hwp_law_served.specs.hwp_law.Cows.{Cow, acting, copied_from, cow_afte
 use Rattle.hwp_law_served.specs.hwp_law.Acting.{acting_script, copied_at}
 use Rattle.hwp_law_served.specs.hwp_law.Policies.{answered_before}
 use Rattle.hwp_law_served.specs.hwp_law.Private.{freeze_from}
-use Rattle.hwp_law_served.proofs.of_hwp_law_run.of_hwp_law.ActedLaws.{command-acted}
+use Rattle.hwp_law_served.proofs.of_hwp_law.ActedLaws.{command-acted}
 use Rattle.hwp_law_served.specs.Runs.{AreApart}
 use Rattle.hwp_top_report.proofs.forks.Forked.{IsForked, forked}
 

@@ -26,15 +26,15 @@ use Rattle.hwp_law_served.specs.hwp_law.Commands.{command_at, process_at, proces
 use Rattle.hwp_law_served.specs.hwp_law.Copies.{ended_through}
 use Rattle.hwp_law_served.specs.hwp_law.Endings.{IsOver}
 use Rattle.hwp_law_served.specs.hwp_law.Runs.{slot_ended, slot_of}
-use Rattle.hwp_law_served.specs.hwp_law_run.Shown.{AnswerShown, GoesOn, ProcessShown}
-use Rattle.hwp_law_served.specs.hwp_law_run.Turns.{SawPage}
+use Rattle.hwp_law_served.specs.Shown.{AnswerShown, GoesOn, ProcessShown}
+use Rattle.hwp_law_served.specs.Turns.{SawPage}
 use Rattle.hwp_law_served.specs.hwp_cpu_row.declared.FrameChange.{FrameChange}
 use Rattle.hwp_law_served.specs.hwp_cpu_check.declared.EventOutcome.{EventOutcome}
 use Rattle.hwp_law_served.specs.Causes.{IsCausedWith, SawProcess}
 use Rattle.hwp_law_served.specs.Copied.{FoundNone, IsCopyCaused, IsCopyEnded, store_by, sub_next}
-use Rattle.hwp_law_served.proofs.of_hwp_law_run.of_hwp_law.ActingLaws.{slot-uncopied}
-use Rattle.hwp_law_served.proofs.of_hwp_law_run.SeatKnows.{Said}
-use Rattle.hwp_law_served.proofs.of_hwp_law_run.SeatTells.{told}
+use Rattle.hwp_law_served.proofs.of_hwp_law.ActingLaws.{slot-uncopied}
+use Rattle.hwp_law_served.proofs.SeatKnows.{Said}
+use Rattle.hwp_law_served.proofs.SeatTells.{told}
 use Rattle.hwp_law_served.proofs.RunEnds.{IsEnd}
 use Rattle.hwp_law_served.proofs.copied.EndedThrough.{ended-so}
 use Rattle.hwp_top_report.proofs.Shown.{answer-shown, gone-shown, goes-shown, one-page, page-shown, process-is, process-shown, stopped-shown, word-shown}

@@ -10,7 +10,7 @@ use Rattle.hwp_law_served.specs.hwp_report_text.declared.Report.{Report}
 use Rattle.hwp_law_served.specs.hwp_law.Acting.{acting_from, acting_script}
 use Rattle.hwp_law_served.specs.hwp_law.Lines.{answered, answers_to}
 use Rattle.hwp_law_served.specs.hwp_law.Losses.{LossesAgree, is_lost, is_lost_before, losses_such, numbers_after}
-use Rattle.hwp_law_served.proofs.of_hwp_law_run.of_hwp_law.ActedLaws.{answered-acted, list-at}
+use Rattle.hwp_law_served.proofs.of_hwp_law.ActedLaws.{answered-acted, list-at}
 use Rattle.hwp_law_served.proofs.copied.NumbersActed.{numbers-acted, pair-acted}
 
 -- ---- the report's

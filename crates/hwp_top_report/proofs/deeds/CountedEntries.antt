@@ -20,7 +20,7 @@ use Rattle.hwp_law_served.specs.hwp_script_read.declared.Script.{Script}
 use Rattle.hwp_law_served.specs.hwp_report_text.declared.Report.{Report}
 use Rattle.hwp_law_served.specs.hwp_law.Lines.{is_same_command}
 use Rattle.hwp_law_served.specs.hwp_law.Pairings.{entries_of}
-use Rattle.hwp_law_served.proofs.of_hwp_law_run.Histories.{balanced}
+use Rattle.hwp_law_served.proofs.Histories.{balanced}
 use Rattle.hwp_law_served.specs.Accounts.{is_same}
 use Rattle.hwp_law_served.proofs.marks.Marked.{turned}
 use Rattle.hwp_law_served.proofs.RunEnds.{IsEnd}

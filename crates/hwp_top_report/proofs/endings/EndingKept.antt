@@ -36,8 +36,8 @@ use Rattle.hwp_law_served.proofs.of_hwp_core_rule.Lists.{at_map, each-push}
 use Rattle.hwp_law_served.proofs.of_hwp_core_rule.MoreEntries.{each-append}
 use Rattle.hwp_law_served.proofs.of_hwp_core_rule.NotLater.{not-later}
 use Rattle.hwp_law_served.proofs.of_hwp_core_rule.ListDrops.{each-changed-one, find-is}
-use Rattle.hwp_law_served.proofs.of_hwp_law_run.StepAdds.{AddsLength, AddsMade, AddsNothing, adds}
-use Rattle.hwp_law_served.proofs.of_hwp_law_run.Homes.{home-within}
+use Rattle.hwp_law_served.proofs.StepEntries.{AddsLength, AddsMade, AddsNothing, adds}
+use Rattle.hwp_law_served.proofs.Homes.{home-within}
 use Rattle.hwp_law_served.proofs.StepAdds.{Adds, OneMore, adds-by}
 use Rattle.hwp_law_served.proofs.RunKeeps.{IsKept}
 use Rattle.hwp_top_report.proofs.endings.EndingSeen.{AreFresh, IsFresh, IsUnended, KnowEnds, StaysEnded, not-going, process-word}

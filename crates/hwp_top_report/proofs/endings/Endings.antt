@@ -27,7 +27,7 @@ use Rattle.hwp_law_served.specs.hwp_report_text.declared.Answer.TheVariants as a
 use Rattle.hwp_law_served.specs.hwp_report_text.declared.Report.{Report}
 use Rattle.hwp_law_served.specs.hwp_law.Commands.{Access, access_of, process_of_thread, thread_of}
 use Rattle.hwp_law_served.specs.hwp_law.Endings.{EndingsStay, HasEnded, IsOver, WasGone}
-use Rattle.hwp_law_served.proofs.of_hwp_law_run.Reported.{entry-listed}
+use Rattle.hwp_law_served.proofs.Reported.{entry-listed}
 use Rattle.hwp_law_served.specs.hwp_cpu_row.declared.FrameChange.{FrameChange}
 use Rattle.hwp_law_served.specs.hwp_cpu_check.declared.EventOutcome.{EventOutcome}
 use Rattle.hwp_law_served.specs.hwp_banks.Banks.{Banks}

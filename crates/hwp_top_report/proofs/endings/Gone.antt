@@ -27,8 +27,8 @@ use Rattle.hwp_law_served.specs.hwp_script_read.declared.Script.{Script}
 use Rattle.hwp_law_served.specs.hwp_report_text.declared.Report.{Report}
 use Rattle.hwp_law_served.specs.hwp_law.Commands.{command_at, process_of_thread, thread_of}
 use Rattle.hwp_law_served.specs.hwp_law.Endings.{HasEnding, IsGone}
-use Rattle.hwp_law_served.proofs.of_hwp_law_run.Homes.{there-is}
-use Rattle.hwp_law_served.proofs.of_hwp_law_run.Reported.{home-of}
+use Rattle.hwp_law_served.proofs.Homes.{there-is}
+use Rattle.hwp_law_served.proofs.Reported.{home-of}
 use Rattle.hwp_law_served.specs.Causes.{FoundGone}
 use Rattle.hwp_law_served.proofs.RunEnds.{IsEnd}
 use Rattle.hwp_top_report.proofs.Shown.{process-is}

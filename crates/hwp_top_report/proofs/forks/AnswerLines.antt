@@ -12,8 +12,8 @@ use Rattle.hwp_law_served.specs.hwp_script_read.declared.Command.{Command}
 use Rattle.hwp_law_served.specs.hwp_script_read.declared.Script.{Script}
 use Rattle.hwp_law_served.specs.hwp_law.Causes.{AreCaused, IsCaused}
 use Rattle.hwp_law_served.specs.hwp_law.Lines.{AnswerLine, answer_among, answer_in}
-use Rattle.hwp_law_served.proofs.of_hwp_law_run.of_hwp_law.AnswersInOrder.{answers_in}
-use Rattle.hwp_law_served.proofs.of_hwp_law_run.of_hwp_law.Rows.{same_answer}
+use Rattle.hwp_law_served.proofs.of_hwp_law.AnswersInOrder.{answers_in}
+use Rattle.hwp_law_served.proofs.of_hwp_law.Rows.{same_answer}
 
 -- ---- lists
 

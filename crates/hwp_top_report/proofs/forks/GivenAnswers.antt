@@ -37,8 +37,8 @@ use Rattle.hwp_law_served.specs.hwp_law.Offlined.{AreOfflined, IsOffline}
 use Rattle.hwp_law_served.specs.hwp_law.Places.{entry_at}
 use Rattle.hwp_law_served.specs.hwp_law.Policies.{answered_before, answered_on}
 use Rattle.hwp_law_served.specs.hwp_law.States.{entry_named}
-use Rattle.hwp_law_served.proofs.of_hwp_law_run.of_hwp_law.ActedLaws.{command-acted}
-use Rattle.hwp_law_served.proofs.of_hwp_law_run.of_hwp_law.AnswersInOrder.{answer-from, answers_in}
+use Rattle.hwp_law_served.proofs.of_hwp_law.ActedLaws.{command-acted}
+use Rattle.hwp_law_served.proofs.of_hwp_law.AnswersInOrder.{answer-from, answers_in}
 use Rattle.hwp_top_report.proofs.forks.AnswerLines.{caused-given, found-line, line-given, zip-get, zip-parts}
 use Rattle.hwp_top_report.proofs.forks.Shares.{some-and}
 

@@ -33,7 +33,7 @@ use Rattle.hwp_law_served.specs.hwp_law.Lines.{is_same_command}
 use Rattle.hwp_law_served.specs.hwp_law.Policies.{answered_on}
 use Rattle.hwp_law_served.specs.hwp_law.Private.{last_word, word_at_fork, word_before, word_in, word_stored}
 use Rattle.hwp_top_report.specs.CopiedWords.{CopiesKeepWords, KeepsWord, word_loaded}
-use Rattle.hwp_law_served.proofs.of_hwp_law_run.of_hwp_law.ActedLaws.{command-acted}
+use Rattle.hwp_law_served.proofs.of_hwp_law.ActedLaws.{command-acted}
 use Rattle.hwp_top_report.proofs.forks.Forked.{IsForked}
 use Rattle.hwp_top_report.proofs.forks.Freezes.{fold-next, frozen-stays, is_stored, next, not-stored, stored-is, stored-switches}
 use Rattle.hwp_top_report.proofs.forks.GivenAnswers.{IsAnswered, answered-at, then-there}

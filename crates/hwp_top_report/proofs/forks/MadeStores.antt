@@ -28,7 +28,7 @@ use Rattle.hwp_law_served.specs.hwp_law.Entries.{AreMadeBy, CanStandIn, Makes}
 use Rattle.hwp_law_served.specs.hwp_law.Places.{entry_at}
 use Rattle.hwp_law_served.specs.hwp_law.Policies.{answered_before}
 use Rattle.hwp_law_served.specs.hwp_law.Private.{word_in}
-use Rattle.hwp_law_served.proofs.of_hwp_law_run.of_hwp_law.ActedLaws.{command-acted}
+use Rattle.hwp_law_served.proofs.of_hwp_law.ActedLaws.{command-acted}
 use Rattle.hwp_top_report.proofs.forks.Shares.{some-and}
 
 -- ---- what an entry stored

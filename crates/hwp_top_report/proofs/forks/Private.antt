@@ -39,7 +39,7 @@ use Rattle.hwp_law_served.specs.hwp_law.Law.{AnswersFit, HistoriesFit}
 use Rattle.hwp_law_served.specs.hwp_law.Policies.{answered_before, answered_on}
 use Rattle.hwp_law_served.specs.hwp_law.Private.{ArePrivate, last_word, loaded, private_word, word_at_fork, word_before, word_in, word_stored}
 use Rattle.hwp_top_report.specs.CopiedWords.{CopiesKeepWords}
-use Rattle.hwp_law_served.proofs.of_hwp_law_run.of_hwp_law.ActedLaws.{command-acted}
+use Rattle.hwp_law_served.proofs.of_hwp_law.ActedLaws.{command-acted}
 use Rattle.hwp_top_report.proofs.forks.AnswerLines.{get-drop, get-take}
 use Rattle.hwp_top_report.proofs.forks.Contents.{word-read}
 use Rattle.hwp_top_report.proofs.forks.Forked.{IsForked, forked, frozen-next, take-first, valid-command}

@@ -22,8 +22,8 @@ use Rattle.hwp_law_served.specs.hwp_law.Acting.{acting_script, copied_at}
 use Rattle.hwp_law_served.specs.hwp_law.Copies.{own_in}
 use Rattle.hwp_law_served.specs.hwp_law.Lines.{answer_of, is_same_command}
 use Rattle.hwp_law_served.specs.hwp_law.Private.{last_word, word_in}
-use Rattle.hwp_law_served.proofs.of_hwp_law_run.of_hwp_law.Examples.{command}
-use Rattle.hwp_law_served.proofs.of_hwp_law_run.of_hwp_law.ForkExamples.{forked, forking, loads_from, parents, place, reported, rows, shared, slot, stores_from, thread}
+use Rattle.hwp_law_served.proofs.of_hwp_law.Examples.{command}
+use Rattle.hwp_law_served.proofs.of_hwp_law.ForkExamples.{forked, forking, loads_from, parents, place, reported, rows, shared, slot, stores_from, thread}
 use Rattle.hwp_top_report.specs.CopiedWords.{CopiesKeepWords, KeepsWord, word_loaded}
 
 -- ---- the entries of the child's store

@@ -40,8 +40,8 @@ use Rattle.hwp_law_served.specs.hwp_report_text.declared.CpuLine.{CpuLine}
 use Rattle.hwp_law_served.specs.hwp_report_text.declared.Report.{Report}
 use Rattle.hwp_law_served.specs.hwp_law.Lines.{answered}
 use Rattle.hwp_law_served.specs.hwp_law.Losses.{IsNumber, LossesAgree, found_in, is_lost, is_lost_before, losses_such, numbers_after, tells_number}
-use Rattle.hwp_law_served.proofs.of_hwp_law_run.Histories.{balanced, no-bodies}
-use Rattle.hwp_law_served.proofs.of_hwp_law_run.Homes.{there-is}
+use Rattle.hwp_law_served.proofs.Histories.{balanced, no-bodies}
+use Rattle.hwp_law_served.proofs.Homes.{there-is}
 use Rattle.hwp_law_served.specs.Runs.{IsRunOf}
 use Rattle.hwp_law_served.proofs.HomePages.{home-sum}
 use Rattle.hwp_law_served.proofs.LastBoard.{ended, nothing}

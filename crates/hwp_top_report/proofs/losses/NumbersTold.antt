@@ -21,7 +21,7 @@ use Rattle.hwp_law_served.specs.hwp_report_text.declared.CpuLine.{CpuLine}
 use Rattle.hwp_law_served.specs.hwp_report_text.declared.Report.{Report}
 use Rattle.hwp_law_served.specs.hwp_law.Lines.{answered, answers_to}
 use Rattle.hwp_law_served.specs.hwp_law.Losses.{number_by, numbers_after, tells_number}
-use Rattle.hwp_law_served.proofs.of_hwp_law_run.Homes.{there-is}
+use Rattle.hwp_law_served.proofs.Homes.{there-is}
 use Rattle.hwp_law_served.specs.hwp_cpu_row.declared.Row.{Row}
 use Rattle.hwp_law_served.specs.Handles.{KnowsNumber, KnowsNumbers, answers_by}
 use Rattle.hwp_law_served.proofs.Handles.{numbers-next}

@@ -23,7 +23,7 @@ use Rattle.hwp_law_served.specs.hwp_report_text.declared.Report.{Report}
 use Rattle.hwp_law_served.specs.hwp_law.Lines.{is_same_command, marks_of}
 use Rattle.hwp_law_served.specs.hwp_law.Pairings.{marks_in}
 use Rattle.hwp_law_served.specs.hwp_law.Records.{who_in}
-use Rattle.hwp_law_served.proofs.of_hwp_law_run.Homes.{there-is}
+use Rattle.hwp_law_served.proofs.Homes.{there-is}
 use Rattle.hwp_law_served.specs.Accounts.{IsNote}
 use Rattle.hwp_law_served.specs.Rows.{Note}
 use Rattle.hwp_law_served.specs.Runs.{notes_of, notes_on, row_at}

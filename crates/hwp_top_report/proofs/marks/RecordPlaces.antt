@@ -34,8 +34,8 @@ use Rattle.hwp_law_served.specs.hwp_report_text.declared.Report.{Report}
 use Rattle.hwp_law_served.specs.hwp_law.Causes.{WasHardwareSeen}
 use Rattle.hwp_law_served.specs.hwp_law.Lines.{marks_of}
 use Rattle.hwp_law_served.specs.hwp_law.Records.{IsMarkAt, WasPoisoned, ends_poisoned, is_by_hardware, is_poisoning, who_in}
-use Rattle.hwp_law_served.specs.hwp_law_run.Ends.{IsFrameOn, Tells}
-use Rattle.hwp_law_served.proofs.of_hwp_law_run.Homes.{there-is}
+use Rattle.hwp_law_served.specs.Ends.{IsFrameOn, Tells}
+use Rattle.hwp_law_served.proofs.Homes.{there-is}
 use Rattle.hwp_law_served.specs.Runs.{place_in}
 use Rattle.hwp_law_served.proofs.RunEnds.{IsEnd}
 use Rattle.hwp_law_served.proofs.marks.Marked.{any-of, line-of}

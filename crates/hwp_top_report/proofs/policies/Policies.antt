@@ -46,7 +46,7 @@ use Rattle.hwp_law_served.specs.hwp_law.Settings.{last_policy, set_behind, setti
 use Rattle.hwp_law_served.proofs.copied.CopyEntries.{MakesWith}
 use Rattle.hwp_law_served.specs.hwp_law.Policies.{answered_before, answered_on}
 use Rattle.hwp_law_served.specs.hwp_law.SeenPolicies.{AreSeen, IsOwnCount, IsPolicySeen, SeenNeverFalls, answered_around, cpu_of_thread, seen_in}
-use Rattle.hwp_law_served.proofs.of_hwp_law_run.Reported.{entry-listed}
+use Rattle.hwp_law_served.proofs.Reported.{entry-listed}
 use Rattle.hwp_law_served.specs.hwp_cpu_row.declared.Row.{Row}
 use Rattle.hwp_law_served.specs.Accounts.{is_same, set_by}
 use Rattle.hwp_law_served.specs.Handles.{answers_by}

@@ -23,8 +23,8 @@ use Rattle.hwp_law_served.specs.hwp_report_text.declared.Answer.TheVariants as a
 use Rattle.hwp_law_served.specs.hwp_law.Settings.{arguments, last_policy, set_behind, setting_of, settings, unset}
 use Rattle.hwp_law_served.specs.hwp_script_read.Forks.{is_thread_of}
 use Rattle.hwp_law_served.specs.hwp_cpu_control.Forks.{threads_of}
-use Rattle.hwp_law_served.proofs.of_hwp_law_run.of_hwp_law.SettingLaws.{settings-more}
-use Rattle.hwp_law_served.proofs.of_hwp_law_run.Homes.{there-is}
+use Rattle.hwp_law_served.proofs.of_hwp_law.SettingLaws.{settings-more}
+use Rattle.hwp_law_served.proofs.Homes.{there-is}
 use Rattle.hwp_law_served.specs.Accounts.{is_same, set_by, set_for}
 use Rattle.hwp_top_report.proofs.policies.PolicyCounts.{is_before, made_before}
 

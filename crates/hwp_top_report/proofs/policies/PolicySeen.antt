@@ -35,7 +35,7 @@ use Rattle.hwp_law_served.proofs.of_hwp_core_rule.Lists.{at_last, at_map, each-p
 use Rattle.hwp_law_served.proofs.of_hwp_core_rule.MoveKeeps.{shaped}
 use Rattle.hwp_law_served.proofs.of_hwp_core_rule.NotLater.{not-later}
 use Rattle.hwp_law_served.proofs.of_hwp_core_rule.WordsByKind.{word-there, words-read}
-use Rattle.hwp_law_served.proofs.of_hwp_law_run.Homes.{there-is}
+use Rattle.hwp_law_served.proofs.Homes.{there-is}
 use Rattle.hwp_law_served.proofs.StepAdds.{Adds, OneMore, adds-by}
 use Rattle.hwp_law_served.proofs.RunKeeps.{IsKept}
 use Rattle.hwp_top_report.proofs.endings.Gone.{names-inside}

@@ -21,8 +21,8 @@ use Rattle.hwp_law_served.specs.hwp_report_text.declared.Whereabouts.TheVariants
 use Rattle.hwp_law_served.specs.hwp_report_text.declared.Report.{Report}
 use Rattle.hwp_law_served.specs.hwp_law.Frames.{IsFrameLine, IsPlaced, poisoned_count}
 use Rattle.hwp_law_served.specs.hwp_law.Records.{ends_poisoned}
-use Rattle.hwp_law_served.specs.hwp_law_run.Ends.{IsFrameOn, place_in, place_owned}
-use Rattle.hwp_law_served.proofs.of_hwp_law_run.Placed.{owned-named}
+use Rattle.hwp_law_served.specs.Ends.{IsFrameOn, place_in, place_owned}
+use Rattle.hwp_law_served.proofs.Placed.{owned-named}
 use Rattle.hwp_law_served.specs.Runs.{IsRunOf}
 use Rattle.hwp_top_report.proofs.report_lines.SpoiledLines.{spoiled-so}
 use Rattle.hwp_law_served.proofs.RunEnds.{IsEnd}

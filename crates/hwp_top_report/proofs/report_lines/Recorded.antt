@@ -46,7 +46,7 @@ use Rattle.hwp_law_served.specs.hwp_report_text.declared.EventLine.{EventLine}
 use Rattle.hwp_law_served.specs.hwp_law.Lines.{answer_of, is_same_command, marks_of, offlined_of}
 use Rattle.hwp_law_served.specs.hwp_law.Pairings.{AreRecorded, entries_of, finds, has_page, is_commands, is_failure, is_failure_mark, is_move, is_move_mark, is_required, is_soft, is_soft_mark, is_soft_of, is_take, is_urgent, marks_in, says_soft, situation_number, soft_lines, urgent_from}
 use Rattle.hwp_law_served.specs.hwp_law.Records.{hardware_marks, how_in, is_commanded, is_moved, is_taken, result_lines, who_in}
-use Rattle.hwp_law_served.proofs.of_hwp_law_run.Homes.{there-is}
+use Rattle.hwp_law_served.proofs.Homes.{there-is}
 use Rattle.hwp_law_served.specs.hwp_claim.declared.Found.{Found}
 use Rattle.hwp_law_served.specs.hwp_cpu_row.declared.FrameChange.{FrameChange}
 use Rattle.hwp_law_served.specs.hwp_cpu_row.declared.FrameChange.TheVariants as owns
@@ -74,7 +74,7 @@ use Rattle.hwp_top_report.proofs.marks.CountedMarks.{marks-of-command, marks-on-
 use Rattle.hwp_top_report.proofs.marks.RowNotes.{notes_at}
 use Rattle.hwp_law_served.proofs.lines.OfRows.{OfRow, offlined-of, own-of, right-of, row-of}
 use Rattle.hwp_law_served.proofs.Acts.{sum-acts}
-use Rattle.hwp_law_served.proofs.of_hwp_law_run.of_hwp_law.Situations.{same-situation}
+use Rattle.hwp_law_served.proofs.of_hwp_law.Situations.{same-situation}
 use Rattle.hwp_top_report.proofs.report_lines.Records.{hardware-are, results-of, told-line}
 use Rattle.hwp_top_report.proofs.report_lines.SoftLines.{no-soft, soft_by, soft-said}
 use Rattle.hwp_top_report.proofs.report_lines.RowEvents.{found_on, hardware_line, on-frames, urgent-counts, urgent_weight, weigh}

@@ -19,7 +19,7 @@ use Rattle.hwp_law_served.specs.hwp_banks.Banks.{Banks, held_from}
 use Rattle.hwp_law_served.specs.hwp_cpu_check.declared.Held.{Held}
 use Rattle.hwp_law_served.specs.hwp_cpu_check.declared.EventOutcome.{EventOutcome}
 use Rattle.hwp_law_served.specs.hwp_cpu_check.Events.{graded_in}
-use Rattle.hwp_law_served.specs.hwp_law_run.Scrubs.{IsFoundAt}
+use Rattle.hwp_law_served.specs.Scrubs.{IsFoundAt}
 use Rattle.hwp_law_served.specs.hwp_scrub.Visits as scrubs
 use Rattle.hwp_law_served.specs.hwp_scrub.Visits.{AreBanks, AreVisits, Find, IsBadMet, IsVisit, IsWeakMet, SawLowest, Visit, left_by_bad, left_by_visit, lines_of_visit, scrub_bank, scrubbing, with_bad}
 use Rattle.hwp_law_served.proofs.of_hwp_scrub.VisitLaws.{bad-leaves, left-banks}

@@ -24,11 +24,11 @@ use Rattle.hwp_law_served.specs.hwp_report_text.declared.Report.{Report}
 use Rattle.hwp_law_served.specs.hwp_banks.Banks.{Banks}
 use Rattle.hwp_law_served.specs.hwp_law.Lines.{events_of}
 use Rattle.hwp_law_served.specs.hwp_cpu_check.declared.EventOutcome.{EventOutcome}
-use Rattle.hwp_law_served.specs.hwp_law_run.Scrubs.{AreFoundShown, AreLookedAt, HasFound, IsFoundAt}
-use Rattle.hwp_law_served.specs.hwp_law_run.Turns.{Finds}
-use Rattle.hwp_law_served.proofs.of_hwp_law_run.Homes.{there-is}
-use Rattle.hwp_law_served.proofs.of_hwp_law_run.SeatKnows.{Said}
-use Rattle.hwp_law_served.proofs.of_hwp_law_run.SeatTells.{told}
+use Rattle.hwp_law_served.specs.Scrubs.{AreFoundShown, AreLookedAt, HasFound, IsFoundAt}
+use Rattle.hwp_law_served.specs.Turns.{Finds}
+use Rattle.hwp_law_served.proofs.Homes.{there-is}
+use Rattle.hwp_law_served.proofs.SeatKnows.{Said}
+use Rattle.hwp_law_served.proofs.SeatTells.{told}
 use Rattle.hwp_law_served.specs.hwp_scrub.Visits as scrubs
 use Rattle.hwp_law_served.specs.hwp_scrub.Visits.{AreBanks, IsLowest, SawLowest, Visit}
 use Rattle.hwp_law_served.proofs.of_hwp_scrub.VisitLaws.{left-banks}

@@ -20,7 +20,7 @@ use Rattle.hwp_law.specs.hwp_report_text.declared.EventLine.{EventLine}
 use Rattle.hwp_law.specs.hwp_report_text.declared.Report.{Report}
 use Rattle.hwp_law.specs.Lines.{answer_of, events_of}
 use Rattle.hwp_law.specs.Commands.{command_at}
-use Rattle.hwp_law_run.specs.Turns.{Finds}
+use Rattle.hwp_law_served.specs.Turns.{Finds}
 
 -- the line tells the scrubber's event at this line of a frame
 pub record IsFoundAt (origin : Origin) (frame : Frame) (n : ℕ) (line : EventLine) : Type 0 where

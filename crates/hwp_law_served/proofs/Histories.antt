@@ -19,7 +19,7 @@ use Rattle.hwp_plain.specs.hwp_core_rule.parts.Bodies.{Holder}
 use Rattle.hwp_plain.specs.hwp_core_rule.parts.Entries.{weigh, weigh_from}
 use Rattle.hwp_plain.proofs.of_hwp_core_rule.CountsBelow.{some-term}
 use Rattle.hwp_plain.proofs.of_hwp_core_rule.Lists.{each-map, same-or, sum-map, sum-zero, term-le, terms-le}
-use Rattle.hwp_law_run.proofs.SameEntries.{same_entry, same_entry-is, same_entry-self}
+use Rattle.hwp_law_served.proofs.SameEntries.{same_entry, same_entry-is, same_entry-self}
 
 -- ---- what a function says of a history
 

@@ -31,12 +31,12 @@ use Rattle.hwp_law.specs.History.{AreOrdered}
 use Rattle.hwp_law.specs.Places.{entry_at}
 use Rattle.hwp_law.specs.PageHistory.{IsHistory}
 use Rattle.hwp_law.specs.States.{HadState}
-use Rattle.hwp_law_run.specs.Ends.{EndsWith, place_in}
-use Rattle.hwp_law_run.proofs.Histories.{IsThat, entry-made, made-stands, one-body}
-use Rattle.hwp_law_run.proofs.Homes.{home-within, there-is}
-use Rattle.hwp_law_run.proofs.Legal.{AreLegal}
-use Rattle.hwp_law_run.proofs.Placed.{cached-once}
-use Rattle.hwp_law_run.proofs.SightOrder.{Rising}
+use Rattle.hwp_law_served.specs.Ends.{EndsWith, place_in}
+use Rattle.hwp_law_served.proofs.Histories.{IsThat, entry-made, made-stands, one-body}
+use Rattle.hwp_law_served.proofs.Homes.{home-within, there-is}
+use Rattle.hwp_law_served.proofs.Legal.{AreLegal}
+use Rattle.hwp_law_served.proofs.Placed.{cached-once}
+use Rattle.hwp_law_served.proofs.SightOrder.{Rising}
 
 -- the report is that of this board, which a run led to, and on which no frame is locked and no body in hand
 pub record IsLast (layout : Layout) (last : State) (report : Report) : Type 0 where

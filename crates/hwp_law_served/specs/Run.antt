@@ -9,10 +9,10 @@ use Rattle.hwp_plain.specs.Order.{InOrder, Running, running}
 use Rattle.hwp_law.specs.hwp_script_read.declared.Script.{Script}
 use Rattle.hwp_law.specs.hwp_report_text.declared.Report.{Report}
 use Rattle.hwp_law.specs.Acting.{acting_script, copied_at}
-use Rattle.hwp_law_run.specs.Ends.{EndsWith}
-use Rattle.hwp_law_run.specs.Scrubs.{ScrubsShown}
-use Rattle.hwp_law_run.specs.Shown.{IsShown}
-use Rattle.hwp_law_run.specs.Turns.{Leads}
+use Rattle.hwp_law_served.specs.Ends.{EndsWith}
+use Rattle.hwp_law_served.specs.Scrubs.{ScrubsShown}
+use Rattle.hwp_law_served.specs.Shown.{IsShown}
+use Rattle.hwp_law_served.specs.Turns.{Leads}
 
 -- There is a list of turns, each one atomic step. It starts from the board at opening, each step is a move, and the frame rule
 -- holds before and after each. The turns follow the script's schedule and then the finishing order, by what the tasks of the

@@ -27,7 +27,7 @@ use Rattle.hwp_plain.specs.hwp_core_rule.Steps.{goes, place_of}
 use Rattle.hwp_plain.specs.hwp_core_rule.Views.{adopting, body_of, is_page_lock_of, knowing, listed_of, loaded, lock_found, lock_of_page, put_home, stamp_of, taken, view_by}
 use Rattle.hwp_plain.specs.hwp_core_rule.parts.Entries.{IsUnder as IsUnderLock}
 use Rattle.hwp_plain.proofs.of_hwp_core_rule.Lists.{each-push, some-changed, some-last}
-use Rattle.hwp_law_run.specs.Turns.{SeesPage}
+use Rattle.hwp_law_served.specs.Turns.{SeesPage}
 
 -- what is said of each sight, length, mark, stop and spoiled line that a view lists
 pub record Sayings : Type 1 where

@@ -8,7 +8,7 @@ use Rattle.hwp_law.specs.hwp_script_read.declared.Go.{Go}
 use Rattle.hwp_plain.specs.hwp_core_rule.Boards.{Played}
 use Rattle.hwp_plain.specs.hwp_core_rule.Turns.{Member}
 use Rattle.hwp_plain.specs.Order.{Finishing, InOrder, Running, Schedule, TurnOf, Word}
-use Rattle.hwp_law_run.specs.Turns.{Leads}
+use Rattle.hwp_law_served.specs.Turns.{Leads}
 
 -- turns, and then others
 pub leads-on : (layout : Layout) (a b c : State) (front later : List Played) → Leads layout a front b → Leads layout b later c → Leads layout a (front ++ later) c

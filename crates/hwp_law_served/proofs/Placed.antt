@@ -24,8 +24,8 @@ use Rattle.hwp_plain.proofs.of_hwp_core_rule.MoveKeeps.{shaped}
 use Rattle.hwp_law.specs.hwp_report_text.declared.FrameLine.{FrameLine}
 use Rattle.hwp_law.specs.hwp_report_text.declared.Whereabouts.TheVariants as places
 use Rattle.hwp_law.specs.PageHistory.{is_of}
-use Rattle.hwp_law_run.specs.Ends.{place_in, place_owned}
-use Rattle.hwp_law_run.proofs.Homes.{home-within, there-is}
+use Rattle.hwp_law_served.specs.Ends.{place_in, place_owned}
+use Rattle.hwp_law_served.proofs.Homes.{home-within, there-is}
 
 -- a sum of which one term alone counts
 sum-single : {A : Type 0} (f : A → ℕ) (l : List A) (i : ℕ) (x : A) → slice_get l i ≡ Some x → ((j : ℕ) (y : A) → slice_get l j ≡ Some y → j ≢ i → f y ≡ 0) → sum_by f l ≡ f x

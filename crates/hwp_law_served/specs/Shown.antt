@@ -38,7 +38,7 @@ use Rattle.hwp_law.specs.Commands.{command_at, process_at}
 use Rattle.hwp_law.specs.Lines.{answer_of, answered, events_of, offlined_of}
 use Rattle.hwp_law.specs.Losses.{numbers_after, tells_number}
 use Rattle.hwp_law.specs.Runs.{slot_ended}
-use Rattle.hwp_law_run.specs.Turns.{Finds, FindsBad, SawPage, TurnBy}
+use Rattle.hwp_law_served.specs.Turns.{Finds, FindsBad, SawPage, TurnBy}
 
 -- the machine had stopped, or the command stopped it by a step of its own
 abbrev pub StopShown : Layout → List Played → Who → Type 0

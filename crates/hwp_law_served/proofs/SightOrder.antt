@@ -39,9 +39,9 @@ use Rattle.hwp_plain.proofs.of_hwp_core_rule.MoreEntries.{each-append}
 use Rattle.hwp_plain.proofs.of_hwp_core_rule.NotLater.{not-later}
 use Rattle.hwp_plain.proofs.of_hwp_core_rule.ListDrops.{find-is}
 use Rattle.hwp_plain.specs.hwp_core_rule.Boards.{Played}
-use Rattle.hwp_law_run.specs.Turns.{Leads}
-use Rattle.hwp_law_run.proofs.StepAdds.{AddsLength, AddsMade, AddsNothing, adds}
-use Rattle.hwp_law_run.proofs.Homes.{home-within}
+use Rattle.hwp_law_served.specs.Turns.{Leads}
+use Rattle.hwp_law_served.proofs.StepEntries.{AddsLength, AddsMade, AddsNothing, adds}
+use Rattle.hwp_law_served.proofs.Homes.{home-within}
 
 -- the history that a command saw lies above the entry of an earlier command, not above that of a later one
 pub record Above (l : Length) (m : Made) : Type 0 where

@@ -35,7 +35,7 @@ use Rattle.hwp_plain.proofs.of_hwp_core_rule.Lists.{each-changed, each-map, each
 use Rattle.hwp_plain.proofs.of_hwp_core_rule.MoreEntries.{each-append}
 use Rattle.hwp_plain.proofs.of_hwp_core_rule.ListDrops.{each-without, find-is}
 use Rattle.hwp_plain.specs.hwp_core_rule.Boards.{Played}
-use Rattle.hwp_law_run.specs.Turns.{Leads as LeadsTo}
+use Rattle.hwp_law_served.specs.Turns.{Leads as LeadsTo}
 
 -- the entries lead from the opening of their page to its state
 abbrev pub IsLegal : Layout → Log → Type 0
