@@ -14,7 +14,7 @@ use Rattle.hwp_report_lines.specs.declared.ReportLine.{ReportLine}
 use Rattle.hwp_report_lines.specs.declared.ReportLine.TheVariants as forms
 use Rattle.hwp_report.specs.Fits.{ReportFits, ListFits, FrameFits, most_numbered, most_told}
 use Rattle.hwp_report_lines.specs.Fits.{MarkFits, EntryFits, SeenFits, SignalFits}
-use Rattle.hwp_report_lines.specs.hwp_report_cpu_lines.Fits.{CpuLineFits}
+use Rattle.hwp_report_lines.specs.hwp_report_words.Fits.{CpuLineFits}
 use Rattle.hwp_report_lines.specs.Forms.{FormFits}
 use Rattle.hwp_report.proofs.LinesRead.{numbered_forms, file_forms, frame_forms, what_forms, entry_forms, page_forms, cpu_forms, parts_of, front_forms, framed_forms, paged_forms, ran_forms, report_forms}
 

@@ -3,7 +3,7 @@ use Rattle.std.specs.Prelude.{ℕ, ◌^◌, ◌-◌, ◌<◌, ◌≤◌, List, l
 use Rattle.hwp_report_text.specs.declared.Report.{Report}
 use Rattle.hwp_report_text.specs.declared.FrameLine.{FrameLine}
 use Rattle.hwp_report_lines.specs.Fits.{PlaceFits, MarkFits, EntryFits}
-use Rattle.hwp_report_lines.specs.hwp_report_cpu_lines.Fits.{StopFits, CpuLineFits}
+use Rattle.hwp_report_lines.specs.hwp_report_words.Fits.{StopFits, CpuLineFits}
 
 -- a frame
 pub record FrameFits (frame : FrameLine) : Type 0 where

@@ -9,7 +9,7 @@ use Rattle.hwp_report_text.specs.ReportText.{entry_words, cpu_line_words}
 use Rattle.hwp_report_words.proofs.SameWords.{tag, word_at}
 use Rattle.hwp_report_lines.specs.declared.verbs.Verb.TheVariants as verbs
 use Rattle.hwp_report_lines.specs.Verbs.{verb_of, verb_text}
-use Rattle.hwp_report_cpu_lines.specs.Fits.{CpuLineFits}
+use Rattle.hwp_report_words.specs.Fits.{CpuLineFits}
 use Rattle.hwp_report_lines.specs.declared.report_line.ReportLine.{ReportLine}
 use Rattle.hwp_report_lines.specs.declared.report_line.ReportLine.TheVariants as forms
 use Rattle.hwp_report_lines.specs.declared.heads.Head.{Head}

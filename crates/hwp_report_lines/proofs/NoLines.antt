@@ -8,7 +8,7 @@ use Rattle.hwp_report_text.specs.ReportText.{cpu_line_words}
 use Rattle.hwp_report_words.specs.Reads.{AreBelow, two_words}
 use Rattle.hwp_report_words.proofs.Rests.{first_of}
 use Rattle.hwp_report_lines.specs.Words.{StandingFits, standing_words}
-use Rattle.hwp_report_cpu_lines.specs.Fits.{CpuLineFits}
+use Rattle.hwp_report_words.specs.Fits.{CpuLineFits}
 use Rattle.hwp_report_lines.specs.declared.report_line.ReportLine.{ReportLine}
 use Rattle.hwp_report_lines.specs.declared.report_line.ReportLine.TheVariants as forms
 use Rattle.hwp_report_lines.specs.declared.heads.Head.{Head}

@@ -16,8 +16,8 @@ use Rattle.hwp_report_lines.specs.declared.failures.Failure.{Failure}
 use Rattle.hwp_report_lines.specs.Fits.{FailFits, PlainFits}
 use Rattle.hwp_report_lines.specs.Words.{failure_words}
 use Rattle.hwp_report_lines.proofs.pages.SameWords.{same_place, same_mark, same_required, same_entry}
-use Rattle.hwp_report_cpu_lines.specs.Fits.{CpuLineFits}
-use Rattle.hwp_report_cpu_lines.proofs.SameWords.{same_stop, same_cpu_line}
+use Rattle.hwp_report_words.specs.Fits.{CpuLineFits}
+use Rattle.hwp_report_words.proofs.SameLines.{same_stop, same_cpu_line}
 use Rattle.hwp_report_lines.specs.declared.report_line.ReportLine.{ReportLine}
 use Rattle.hwp_report_lines.specs.declared.report_line.ReportLine.TheVariants as forms
 use Rattle.hwp_report_lines.specs.Forms.{FormFits, form_words}

@@ -11,7 +11,7 @@ use Rattle.hwp_report_text.specs.declared.MarkLine.TheVariants as marks
 use Rattle.hwp_report_text.specs.ReportText.{entry_words}
 use Rattle.hwp_report_words.proofs.WordsPut.{put_small, put_policy, put_code, put_situation, put_u8, put_u16, put_u32, put_u64, put_mask, put_version}
 use Rattle.hwp_report_lines.proofs.pages.WordsPut.{put_state, put_mark, put_required, put_entry}
-use Rattle.hwp_report_cpu_lines.proofs.WordsPut.{put_stop, put_cpu_line}
+use Rattle.hwp_report_words.proofs.LinesPut.{put_stop, put_cpu_line}
 use Rattle.hwp_report_lines.specs.declared.report_line.ReportLine.{ReportLine}
 use Rattle.hwp_report_lines.specs.declared.report_line.ReportLine.TheVariants as forms
 use Rattle.hwp_report_lines.specs.Forms.{FormFits, form_words}

@@ -7,7 +7,7 @@ use Rattle.hwp_report_text.specs.ReportText.{stop_words, frame_words, mark_words
 use Rattle.hwp_report_words.specs.Reads.{IsReadAs}
 use Rattle.hwp_report_lines.specs.Fits.{PlaceFits, MarkFits, PlainEntryFits, FailFits, SeenFits, SignalFits}
 use Rattle.hwp_report_lines.specs.Words.{failure_words}
-use Rattle.hwp_report_cpu_lines.specs.Fits.{StopFits, CpuLineFits}
+use Rattle.hwp_report_words.specs.Fits.{StopFits, CpuLineFits}
 use Rattle.hwp_report_lines.specs.declared.report_line.ReportLine.{ReportLine}
 use Rattle.hwp_report_lines.specs.declared.report_line.ReportLine.TheVariants as forms
 use Rattle.hwp_report_lines.specs.declared.heads.Head.{Head}

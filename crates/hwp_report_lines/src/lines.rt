@@ -9,9 +9,8 @@ use crate::frames::{read_frame, read_poisoned, read_unpoisoned};
 use crate::heads::{Head, read_head};
 use crate::report_line::ReportLine;
 use crate::verbs::Verb;
-use hwp_report_cpu_lines::{read_cpu_line, read_stop};
 use hwp_report_text::{OutOfMemory, Version};
-use hwp_report_words::{is_text, read_number, read_version};
+use hwp_report_words::{is_text, read_cpu_line, read_number, read_stop, read_version};
 use std::alloc::Global;
 
 /// The parts of a text that the byte `at` parts.

@@ -3,3 +3,8 @@ pub mod NamedValues
 pub mod Rests
 pub mod SameWords
 pub mod WordsPut
+pub mod LinesPut
+pub mod SameLines
+mod NoLines
+mod WordLists
+mod AnswerWords

@@ -1,3 +1,6 @@
 pub mod Reads
 pub mod Words
+pub mod Answers
+pub mod Fits
+pub mod LineWords
 pub use Rattle.hwp_script_lines.specs as hwp_script_lines

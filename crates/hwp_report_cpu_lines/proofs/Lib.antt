@@ -1,5 +1,0 @@
-pub mod WordsPut
-pub mod SameWords
-mod NoLines
-mod WordLists
-mod AnswerWords

@@ -1,0 +1,8 @@
+use Rattle.hwp_report_words.proofs.NoLines.{no_placed, no_place}
+use Rattle.hwp_report_words.proofs.answers.read_placed_answer.Goals as goal
+
+pub returns-in_default : goal.returns-in_default
+returns-in_default c = λ answer fits e. no_placed c.args.word.now c.args.page.now c.args.entry.now c.in_default.ensures answer e
+
+pub returns-in_default-read_at : goal.returns-in_default-read_at
+returns-in_default-read_at c = no_place c.args.word.now c.args.page.now c.args.entry.now c.in_default-read_at.ensures
