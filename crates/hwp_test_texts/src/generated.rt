@@ -1,8 +1,7 @@
 //! Scripts made from a seed.
 
 use crate::checking::check;
-use hwp_script::generate;
-use hwp_script_print::print;
+use hwp_script::{generate, print};
 use std::alloc::Global;
 use std::process::Abort;
 use std::str;

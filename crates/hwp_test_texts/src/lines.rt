@@ -1,7 +1,7 @@
 //! The lines of scripts: each kind as it is read and printed, and what is no line.
 
 use crate::checking::check;
-use hwp_script_print::put_form;
+use hwp_script::put_form;
 use hwp_script_read::{LineRead, OutOfMemory, read_lines};
 use std::alloc::Global;
 use std::process::Abort;

@@ -2,7 +2,7 @@
 
 use crate::checking::check;
 use crate::scripts::script_of;
-use hwp_script_print::print;
+use hwp_script::print;
 use hwp_script_read::Script;
 use std::alloc::Global;
 use std::process::Abort;

@@ -3,8 +3,8 @@ use Rattle.std.specs.Prelude.{◌≡◌, ◌≤◌, ℕ, List, Option, None, IsS
 use Rattle.hwp_script.specs.hwp_script_read.Limits.{script_limit}
 use Rattle.hwp_script.specs.hwp_script_read.declared.Refused.{Refused}
 use Rattle.hwp_script.specs.hwp_script_read.declared.Script.{Script}
-use Rattle.hwp_script.specs.hwp_script_print.Round.{IsTextOf}
-use Rattle.hwp_script.specs.hwp_script_print.Text.{script_text}
+use Rattle.hwp_script.specs.Round.{IsTextOf}
+use Rattle.hwp_script.specs.Text.{script_text}
 use Rattle.hwp_script.specs.Generated.{generated}
 use Rattle.hwp_report.specs.hwp_report_text.declared.Report.{Report}
 use Rattle.hwp_report.specs.hwp_report_text.ReportText.{report_text}

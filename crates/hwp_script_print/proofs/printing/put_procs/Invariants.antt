@@ -1,7 +1,0 @@
-use Rattle.std.proofs.Common.{◌≡◌, ◌++◌, string_bytes}
-use Rattle.hwp_script_print.specs.Printed.{forms_text}
-use Rattle.hwp_script_print.specs.Text.{counted, proc_form}
-use Rattle.hwp_script_print.proofs.printing.put_procs.Given as goal
-
-abbrev pub invariant-loop-process : goal.invariant-loop-process
-invariant-loop-process l = string_bytes l.out ≡ string_bytes l.fn.out ++ forms_text (counted proc_form l.process)

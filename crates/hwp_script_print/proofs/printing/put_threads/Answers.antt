@@ -1,8 +1,0 @@
-use Rattle.std.proofs.Common.{arith, refl}
-use Rattle.hwp_script_print.specs.Text.{thread_forms}
-use Rattle.hwp_script_print.proofs.PutLaws.{put_numbered}
-use Rattle.hwp_script_print.proofs.printing.put_threads.Goals as goal
-
-pub loop-number-preserved : goal.loop-number-preserved
-loop-number-preserved c =
-    put_numbered thread_forms _ _ _ c.args.threads.now c.loop-number.number _ _ (omega arith) c.loop-number.invariant c.in_ok-put_thread.ensures refl

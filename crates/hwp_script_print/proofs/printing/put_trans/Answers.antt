@@ -1,8 +1,0 @@
-use Rattle.std.proofs.Common.{arith, refl}
-use Rattle.hwp_script_print.specs.Text.{trans_forms}
-use Rattle.hwp_script_print.proofs.PutLaws.{put_numbered}
-use Rattle.hwp_script_print.proofs.printing.put_trans.Goals as goal
-
-pub loop-number-preserved : goal.loop-number-preserved
-loop-number-preserved c =
-    put_numbered trans_forms _ _ _ c.args.trans.now c.loop-number.number _ _ (omega arith) c.loop-number.invariant c.in_ok-put_slot.ensures refl
