@@ -1,1 +1,6 @@
+mod SpacedWords
+mod NumberedLists
+mod StepKinds
+mod LineTells
+mod ToldTurns
 mod Statuses

@@ -1,12 +1,12 @@
 -- What the program writes.
 use Rattle.std.specs.Prelude.{◌≡◌, ℕ, ◌++◌, ◌==◌, if◌then◌else◌, List, [], ◌∷◌, Option, Some, IsSomeAnd, codes}
-use Rattle.hwp_trace_run.specs.hwp_script_read.declared.Script.{Script}
+use Rattle.hwp_top_turns.specs.hwp_script_read.declared.Script.{Script}
 use Rattle.hwp_report_text.specs.declared.Report.{Report}
 use Rattle.hwp_top_step.specs.Top.{Takes, done_status}
 use Rattle.hwp_top_step.specs.Top as top
-use Rattle.hwp_trace_run.specs.declared.TraceLine.{TraceLine}
-use Rattle.hwp_trace_run.specs.Text.{trace_text}
-use Rattle.hwp_trace_run.specs.Traces.{IsTrace}
+use Rattle.hwp_trace.specs.declared.line.TraceLine.{TraceLine}
+use Rattle.hwp_trace.specs.Text.{trace_text}
+use Rattle.hwp_trace.specs.Traces.{IsTrace}
 
 -- the text tells the turns of a run of the script that a source gave, and the report is of that run
 pub record IsTraceOf (left left' : Option (List ℕ)) (status : ℕ) (text : List ℕ) (report : Report) : Type 0 where

@@ -1,8 +1,15 @@
 //! The program `hwp-trace`: its words and standard streams to the trace of a script's run, and its exit status.
 #![tactic(auto)]
 
+mod board;
 mod calls;
+mod line;
+mod line_words;
+mod notes;
+mod printing;
 mod showing;
+mod tracing;
+mod values;
 
 use calls::show;
 use hwp_io::{StdSink, StdSource};

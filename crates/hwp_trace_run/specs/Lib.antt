@@ -1,5 +1,0 @@
-pub mod Text
-pub mod Notes
-pub mod Traced
-pub mod Traces
-pub use Rattle.hwp_top_turns.specs.hwp_script_read as hwp_script_read
