@@ -1,3 +1,4 @@
+mod LineEnds
 mod Numbered
 mod Parts
 pub use Rattle.hwp_page.proofs.of_hwp_geom as of_hwp_geom

@@ -1,7 +1,7 @@
 ghost use Rattle.std.specs.Prelude.{◌≡◌, [], ◌∷◌, ◌++◌, OnOk, IfOk, string_bytes, codes, decimal, map};
 ghost use Rattle.std.specs.List.{flat_map};
 ghost use Rattle.hwp_page.specs.hwp_geom.Words.{hex, line};
-ghost use Rattle.hwp_report_text.specs.ReportText.{cause_words, cpu_lines, file_lines, frame_lines, frame_words, graded_words, head_lines, how_words, mark_words, numbered, page_lines, report_text, stop_words};
+ghost use Rattle.hwp_report_text.specs.ReportText.{cause_words, cpu_lines, file_lines, frame_lines, frame_words, head_lines, how_words, mark_words, numbered, page_lines, report_text, stop_words};
 
 use crate::frames::{FrameLine, How, MarkLine, Whereabouts};
 use crate::lines::CpuLine;
@@ -11,12 +11,13 @@ use crate::terms::{
 };
 use answers::put_cpu_lines;
 use entries::put_entries;
-use hwp_guest::McgBits;
-use hwp_page::{Entry, List, Mask, Mode, OutOfMemory, Page, Text, Version, Who};
+use hwp_page::{Entry, List, Mask, OutOfMemory, Text, Version, Who};
 use std::alloc::Global;
+use words::{Word, put_line, put_verb};
 
 mod answers;
 mod entries;
+mod words;
 
 /// The one text of a report.
 pub fn print(alloc: Global, report: &Report) -> Result<Text, OutOfMemory>
@@ -27,7 +28,7 @@ pub fn print(alloc: Global, report: &Report) -> Result<Text, OutOfMemory>
     put_frames(&mut out, report.frames.as_slice())?;
     put_pages(&mut out, report.pages.as_slice())?;
     put_cpus(&mut out, report.cpus.as_slice())?;
-    writeln!(out, "end")?;
+    put_line(&mut out, Word::Text("end"), &[])?;
     Ok(Text::from_string(out))
 }
 
@@ -47,17 +48,17 @@ fn put_head(
 ) -> Result<(), OutOfMemory>
     ensures { OnOk result (string_bytes out.new ≡ string_bytes out.old ++ flat_map line (head_lines version stop count)) }
 {
-    let version = version_word(version);
-    writeln!(out, "hwp-report {version}")?;
+    let version = Word::Text(version_word(version));
+    put_line(out, Word::Text("hwp-report"), &[version])?;
     put_stop(out, stop)?;
-    writeln!(out, "count {count}")
+    put_line(out, Word::Text("count"), &[Word::Number(count)])
 }
 
 fn put_stop(out: &mut String, stop: Option<Stop>) -> Result<(), OutOfMemory>
     ensures { OnOk result (string_bytes out.new ≡ string_bytes out.old ++ line (stop_words stop)) }
 {
     match stop {
-        None => writeln!(out, "stop none"),
+        None => put_line(out, Word::Text("stop"), &[Word::Text("none")]),
         Some(stop) => put_cause(out, stop.who, stop.cause),
     }
 }
@@ -74,29 +75,26 @@ fn put_cause(out: &mut String, who: Who, cause: StopCause) -> Result<(), OutOfMe
             mcg,
             mode,
         } => {
-            write!(out, "stop {} {} severity S{row} ", who.cpu.0, who.seq)?;
-            put_graded(out, bank, status, mcg, mode)
+            let ripv = flag_number(mcg.ripv);
+            let eipv = flag_number(mcg.eipv);
+            let mode = mode_word(mode);
+            let graded = [
+                Word::Text("severity"),
+                Word::Row(row),
+                Word::Number(bank as u64),
+                Word::Hex(status),
+                Word::Number(ripv as u64),
+                Word::Number(eipv as u64),
+                Word::Text(mode),
+            ];
+            put_verb(out, "stop", who, &graded)
         }
-        StopCause::Shutdown => writeln!(out, "stop {} {} shutdown", who.cpu.0, who.seq),
+        StopCause::Shutdown => put_verb(out, "stop", who, &[Word::Text("shutdown")]),
         StopCause::Panic(frame) => {
-            writeln!(out, "stop {} {} panic {}", who.cpu.0, who.seq, frame.0)
+            let frame = Word::Number(frame.0 as u64);
+            put_verb(out, "stop", who, &[Word::Text("panic"), frame])
         }
     }
-}
-
-fn put_graded(
-    out: &mut String,
-    bank: u8,
-    status: u64,
-    mcg: McgBits,
-    mode: Mode,
-) -> Result<(), OutOfMemory>
-    ensures { OnOk result (string_bytes out.new ≡ string_bytes out.old ++ line (graded_words bank status mcg mode)) }
-{
-    let ripv = flag_number(mcg.ripv);
-    let eipv = flag_number(mcg.eipv);
-    let mode = mode_word(mode);
-    writeln!(out, "{bank} {status:x} {ripv} {eipv} {mode}")
 }
 
 fn put_files(out: &mut String, files: &[u64]) -> Result<(), OutOfMemory>
@@ -111,7 +109,15 @@ fn put_files(out: &mut String, files: &[u64]) -> Result<(), OutOfMemory>
 fn put_file(out: &mut String, number: usize, lost: u64) -> Result<(), OutOfMemory>
     ensures { OnOk result (string_bytes out.new ≡ string_bytes out.old ++ flat_map line (file_lines number lost)) }
 {
-    writeln!(out, "file {number} lost {lost}")
+    put_line(
+        out,
+        Word::Text("file"),
+        &[
+            Word::Number(number as u64),
+            Word::Text("lost"),
+            Word::Number(lost),
+        ],
+    )
 }
 
 fn put_frames(out: &mut String, frames: &[FrameLine]) -> Result<(), OutOfMemory>
@@ -139,41 +145,43 @@ fn put_frame_head(out: &mut String, number: usize, frame: &FrameLine) -> Result<
         Whereabouts::Free => put_pageless(out, number, "free", bad, weak),
         Whereabouts::Kernel => put_pageless(out, number, "kernel", bad, weak),
         Whereabouts::Handled => put_pageless(out, number, "handled", bad, weak),
-        Whereabouts::Of(page) => put_holding(out, number, page, bad, weak),
+        Whereabouts::Of(page) => put_line(
+            out,
+            Word::Text("frame"),
+            &[
+                Word::Number(number as u64),
+                Word::Text("page"),
+                Word::Number(page.0 as u64),
+                Word::Text("bad"),
+                Word::Hex(bad.0),
+                Word::Text("weak"),
+                Word::Hex(weak.0),
+            ],
+        ),
     }
 }
 
 fn put_pageless(
     out: &mut String,
     number: usize,
-    state: &str,
+    state: &'static str,
     bad: Mask,
     weak: Mask,
 ) -> Result<(), OutOfMemory>
     ensures { OnOk result (string_bytes out.new ≡ string_bytes out.old
         ++ line (codes "frame" ∷ decimal number ∷ state.now ∷ codes "bad" ∷ hex bad.0 ∷ codes "weak" ∷ hex weak.0 ∷ [])) }
 {
-    writeln!(
+    put_line(
         out,
-        "frame {number} {state} bad {:x} weak {:x}",
-        bad.0, weak.0
-    )
-}
-
-fn put_holding(
-    out: &mut String,
-    number: usize,
-    page: Page,
-    bad: Mask,
-    weak: Mask,
-) -> Result<(), OutOfMemory>
-    ensures { OnOk result (string_bytes out.new ≡ string_bytes out.old
-        ++ line (codes "frame" ∷ decimal number ∷ codes "page" ∷ decimal page.0 ∷ codes "bad" ∷ hex bad.0 ∷ codes "weak" ∷ hex weak.0 ∷ [])) }
-{
-    writeln!(
-        out,
-        "frame {number} page {} bad {:x} weak {:x}",
-        page.0, bad.0, weak.0
+        Word::Text("frame"),
+        &[
+            Word::Number(number as u64),
+            Word::Text(state),
+            Word::Text("bad"),
+            Word::Hex(bad.0),
+            Word::Text("weak"),
+            Word::Hex(weak.0),
+        ],
     )
 }
 
@@ -191,9 +199,15 @@ fn put_mark(out: &mut String, mark: MarkLine) -> Result<(), OutOfMemory>
 {
     match mark {
         MarkLine::Poisoned { cycle, who, how } => put_poisoned(out, cycle, who, how),
-        MarkLine::Unpoisoned { cycle, who } => {
-            writeln!(out, "unpoisoned {cycle} {} {}", who.cpu.0, who.seq)
-        }
+        MarkLine::Unpoisoned { cycle, who } => put_line(
+            out,
+            Word::Text("unpoisoned"),
+            &[
+                Word::Number(cycle as u64),
+                Word::Number(who.cpu.0 as u64),
+                Word::Number(who.seq as u64),
+            ],
+        ),
     }
 }
 
@@ -214,10 +228,17 @@ fn put_poisoned(out: &mut String, cycle: u32, who: Who, how: How) -> Result<(), 
         How::Moved => ("soft", "moved", "recovered"),
         How::TakenFree => ("soft", "free", "recovered"),
     };
-    writeln!(
+    put_line(
         out,
-        "poisoned {cycle} {} {} {origin} {situation} {outcome}",
-        who.cpu.0, who.seq
+        Word::Text("poisoned"),
+        &[
+            Word::Number(cycle as u64),
+            Word::Number(who.cpu.0 as u64),
+            Word::Number(who.seq as u64),
+            Word::Text(origin),
+            Word::Text(situation),
+            Word::Text(outcome),
+        ],
     )
 }
 
@@ -233,7 +254,9 @@ fn put_pages(out: &mut String, pages: &[List<Entry>]) -> Result<(), OutOfMemory>
 fn put_page(out: &mut String, number: usize, entries: &[Entry]) -> Result<(), OutOfMemory>
     ensures { OnOk result (string_bytes out.new ≡ string_bytes out.old ++ flat_map line (page_lines number entries.now)) }
 {
-    writeln!(out, "page {number} {}", entries.len())?;
+    let number = Word::Number(number as u64);
+    let count = Word::Number(entries.len() as u64);
+    put_line(out, Word::Text("page"), &[number, count])?;
     put_entries(out, entries)
 }
 
@@ -249,6 +272,8 @@ fn put_cpus(out: &mut String, cpus: &[List<CpuLine>]) -> Result<(), OutOfMemory>
 fn put_cpu(out: &mut String, number: usize, lines: &[CpuLine]) -> Result<(), OutOfMemory>
     ensures { OnOk result (string_bytes out.new ≡ string_bytes out.old ++ flat_map line (cpu_lines number lines.now)) }
 {
-    writeln!(out, "cpu {number} {}", lines.len())?;
+    let number = Word::Number(number as u64);
+    let count = Word::Number(lines.len() as u64);
+    put_line(out, Word::Text("cpu"), &[number, count])?;
     put_cpu_lines(out, lines)
 }

@@ -1,12 +1,13 @@
-ghost use Rattle.std.specs.Prelude.{◌≡◌, ◌∷◌, [], ◌++◌, OnOk, string_bytes, codes, decimal, map};
+ghost use Rattle.std.specs.Prelude.{◌≡◌, ◌∷◌, ◌++◌, OnOk, string_bytes, decimal, map};
 ghost use Rattle.std.specs.List.{flat_map};
-ghost use Rattle.hwp_page.specs.hwp_geom.Words.{line, hex};
-ghost use Rattle.hwp_report_text.specs.ReportText.{answer_words, cpu_line_words, event_words, guest_words, offlined_words, placed};
-ghost use Rattle.hwp_report_text.specs.Sayings.{said_words};
+ghost use Rattle.hwp_page.specs.hwp_geom.Words.{line};
+ghost use Rattle.hwp_report_text.specs.ReportText.{answer_words, cpu_line_words, event_words, guest_words, offlined_words};
+ghost use Rattle.hwp_report_text.specs.Sayings.{line_end, said_words};
 
-use crate::lines::{Answer, CpuLine, EventLine, GuestLine, OfflineResult, OfflinedLine};
+use crate::lines::{Answer, CpuLine, EventLine, GuestLine, OfflinedLine};
+use crate::printing::words::{Word, put_line, put_rest, put_word, put_words};
 use crate::terms::{acted_word, guest_word};
-use hwp_page::{At, Frame, Mask, OutOfMemory};
+use hwp_page::{At, Mask, OutOfMemory};
 
 /// The lines below a processor.
 pub(crate) fn put_cpu_lines(out: &mut String, lines: &[CpuLine]) -> Result<(), OutOfMemory>
@@ -32,84 +33,53 @@ fn put_cpu_line(out: &mut String, item: CpuLine) -> Result<(), OutOfMemory>
 fn put_event(out: &mut String, event: EventLine) -> Result<(), OutOfMemory>
     ensures { OnOk result (string_bytes out.new ≡ string_bytes out.old ++ line (event_words event)) }
 {
-    let EventLine {
-        seq,
-        bank,
-        status,
-        addr,
-        misc,
-        row,
-        acted,
-    } = event;
-    let acted = acted_word(acted);
-    writeln!(
+    let acted = acted_word(event.acted);
+    put_line(
         out,
-        "{seq} event {bank} {status:x} {addr:x} {misc:x} S{row} {acted}"
+        Word::Number(event.seq as u64),
+        &[
+            Word::Text("event"),
+            Word::Number(event.bank as u64),
+            Word::Hex(event.status),
+            Word::Hex(event.addr),
+            Word::Hex(event.misc),
+            Word::Row(event.row),
+            Word::Text(acted),
+        ],
     )
 }
 
 fn put_guest(out: &mut String, guest: GuestLine) -> Result<(), OutOfMemory>
     ensures { OnOk result (string_bytes out.new ≡ string_bytes out.old ++ line (guest_words guest)) }
 {
-    let GuestLine {
-        seq,
-        bank,
-        status,
-        addr,
-        misc,
-        row,
-        stops,
-    } = guest;
-    let outcome = guest_word(stops);
-    writeln!(
+    let outcome = guest_word(guest.stops);
+    put_line(
         out,
-        "{seq} guest {bank} {status:x} {addr:x} {misc:x} S{row} {outcome}"
+        Word::Number(guest.seq as u64),
+        &[
+            Word::Text("guest"),
+            Word::Number(guest.bank as u64),
+            Word::Hex(guest.status),
+            Word::Hex(guest.addr),
+            Word::Hex(guest.misc),
+            Word::Row(guest.row),
+            Word::Text(outcome),
+        ],
     )
 }
 
 fn put_offlined(out: &mut String, offlined: OfflinedLine) -> Result<(), OutOfMemory>
     ensures { OnOk result (string_bytes out.new ≡ string_bytes out.old ++ line (offlined_words offlined)) }
 {
-    let OfflinedLine { seq, frame, result } = offlined;
-    match result {
-        OfflineResult::Moved(to, at) => put_offlined_moved(out, seq, frame, to, at),
-        OfflineResult::TakenFree => put_offlined_word(out, seq, frame, "takenfree"),
-        OfflineResult::Already => put_offlined_word(out, seq, frame, "already"),
-        OfflineResult::HasBad(mask) => {
-            writeln!(out, "{seq} offlined {} hasbad {:x}", frame.0, mask.0)
-        }
-        OfflineResult::NoFrame => put_offlined_word(out, seq, frame, "noframe"),
-        OfflineResult::Stopped => put_offlined_word(out, seq, frame, "stopped"),
-    }
-}
-
-fn put_offlined_word(
-    out: &mut String,
-    seq: u32,
-    frame: Frame,
-    word: &str,
-) -> Result<(), OutOfMemory>
-    ensures { OnOk result (string_bytes out.new ≡ string_bytes out.old
-        ++ line (decimal seq ∷ codes "offlined" ∷ decimal frame.0 ∷ word.now ∷ [])) }
-{
-    writeln!(out, "{seq} offlined {} {word}", frame.0)
-}
-
-fn put_offlined_moved(
-    out: &mut String,
-    seq: u32,
-    frame: Frame,
-    to: Frame,
-    at: At,
-) -> Result<(), OutOfMemory>
-    ensures { OnOk result (string_bytes out.new ≡ string_bytes out.old
-        ++ line (decimal seq ∷ codes "offlined" ∷ decimal frame.0 ∷ codes "moved" ∷ decimal to.0 ∷ decimal at.page.0 ∷ decimal at.entry ∷ [])) }
-{
-    writeln!(
+    put_word(out, Word::Number(offlined.seq as u64))?;
+    put_words(
         out,
-        "{seq} offlined {} moved {} {} {}",
-        frame.0, to.0, at.page.0, at.entry
-    )
+        &[
+            Word::Text("offlined"),
+            Word::Number(offlined.frame.0 as u64),
+        ],
+    )?;
+    put_said(out, said_of(offlined.result.answer()))
 }
 
 /// The word of an answer, with what stands behind it.
@@ -166,62 +136,42 @@ fn said_of(answer: Answer) -> Said
 fn put_answer(out: &mut String, seq: u32, answer: Answer) -> Result<(), OutOfMemory>
     ensures { OnOk result (string_bytes out.new ≡ string_bytes out.old ++ line (decimal seq ∷ answer_words answer)) }
 {
-    match said_of(answer) {
-        Said::Word(word) => put_word(out, seq, word),
-        Said::Number(word, number) => put_number(out, seq, word, number),
-        Said::Hex(word, mask) => put_hex(out, seq, word, mask),
-        Said::Place(word, at) => put_place(out, seq, word, at),
-        Said::NumberPlace(word, number, at) => put_number_place(out, seq, word, number, at),
-        Said::HexPlace(word, mask, at) => put_hex_place(out, seq, word, mask, at),
+    put_word(out, Word::Number(seq as u64))?;
+    put_said(out, said_of(answer))
+}
+
+fn put_said(out: &mut String, said: Said) -> Result<(), OutOfMemory>
+    ensures { OnOk result (string_bytes out.new ≡ string_bytes out.old ++ line_end (said_words said)) }
+{
+    match said {
+        Said::Word(word) => put_rest(out, &[Word::Text(word)]),
+        Said::Number(word, number) => put_rest(out, &[Word::Text(word), Word::Number(number)]),
+        Said::Hex(word, mask) => put_rest(out, &[Word::Text(word), Word::Hex(mask.0)]),
+        Said::Place(word, at) => put_rest(
+            out,
+            &[
+                Word::Text(word),
+                Word::Number(at.page.0 as u64),
+                Word::Number(at.entry),
+            ],
+        ),
+        Said::NumberPlace(word, number, at) => put_rest(
+            out,
+            &[
+                Word::Text(word),
+                Word::Number(number),
+                Word::Number(at.page.0 as u64),
+                Word::Number(at.entry),
+            ],
+        ),
+        Said::HexPlace(word, mask, at) => put_rest(
+            out,
+            &[
+                Word::Text(word),
+                Word::Hex(mask.0),
+                Word::Number(at.page.0 as u64),
+                Word::Number(at.entry),
+            ],
+        ),
     }
-}
-
-fn put_word(out: &mut String, seq: u32, word: &str) -> Result<(), OutOfMemory>
-    ensures { OnOk result (string_bytes out.new ≡ string_bytes out.old ++ line (decimal seq ∷ word.now ∷ [])) }
-{
-    writeln!(out, "{seq} {word}")
-}
-
-fn put_number(out: &mut String, seq: u32, word: &str, number: u64) -> Result<(), OutOfMemory>
-    ensures { OnOk result (string_bytes out.new ≡ string_bytes out.old ++ line (decimal seq ∷ word.now ∷ decimal number ∷ [])) }
-{
-    writeln!(out, "{seq} {word} {number}")
-}
-
-fn put_hex(out: &mut String, seq: u32, word: &str, mask: Mask) -> Result<(), OutOfMemory>
-    ensures { OnOk result (string_bytes out.new ≡ string_bytes out.old ++ line (decimal seq ∷ word.now ∷ hex mask.0 ∷ [])) }
-{
-    writeln!(out, "{seq} {word} {:x}", mask.0)
-}
-
-fn put_place(out: &mut String, seq: u32, word: &str, at: At) -> Result<(), OutOfMemory>
-    ensures { OnOk result (string_bytes out.new ≡ string_bytes out.old ++ line (decimal seq ∷ placed word.now at)) }
-{
-    writeln!(out, "{seq} {word} {} {}", at.page.0, at.entry)
-}
-
-fn put_number_place(
-    out: &mut String,
-    seq: u32,
-    word: &str,
-    number: u64,
-    at: At,
-) -> Result<(), OutOfMemory>
-    ensures { OnOk result (string_bytes out.new ≡ string_bytes out.old
-        ++ line (decimal seq ∷ word.now ∷ decimal number ∷ decimal at.page.0 ∷ decimal at.entry ∷ [])) }
-{
-    writeln!(out, "{seq} {word} {number} {} {}", at.page.0, at.entry)
-}
-
-fn put_hex_place(
-    out: &mut String,
-    seq: u32,
-    word: &str,
-    mask: Mask,
-    at: At,
-) -> Result<(), OutOfMemory>
-    ensures { OnOk result (string_bytes out.new ≡ string_bytes out.old
-        ++ line (decimal seq ∷ word.now ∷ hex mask.0 ∷ decimal at.page.0 ∷ decimal at.entry ∷ [])) }
-{
-    writeln!(out, "{seq} {word} {:x} {} {}", mask.0, at.page.0, at.entry)
 }

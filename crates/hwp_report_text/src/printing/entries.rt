@@ -1,13 +1,12 @@
 ghost use Rattle.std.specs.Prelude.{◌≡◌, ◌∷◌, [], ◌++◌, OnOk, string_bytes, codes, decimal, map};
 ghost use Rattle.std.specs.List.{flat_map};
-ghost use Rattle.hwp_page.specs.hwp_geom.Words.{line, hex};
+ghost use Rattle.hwp_page.specs.hwp_geom.Words.{line};
 ghost use Rattle.hwp_report_text.specs.Terms.{situation_word as situation_text};
 ghost use Rattle.hwp_report_text.specs.ReportText.{entry_lines, met_words, required_words, seen_words, signal_words, verb_words};
 
+use crate::printing::words::{Word, put_line, put_verb};
 use crate::terms::{code_word, policy_word, situation_word};
-use hwp_page::{
-    Entry, Line, Mask, Met, OutOfMemory, Seen, Signal, Situation, Thread, VSlot, What, Who,
-};
+use hwp_page::{Entry, Line, Met, OutOfMemory, Seen, Signal, Situation, Thread, VSlot, What, Who};
 
 /// The lines below a page.
 pub(crate) fn put_entries(out: &mut String, entries: &[Entry]) -> Result<(), OutOfMemory>
@@ -26,20 +25,22 @@ fn put_entry(out: &mut String, entry: &Entry) -> Result<(), OutOfMemory>
     match &entry.what {
         What::Load { slot, line, met } => put_access(out, "load", who, *slot, *line, *met),
         What::Store { slot, line, met } => put_access(out, "store", who, *slot, *line, *met),
-        What::FaultIn => put_verb(out, "in", who),
-        What::Map { slot } => put_slot(out, "map", who, *slot),
-        What::Free { slot } => put_slot(out, "free", who, *slot),
-        What::Drop => put_verb(out, "drop", who),
-        What::Sync => put_verb(out, "sync", who),
-        What::Out => put_verb(out, "out", who),
-        What::Mce { slot, line, mask } => {
-            let line = line.get();
-            writeln!(
-                out,
-                "mce {} {} {} {line} {:x}",
-                who.cpu.0, who.seq, slot.0, mask.0
-            )
-        }
+        What::FaultIn => put_verb(out, "in", who, &[]),
+        What::Map { slot } => put_verb(out, "map", who, &[Word::Number(slot.0 as u64)]),
+        What::Free { slot } => put_verb(out, "free", who, &[Word::Number(slot.0 as u64)]),
+        What::Drop => put_verb(out, "drop", who, &[]),
+        What::Sync => put_verb(out, "sync", who, &[]),
+        What::Out => put_verb(out, "out", who, &[]),
+        What::Mce { slot, line, mask } => put_verb(
+            out,
+            "mce",
+            who,
+            &[
+                Word::Number(slot.0 as u64),
+                Word::Number(line.get() as u64),
+                Word::Hex(mask.0),
+            ],
+        ),
         What::Fail {
             situation,
             required,
@@ -52,25 +53,13 @@ fn put_entry(out: &mut String, entry: &Entry) -> Result<(), OutOfMemory>
             put_seen_lines(out, seen)?;
             put_signal_lines(out, signals)
         }
-        What::Soft => put_verb(out, "soft", who),
+        What::Soft => put_verb(out, "soft", who, &[]),
     }
-}
-
-fn put_verb(out: &mut String, verb: &str, who: Who) -> Result<(), OutOfMemory>
-    ensures { OnOk result (string_bytes out.new ≡ string_bytes out.old ++ line (verb_words verb.now who [])) }
-{
-    writeln!(out, "{verb} {} {}", who.cpu.0, who.seq)
-}
-
-fn put_slot(out: &mut String, verb: &str, who: Who, slot: VSlot) -> Result<(), OutOfMemory>
-    ensures { OnOk result (string_bytes out.new ≡ string_bytes out.old ++ line (verb_words verb.now who (decimal slot.0 ∷ []))) }
-{
-    writeln!(out, "{verb} {} {} {}", who.cpu.0, who.seq, slot.0)
 }
 
 fn put_access(
     out: &mut String,
-    verb: &str,
+    verb: &'static str,
     who: Who,
     slot: VSlot,
     at: Line,
@@ -79,49 +68,27 @@ fn put_access(
     ensures { OnOk result (string_bytes out.new ≡ string_bytes out.old
         ++ line (verb_words verb.now who (decimal slot.0 ∷ decimal at ∷ met_words met))) }
 {
+    let slot = Word::Number(slot.0 as u64);
+    let at = Word::Number(at.get() as u64);
     match met {
-        Met::Word { mask, word } => put_word(out, verb, who, slot, at, mask, word),
-        Met::Sigbus { thread } => put_sigbus(out, verb, who, slot, at, thread),
+        Met::Word { mask, word } => put_verb(
+            out,
+            verb,
+            who,
+            &[slot, at, Word::Hex(mask.0), Word::Number(word)],
+        ),
+        Met::Sigbus { thread } => put_verb(
+            out,
+            verb,
+            who,
+            &[
+                slot,
+                at,
+                Word::Text("sigbus"),
+                Word::Number(thread.0 as u64),
+            ],
+        ),
     }
-}
-
-fn put_word(
-    out: &mut String,
-    verb: &str,
-    who: Who,
-    slot: VSlot,
-    at: Line,
-    mask: Mask,
-    word: u64,
-) -> Result<(), OutOfMemory>
-    ensures { OnOk result (string_bytes out.new ≡ string_bytes out.old
-        ++ line (verb_words verb.now who (decimal slot.0 ∷ decimal at ∷ hex mask.0 ∷ decimal word ∷ []))) }
-{
-    let at = at.get();
-    writeln!(
-        out,
-        "{verb} {} {} {} {at} {:x} {word}",
-        who.cpu.0, who.seq, slot.0, mask.0
-    )
-}
-
-fn put_sigbus(
-    out: &mut String,
-    verb: &str,
-    who: Who,
-    slot: VSlot,
-    at: Line,
-    thread: Thread,
-) -> Result<(), OutOfMemory>
-    ensures { OnOk result (string_bytes out.new ≡ string_bytes out.old
-        ++ line (verb_words verb.now who (decimal slot.0 ∷ decimal at ∷ codes "sigbus" ∷ decimal thread.0 ∷ []))) }
-{
-    let at = at.get();
-    writeln!(
-        out,
-        "{verb} {} {} {} {at} sigbus {}",
-        who.cpu.0, who.seq, slot.0, thread.0
-    )
 }
 
 fn put_failure(
@@ -135,22 +102,28 @@ fn put_failure(
     ensures { OnOk result (string_bytes out.new ≡ string_bytes out.old
         ++ line (verb_words (codes "fail") who (situation_text situation ∷ (required_words required ++ decimal seen ∷ decimal signals ∷ [])))) }
 {
-    let situation = situation_word(situation);
+    let situation = Word::Text(situation_word(situation));
+    let seen = Word::Number(seen as u64);
+    let signals = Word::Number(signals as u64);
     match required {
-        Some(thread) => {
-            writeln!(
-                out,
-                "fail {} {} {situation} req {} {seen} {signals}",
-                who.cpu.0, who.seq, thread.0
-            )
-        }
-        None => {
-            writeln!(
-                out,
-                "fail {} {} {situation} opt - {seen} {signals}",
-                who.cpu.0, who.seq
-            )
-        }
+        Some(thread) => put_verb(
+            out,
+            "fail",
+            who,
+            &[
+                situation,
+                Word::Text("req"),
+                Word::Number(thread.0 as u64),
+                seen,
+                signals,
+            ],
+        ),
+        None => put_verb(
+            out,
+            "fail",
+            who,
+            &[situation, Word::Text("opt"), Word::Text("-"), seen, signals],
+        ),
     }
 }
 
@@ -167,7 +140,15 @@ fn put_seen(out: &mut String, seen: Seen) -> Result<(), OutOfMemory>
     ensures { OnOk result (string_bytes out.new ≡ string_bytes out.old ++ line (seen_words seen)) }
 {
     let policy = policy_word(seen.policy);
-    writeln!(out, "seen {} {policy} {}", seen.thread.0, seen.n)
+    put_line(
+        out,
+        Word::Text("seen"),
+        &[
+            Word::Number(seen.thread.0 as u64),
+            Word::Text(policy),
+            Word::Number(seen.n as u64),
+        ],
+    )
 }
 
 fn put_signal_lines(out: &mut String, lines: &[Signal]) -> Result<(), OutOfMemory>
@@ -183,9 +164,14 @@ fn put_signal(out: &mut String, signal: Signal) -> Result<(), OutOfMemory>
     ensures { OnOk result (string_bytes out.new ≡ string_bytes out.old ++ line (signal_words signal)) }
 {
     let code = code_word(signal.code);
-    writeln!(
+    put_line(
         out,
-        "signal {} {} {code} {}",
-        signal.process.0, signal.thread.0, signal.slot.0
+        Word::Text("signal"),
+        &[
+            Word::Number(signal.process.0 as u64),
+            Word::Number(signal.thread.0 as u64),
+            Word::Text(code),
+            Word::Number(signal.slot.0 as u64),
+        ],
     )
 }
