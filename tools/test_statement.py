@@ -20,8 +20,8 @@ KNOWN = (
     ("hwp_script_lines", "Grammar", "form_words"),
     ("hwp_script_read", "Reads", "Reads"),
     ("hwp_report_text", "ReportText", "report_text"),
-    ("hwp_top_turns", "Runs", "IsCoreRun"),
-    ("hwp_top_turns", "Runs", "IsTableRun"),
+    ("hwp_top", "Runs", "IsCoreRun"),
+    ("hwp_top", "Runs", "IsTableRun"),
     ("hwp_core_rule", "Rule", "FrameRule"),
     ("hwp_core_rule", "parts.Handled", "HandledIsPoisoned"),
     ("hwp_core_rule", "Known", "Saw"),
@@ -59,7 +59,7 @@ class Statement(unittest.TestCase):
         cls.report = cls.tree.reach(program.REPORT)
 
     def test_has_what_it_names(self) -> None:
-        self.assertEqual([place for place, _ in self.roots], ["hwp_top_step/src/calls.rt"])
+        self.assertEqual([place for place, _ in self.roots], ["hwp_top/src/calls.rt"])
         self.assertEqual([d for d in KNOWN if d not in self.defs], [])
 
     def test_levels(self) -> None:

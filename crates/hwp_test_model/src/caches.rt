@@ -9,7 +9,7 @@ ghost use Rattle.hwp_tlb.specs.hwp_table_words.Seats.{IsTableOf};
 use crate::checking::check;
 use hwp_script_read::{List, Script, read};
 use hwp_tlb::{OfTable, TlbBoard, TlbCounts, TlbPass, TlbSeat, TlbShared, begin};
-use hwp_top_turns::play;
+use hwp_top::play;
 use std::alloc::Global;
 use std::marker::Brand;
 use std::process::Abort;

@@ -4,7 +4,7 @@ ghost use Rattle.std.specs.Prelude.{◌<◌};
 
 use crate::checking::check;
 use hwp_io::{MemSink, MemSource};
-use hwp_top_step::top;
+use hwp_top::top;
 use std::alloc::Global;
 use std::process::Abort;
 

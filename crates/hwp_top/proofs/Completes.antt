@@ -1,57 +1,103 @@
--- Every script is served: where a source gives the text of one, and no read and no write fails, `run` and `run tlb` end with the whole
--- report, or are out of memory, if they end. That follows from the clauses of the top call for runs on threads.
-use Rattle.std.proofs.Common.{◌≡◌, ◌⊎◌, inl, inr, ℕ, zero, suc, ◌<◌, List, [], ◌∷◌, Option, Some, None, length, slice_index_or, refl, sym, true≢false, ap, ◌∙◌, subst, arith}
+-- Every script is served: where a source gives the text of one, and no read and no write fails, `step` and `step tlb` end with the
+-- whole report, or are out of memory. That follows from the clauses of the top call.
+use Rattle.std.proofs.Common.{◌≡◌, ◌⊎◌, inl, inr, ℕ, zero, suc, ◌+◌, ◌<◌, ◌≤◌, List, [], ◌∷◌, ◌++◌, Option, Some, None, length, slice_index_or, append-nil, refl, sym, true≢false, ap, ◌∙◌, subst, arith}
 use Rattle.std.specs.Prelude.{Bool, true, false, not, Contains, IsTrue}
-use Rattle.std.specs.Io.KnownBytes.{Appends}
-use Rattle.hwp_top_threads.specs.hwp_script_read.Reads.{Reads}
-use Rattle.hwp_top_threads.specs.hwp_script_read.declared.Refused.{Refused}
-use Rattle.hwp_top_threads.specs.hwp_script_read.declared.Script.{Script}
-use Rattle.hwp_top_threads.proofs.of_hwp_script_read.OneScript.{one_script}
-use Rattle.hwp_top_threads.specs.hwp_report_text.declared.Report.{Report}
-use Rattle.hwp_top_threads.specs.hwp_table_words.Ends.{EndValue}
-use Rattle.hwp_top_threads.specs.hwp_top_turns.hwp_top_report.Caches.{IsCachedEnd}
-use Rattle.hwp_top_step.specs.Outputs.{tlb_entries}
-use Rattle.hwp_top_step.specs.Serving.{end_at}
-use Rattle.hwp_top_step.specs.Top.{IsDone, Refuses}
-use Rattle.hwp_top_step.proofs.Completes.{all-given, unrefused}
-use Rattle.hwp_top.specs.Serving.{HasReported}
-use Rattle.hwp_top.specs.Top.{IsNoRun, IsReportOfThreads, IsRun, IsThreaded, IsThreadedCall, IsThreadedOf}
+use Rattle.std.specs.Io.KnownBytes.{Appends, Consumes, IsAtEnd}
+use Rattle.std.proofs.lemmas.List.{length-append}
+use Rattle.hwp_script.specs.hwp_script_read.Reads.{IsRefused, IsRefusedFor, Reads}
+use Rattle.hwp_script.specs.hwp_script_read.Reasons.{number}
+use Rattle.hwp_script.specs.hwp_script_read.declared.Refused.{Refused}
+use Rattle.hwp_script.specs.hwp_script_read.declared.Script.{Script}
+use Rattle.hwp_script.specs.hwp_script_read.declared.Why.{Why}
+use Rattle.hwp_script.specs.hwp_script_read.declared.Why.TheVariants as whys
+use Rattle.hwp_script.proofs.of_hwp_script_read.OneScript.{one_script}
+use Rattle.hwp_script.proofs.of_hwp_script_read.ReadLaws.{apart}
+use Rattle.hwp_report.specs.hwp_report_text.declared.Report.{Report}
+use Rattle.hwp_table_words.specs.Ends.{EndValue}
+use Rattle.hwp_top_report.specs.Caches.{IsCachedEnd}
+use Rattle.hwp_top.specs.declared.served.Call.{Call}
+use Rattle.hwp_top.specs.declared.served.Call.TheVariants as calls
+use Rattle.hwp_top.specs.Calls.{IsCall, IsNoCall, IsStep}
+use Rattle.hwp_top.specs.Outputs.{IsOutput, IsOutputOf, IsRefusedCall, IsRefusedFor as IsRefusedAt, IsStepped, tlb_entries}
+use Rattle.hwp_top.specs.Serving.{HasReported, end_at}
+use Rattle.hwp_top.specs.Top.{IsDone, IsReportOfRun, Refuses}
 
--- the parts of an output of `run`, or of `run tlb`
+-- a source that is at its end gave all that it had
+pub all-given : (had : List ℕ) (left : Option (List ℕ)) (bytes : List ℕ) → Consumes (Some had) left bytes → IsAtEnd left → had ≡ bytes
+all-given had None bytes consumed end = absurd consumed
+all-given had (Some rest) bytes consumed end = consumed ∙ ap (λ (l : List ℕ). bytes ++ l) end ∙ append-nil bytes
+
+-- and never gives more
+no-more : (had : List ℕ) (left : Option (List ℕ)) (bytes : List ℕ) → Consumes (Some had) left bytes → length bytes ≤ length had
+no-more had None bytes consumed = absurd consumed
+no-more had (Some rest) bytes consumed =
+    let whole : length had ≡ length (bytes ++ rest) = ap (λ (l : List ℕ). length l) consumed in
+    let parts : length (bytes ++ rest) ≡ length bytes + length rest = length-append bytes rest in omega arith
+
+-- the text of a script is not refused
+pub unrefused : (had : List ℕ) (script : Script) (left : Option (List ℕ)) (r : Refused) → Reads had script → Refuses (Some had) left r → ⊥
+unrefused had script left r reads refuses = which r.why refl refuses.refusal.reason
+  where
+    which : (w : Why) → r.why ≡ w → IsRefusedFor refuses.bytes r w → ⊥
+    which whys.TooLong is reason = omega (arith, reason.1, reads.short, no-more had left refuses.bytes refuses.consumed)
+    which w is reason =
+        let same : had ≡ refuses.bytes = all-given had left refuses.bytes refuses.consumed (refuses.whole (λ (long : r.why ≡ whys.TooLong). omega (arith, ap number (sym is ∙ long)))) in
+        apart had r script (subst (λ (l : List ℕ). IsRefused l r) (sym same) refuses.refusal) reads
+
+-- the call of `step`, and of `step tlb`
+abbrev step-call : Bool → Call
+step-call false = calls.Step
+step-call true = calls.StepTlb
+
+-- the words ask for no other
+step-alone : (caches : Bool) (words : List (List ℕ)) (call : Call) → IsStep words caches → IsCall words call → call ≡ step-call caches
+step-alone false words calls.Step step asked = refl
+step-alone false words calls.StepTlb step asked = absurd (omega (arith, ap (λ (l : List (List ℕ)). length l) (sym step ∙ asked)))
+step-alone false words calls.Check step asked = absurd (omega (arith, ap (λ (l : List (List ℕ)). length (slice_index_or l 0 [])) (sym step ∙ asked)))
+step-alone false words (calls.Gen seed) step asked = absurd (omega (arith, ap (λ (l : List (List ℕ)). length l) (sym step ∙ asked.0)))
+step-alone false words (calls.Sum seed) step asked = absurd (omega (arith, ap (λ (l : List (List ℕ)). length l) (sym step ∙ asked.0)))
+step-alone true words calls.StepTlb step asked = refl
+step-alone true words calls.Step step asked = absurd (omega (arith, ap (λ (l : List (List ℕ)). length l) (sym step ∙ asked)))
+step-alone true words calls.Check step asked = absurd (omega (arith, ap (λ (l : List (List ℕ)). length l) (sym step ∙ asked)))
+step-alone true words (calls.Gen seed) step asked = absurd (omega (arith, ap (λ (l : List (List ℕ)). length (slice_index_or l 0 [])) (sym step ∙ asked.0)))
+step-alone true words (calls.Sum seed) step asked = absurd (omega (arith, ap (λ (l : List (List ℕ)). length (slice_index_or l 0 [])) (sym step ∙ asked.0)))
+
+step-asked : (caches : Bool) (words : List (List ℕ)) → IsStep words caches → IsCall words (step-call caches)
+step-asked false words step = step
+step-asked true words step = step
+
+not-refused-at : (caches : Bool) (left left' : Option (List ℕ)) (r : Refused) → IsRefusedAt (step-call caches) left left' r → Refuses left left' r
+not-refused-at false left left' r refused = refused
+not-refused-at true left left' r refused = refused
+
+-- the parts of an output of `step`, or of `step tlb`
 record IsRunOutput (caches : Bool) (left left' : Option (List ℕ)) (status : ℕ) (text : List ℕ) (report : Option Report) (ended tlb : Option EndValue) : Type 0 where
   it : Report
   given_is : report ≡ Some it
   end : EndValue
   closed_is : end_at caches ended tlb ≡ Some end
   other_is : end_at (not caches) ended tlb ≡ None
-  threaded : IsThreaded left left' status text it end
+  stepped : IsStepped left left' status text it end
   cached : IsTrue caches → IsCachedEnd tlb_entries end
 
-run-output : (caches : Bool) (left left' : Option (List ℕ)) (status : ℕ) (text : List ℕ) (report : Option Report) (ended tlb : Option EndValue) → IsThreadedOf caches left left' status text report ended tlb → IsRunOutput caches left left' status text report ended tlb
-run-output false left left' status text (Some it) (Some end) tlb o = record { it = it; given_is = refl; end = end; closed_is = refl; other_is = o.1; threaded = o.0; cached = λ (is : IsTrue false). absurd (true≢false (sym is)) }
+run-output : (caches : Bool) (left left' : Option (List ℕ)) (status : ℕ) (text : List ℕ) (report : Option Report) (ended tlb : Option EndValue) → IsOutputOf (step-call caches) left left' status text report ended tlb → IsRunOutput caches left left' status text report ended tlb
+run-output false left left' status text (Some it) (Some end) tlb o = record { it = it; given_is = refl; end = end; closed_is = refl; other_is = o.1; stepped = o.0; cached = λ (is : IsTrue false). absurd (true≢false (sym is)) }
 run-output false left left' status text (Some it) None tlb o = absurd o.0
 run-output false left left' status text None ended tlb o = absurd o.0
-run-output true left left' status text (Some it) ended (Some end) o = record { it = it; given_is = refl; end = end; closed_is = refl; other_is = o.1; threaded = o.0.threaded; cached = λ is. o.0.cached }
+run-output true left left' status text (Some it) ended (Some end) o = record { it = it; given_is = refl; end = end; closed_is = refl; other_is = o.1; stepped = o.0.stepped; cached = λ is. o.0.cached }
 run-output true left left' status text (Some it) ended None o = absurd o.0
 run-output true left left' status text None ended tlb o = absurd o.0
 
--- the words ask for one of both alone
-one-run : (words : List (List ℕ)) (a b : Bool) → IsRun words a → IsRun words b → a ≡ b
-one-run words false false one other = refl
-one-run words true true one other = refl
-one-run words false true one other = absurd (omega (arith, ap (λ (l : List (List ℕ)). length l) (sym one ∙ other)))
-one-run words true false one other = absurd (omega (arith, ap (λ (l : List (List ℕ)). length l) (sym one ∙ other)))
-
 module _ (caches : Bool) (words : List (List ℕ)) (had : List ℕ) (left taken taken' : Option (List ℕ)) (reads reads' writes writes' status : ℕ) (report : Option Report) (ended tlb : Option EndValue)
-    (statuses : Contains (0 ∷ 2 ∷ 3 ∷ 4 ∷ 5 ∷ 6 ∷ 8 ∷ []) status)
-    (done : IsDone status → (text : List ℕ) × IsThreadedCall words (Some had) left status text report ended tlb × Appends taken taken' text)
-    (usage : status ≡ 2 → IsNoRun words) (refused : status ≡ 3 → (r : Refused) × Refuses (Some had) left r)
+    (statuses : Contains (0 ∷ 1 ∷ 2 ∷ 3 ∷ 4 ∷ 5 ∷ 6 ∷ 8 ∷ []) status)
+    (done : IsDone status → (text : List ℕ) × IsOutput words (Some had) left status text report ended tlb × Appends taken taken' text)
+    (usage : status ≡ 2 → IsNoCall words) (refused : status ≡ 3 → (r : Refused) × IsRefusedCall words (Some had) left r)
     (read_fault : status ≡ 4 → reads < reads') (write_fault : status ≡ 5 → writes < writes')
-    (script : Script) (run : IsRun words caches) (is-text : Reads had script) where
+    (script : Script) (step : IsStep words caches) (is-text : Reads had script) where
   -- an output that is written
-  threaded : (text : List ℕ) → IsRunOutput caches (Some had) left status text report ended tlb → Appends taken taken' text → HasReported caches script taken taken' status report ended tlb
-  threaded text output written =
-      let reports = output.threaded.reports in
+  stepped : (text : List ℕ) → IsRunOutput caches (Some had) left status text report ended tlb → Appends taken taken' text → HasReported caches script taken taken' status report ended tlb
+  stepped text output written =
+      let reports = output.stepped.reports in
       let takes = reports.takes in
       let same : had ≡ takes.bytes = all-given had left takes.bytes takes.consumed takes.at_end in
       let one : reports.script ≡ script = one_script had script reports.script is-text (subst (λ (l : List ℕ). Reads l reports.script) (sym same) takes.reads) in
@@ -61,27 +107,34 @@ module _ (caches : Bool) (words : List (List ℕ)) (had : List ℕ) (left taken 
         end = output.end;
         closed_is = output.closed_is;
         other_is = output.other_is;
-        report_of = subst (λ (s : Script). IsReportOfThreads s output.it output.end) one reports.report_of;
+        report_of = subst (λ (s : Script). IsReportOfRun s output.it output.end) one reports.report_of;
         cached = output.cached;
-        status_is = output.threaded.status_is;
-        written = subst (Appends taken taken') output.threaded.text_is written;
+        status_is = output.stepped.status_is;
+        written = subst (Appends taken taken') output.stepped.text_is written;
       }
 
   served : IsDone status → HasReported caches script taken taken' status report ended tlb
   served is =
       let so = done is in
-      let output = subst (λ (c : Bool). IsThreadedOf c (Some had) left status so.0 report ended tlb) (one-run words so.1.caches caches so.1.asked run) so.1.output in
-      threaded so.0 (run-output caches (Some had) left status so.0 report ended tlb output) so.2
+      let output = subst (λ (call : Call). IsOutputOf call (Some had) left status so.0 report ended tlb) (step-alone caches words so.1.call step so.1.asked) so.1.output in
+      stepped so.0 (run-output caches (Some had) left status so.0 report ended tlb output) so.2
+
+  not-refused : status ≡ 3 → ⊥
+  not-refused is =
+      let so = refused is in
+      let at = subst (λ (call : Call). IsRefusedAt call (Some had) left so.0) (step-alone caches words so.1.call step so.1.asked) so.1.refuses in
+      unrefused had script left so.0 is-text (not-refused-at caches (Some had) left so.0 at)
 
   pub completes : (reads < reads' → ⊥) → (writes < writes' → ⊥) → HasReported caches script taken taken' status report ended tlb ⊎ (status ≡ 6)
   completes unread unwritten = by statuses.0 statuses.1 statuses.2
     where
-      by : (k : ℕ) → k < 7 → slice_index_or (0 ∷ 2 ∷ 3 ∷ 4 ∷ 5 ∷ 6 ∷ 8 ∷ []) k status ≡ status → HasReported caches script taken taken' status report ended tlb ⊎ (status ≡ 6)
+      by : (k : ℕ) → k < 8 → slice_index_or (0 ∷ 1 ∷ 2 ∷ 3 ∷ 4 ∷ 5 ∷ 6 ∷ 8 ∷ []) k status ≡ status → HasReported caches script taken taken' status report ended tlb ⊎ (status ≡ 6)
       by zero inside is = inl (served (inl (sym is)))
-      by (suc zero) inside is = absurd (usage (sym is) caches run)
-      by (suc (suc zero)) inside is = let so = refused (sym is) in absurd (unrefused had script left so.0 is-text so.1)
-      by (suc (suc (suc zero))) inside is = absurd (unread (read_fault (sym is)))
-      by (suc (suc (suc (suc zero)))) inside is = absurd (unwritten (write_fault (sym is)))
-      by (suc (suc (suc (suc (suc zero))))) inside is = inr (sym is)
-      by (suc (suc (suc (suc (suc (suc zero)))))) inside is = inl (served (inr (inr (sym is))))
-      by (suc (suc (suc (suc (suc (suc (suc k))))))) inside is = absurd (omega (arith, inside))
+      by (suc zero) inside is = inl (served (inr (inl (sym is))))
+      by (suc (suc zero)) inside is = absurd (usage (sym is) (step-call caches) (step-asked caches words step))
+      by (suc (suc (suc zero))) inside is = absurd (not-refused (sym is))
+      by (suc (suc (suc (suc zero)))) inside is = absurd (unread (read_fault (sym is)))
+      by (suc (suc (suc (suc (suc zero))))) inside is = absurd (unwritten (write_fault (sym is)))
+      by (suc (suc (suc (suc (suc (suc zero)))))) inside is = inr (sym is)
+      by (suc (suc (suc (suc (suc (suc (suc zero))))))) inside is = inl (served (inr (inr (sym is))))
+      by (suc (suc (suc (suc (suc (suc (suc (suc k)))))))) inside is = absurd (omega (arith, inside))

@@ -1,27 +1,84 @@
--- The statuses of the top call for runs on threads are those of its list.
-use Rattle.std.specs.Prelude.{◌≡◌, ℕ, Bool, true, false, List, ◌⊎◌, Option, Some, None}
-use Rattle.std.proofs.Common.{lit<, refl, subst, sym, ◌∙◌, inl, inr}
-use Rattle.hwp_top_threads.specs.hwp_report_text.declared.Report.{Report}
-use Rattle.hwp_top_threads.specs.hwp_table_words.Ends.{EndValue}
-use Rattle.hwp_top_step.specs.Top.{IsDone, done_status}
-use Rattle.hwp_top_step.proofs.Statuses.{RunStatus, report_is_done, report_is_run_status}
-use Rattle.hwp_top.specs.Top.{IsThreadedOf}
+-- The statuses of the top call are those of its list.
+use Rattle.std.specs.Prelude.{◌≡◌, ℕ, List, [], ◌∷◌, Contains, Bool, true, false, if◌then◌else◌, is_some, ◌⊎◌, Option, Some, None}
+use Rattle.std.proofs.Common.{lit<, refl, subst, sym, ◌∙◌, inl, inr, ◌≢◌}
+use Rattle.std.proofs.lemmas.Option.{none-some, same_Some}
+use Rattle.hwp_report.specs.hwp_report_text.declared.Report.{Report}
+use Rattle.hwp_table_words.specs.Ends.{EndValue}
+use Rattle.hwp_top.specs.declared.served.Call.{Call}
+use Rattle.hwp_top.specs.declared.served.Call.TheVariants as calls
+use Rattle.hwp_check.specs.hwp_check_rules.declared.verdicts.Verdict.{Verdict}
+use Rattle.hwp_check.specs.hwp_check_rules.declared.verdicts.Verdict.TheVariants as verdicts
+use Rattle.hwp_top.specs.Checked.{verdict_status}
+use Rattle.hwp_top.specs.Outputs.{IsOutputOf}
+use Rattle.hwp_top.specs.Top.{IsDone, done_status, told_text, write_fault_text}
 
-module _ (left left' : Option (List ℕ)) (status : ℕ) (text : List ℕ) where
-  -- the report of a run on threads: its status is that of a report that is written
-  has-status : (caches : Bool) (report : Option Report) (ended tlb : Option EndValue) → IsThreadedOf caches left left' status text report ended tlb → (r : Report) × (status ≡ done_status r)
-  has-status false (Some report) (Some ended) tlb o = (report, o.0.status_is)
-  has-status false (Some report) None tlb o = absurd o.0
-  has-status false None ended tlb o = absurd o.0
-  has-status true (Some report) ended (Some tlb) o = (report, o.0.threaded.status_is)
-  has-status true (Some report) ended None o = absurd o.0
-  has-status true None ended tlb o = absurd o.0
+abbrev Listed : ℕ → Type 0
+Listed n = Contains (0 ∷ 1 ∷ 2 ∷ 3 ∷ 4 ∷ 5 ∷ 6 ∷ 8 ∷ []) n
 
-  -- the output of `run`, or of `run tlb`, is of a call that is done
-  pub output-done : (caches : Bool) (report : Option Report) (ended tlb : Option EndValue) → IsThreadedOf caches left left' status text report ended tlb → IsDone status
-  output-done caches report ended tlb o = let so = has-status caches report ended tlb o in subst IsDone (sym so.1) (report_is_done so.0)
+done_is_listed : (n : ℕ) → IsDone n → Listed n
+done_is_listed n (inl zero) = subst Listed (sym zero) (0, lit< tt, refl)
+done_is_listed n (inr (inl one)) = subst Listed (sym one) (1, lit< tt, refl)
+done_is_listed n (inr (inr eight)) = subst Listed (sym eight) (7, lit< tt, refl)
 
-  -- and where it is written, whole or in part, the call ends with a status of the list
-  pub output-listed : (caches : Bool) (report : Option Report) (ended tlb : Option EndValue) (n : ℕ) → IsThreadedOf caches left left' status text report ended tlb → (n ≡ status) ⊎ (n ≡ 5) → RunStatus n
-  output-listed caches report ended tlb n o (inl whole) = let so = has-status caches report ended tlb o in subst RunStatus (sym (whole ∙ so.1)) (report_is_run_status so.0)
-  output-listed caches report ended tlb n o (inr cut) = subst RunStatus (sym cut) (4, lit< tt, refl)
+pub fault_is_listed : (n : ℕ) → (n ≡ 3) ⊎ ((n ≡ 4) ⊎ (n ≡ 6)) → Listed n
+fault_is_listed n (inl is) = subst Listed (sym is) (3, lit< tt, refl)
+fault_is_listed n (inr (inl is)) = subst Listed (sym is) (4, lit< tt, refl)
+fault_is_listed n (inr (inr is)) = subst Listed (sym is) (6, lit< tt, refl)
+
+pub report_is_done : (report : Report) → IsDone (done_status report)
+report_is_done report = by (is_some report.stop)
+  where
+    by : (stopped : Bool) → IsDone (if stopped then 8 else 0)
+    by true = inr (inr refl)
+    by false = inl refl
+
+verdict_is_done : (verdict : Verdict) → IsDone (verdict_status verdict)
+verdict_is_done verdicts.Legal = inl refl
+verdict_is_done (verdicts.Not line rule) = inr (inl refl)
+
+-- an output has the status of a call that is done
+pub output_is_done : (call : Call) (left left' : Option (List ℕ)) (status : ℕ) (text : List ℕ) (report : Option Report) (ended tlb : Option EndValue) → IsOutputOf call left left' status text report ended tlb → IsDone status
+output_is_done calls.Step left left' status text (Some report) (Some ended) tlb o = subst IsDone (sym o.0.status_is) (report_is_done report)
+output_is_done calls.Step left left' status text (Some report) None tlb o = absurd o.0
+output_is_done calls.Step left left' status text None ended tlb o = absurd o.0
+output_is_done calls.StepTlb left left' status text (Some report) ended (Some tlb) o = subst IsDone (sym o.0.stepped.status_is) (report_is_done report)
+output_is_done calls.StepTlb left left' status text (Some report) ended None o = absurd o.0
+output_is_done calls.StepTlb left left' status text None ended tlb o = absurd o.0
+output_is_done calls.Check left left' status text report ended tlb o = subst IsDone (sym o.0.status_is) (verdict_is_done o.0.verdict)
+output_is_done (calls.Gen seed) left left' status text report ended tlb o = inl o.1
+output_is_done (calls.Sum seed) left left' status text (Some report) (Some ended) tlb o = inl o.0.status_is
+output_is_done (calls.Sum seed) left left' status text (Some report) None tlb o = absurd o.0
+output_is_done (calls.Sum seed) left left' status text None ended tlb o = absurd o.0
+
+-- an output that is written, whole or in part, ends with a status of the list
+pub output_is_listed : (call : Call) (left left' : Option (List ℕ)) (status n : ℕ) (text : List ℕ) (report : Option Report) (ended tlb : Option EndValue) → IsOutputOf call left left' status text report ended tlb → (n ≡ status) ⊎ (n ≡ 5) → Listed n
+output_is_listed call left left' status n text report ended tlb o (inl whole) = subst Listed (sym whole) (done_is_listed status (output_is_done call left left' status text report ended tlb o))
+output_is_listed call left left' status n text report ended tlb o (inr cut) = subst Listed (sym cut) (5, lit< tt, refl)
+
+-- what is delivered is written, or a part of it is
+pub delivered_somehow : (status n : ℕ) → IsDone status → (n ≡ status) ⊎ (n ≡ 5) → (IsDone n → ⊥) → n ≢ 5 → ⊥
+delivered_somehow status n done (inl whole) not_done not_cut = not_done (subst IsDone (sym whole) done)
+delivered_somehow status n done (inr cut) not_done not_cut = not_cut cut
+
+-- the text that is told where a delivery fails is that of a failed write, and where it doesn't there is none
+pub told_of_delivery : (told : List ℕ → Type 0) (status n : ℕ) (text : List ℕ) → IsDone status → (n ≡ status) ⊎ (n ≡ 5) → (n ≡ 5 → told write_fault_text) → told_text n ≡ Some text → told text
+told_of_delivery told status n text (inl zero) (inl whole) cut is = absurd (none-some text (subst (λ (m : ℕ). told_text m ≡ Some text) (whole ∙ zero) is))
+told_of_delivery told status n text (inr (inl one)) (inl whole) cut is = absurd (none-some text (subst (λ (m : ℕ). told_text m ≡ Some text) (whole ∙ one) is))
+told_of_delivery told status n text (inr (inr eight)) (inl whole) cut is = absurd (none-some text (subst (λ (m : ℕ). told_text m ≡ Some text) (whole ∙ eight) is))
+told_of_delivery told status n text done (inr five) cut is = subst told (same_Some write_fault_text text (subst (λ (m : ℕ). told_text m ≡ Some text) five is)) (cut five)
+
+-- the statuses of a call that gives one run, by its report or its trace: all of the list but 1, which is a verdict's
+abbrev pub RunStatus : ℕ → Type 0
+RunStatus n = Contains (0 ∷ 2 ∷ 3 ∷ 4 ∷ 5 ∷ 6 ∷ 8 ∷ []) n
+
+pub fault_is_run_status : (n : ℕ) → (n ≡ 3) ⊎ ((n ≡ 4) ⊎ (n ≡ 6)) → RunStatus n
+fault_is_run_status n (inl is) = subst RunStatus (sym is) (2, lit< tt, refl)
+fault_is_run_status n (inr (inl is)) = subst RunStatus (sym is) (3, lit< tt, refl)
+fault_is_run_status n (inr (inr is)) = subst RunStatus (sym is) (5, lit< tt, refl)
+
+pub report_is_run_status : (report : Report) → RunStatus (done_status report)
+report_is_run_status report = by (is_some report.stop)
+  where
+    by : (stopped : Bool) → RunStatus (if stopped then 8 else 0)
+    by true = (6, lit< tt, refl)
+    by false = (0, lit< tt, refl)

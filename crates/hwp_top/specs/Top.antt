@@ -1,61 +1,96 @@
--- What `run` and `run tlb` write.
-use Rattle.std.specs.Prelude.{◌≡◌, ℕ, Bool, true, false, List, [], ◌∷◌, Option, None, codes}
-use Rattle.hwp_top_threads.specs.hwp_script_read.declared.Script.{Script}
-use Rattle.hwp_top_threads.specs.hwp_report_text.declared.Report.{Report}
-use Rattle.hwp_top_threads.specs.hwp_report_text.ReportText.{report_text}
-use Rattle.hwp_top_threads.specs.hwp_law.Law.{IsLawful}
-use Rattle.hwp_top_threads.specs.hwp_law.Runs.{IsOfRun}
-use Rattle.hwp_top_threads.specs.hwp_table_words.Ends.{EndValue}
-use Rattle.hwp_top_threads.specs.hwp_top_turns.hwp_top_report.Caches.{IsCachedEnd}
-use Rattle.hwp_top_threads.specs.Runs.{IsThreadRun}
-use Rattle.hwp_top_step.specs.Outputs.{HasRun, tlb_entries}
-use Rattle.hwp_top_step.specs.Top.{Takes, done_status}
+-- What the top call promises: of what was read, of what was written, and of each status.
+use Rattle.std.specs.Prelude.{◌≡◌, ◌≢◌, ◌<◌, ℕ, ◌++◌, ◌==◌, if◌then◌else◌, List, [], ◌∷◌, Option, Some, None, is_some, codes, decimal, ◌⊎◌}
+use Rattle.std.specs.Io.KnownBytes.{Appends, Consumes, IsAtEnd}
+use Rattle.hwp_script.specs.hwp_script_read.declared.Script.{Script}
+use Rattle.hwp_script.specs.hwp_script_read.declared.Refused.{Refused}
+use Rattle.hwp_script.specs.hwp_script_read.declared.Why.{Why}
+use Rattle.hwp_script.specs.hwp_script_read.declared.Why.TheVariants as whys
+use Rattle.hwp_script.specs.hwp_script_read.Reads.{Reads, IsRefused}
+use Rattle.hwp_report.specs.hwp_report_text.declared.Report.{Report}
+use Rattle.hwp_check.specs.hwp_law.Law.{IsLawful}
+use Rattle.hwp_check.specs.hwp_law.Runs.{IsOfRun}
+use Rattle.hwp_table_words.specs.Ends.{EndValue}
+use Rattle.hwp_top.specs.Runs.{IsCoreRun, IsTableRun}
 
--- the words ask for a run on threads, with translation caches or without
-abbrev pub IsRun : List (List ℕ) → Bool → Type 0
-IsRun words false = words ≡ codes "run" ∷ []
-IsRun words true = words ≡ codes "run" ∷ codes "tlb" ∷ []
+-- a source gave these bytes, and they are refused so: they are the text of no script; all reasons but the length need the whole input
+pub record Refuses (left left' : Option (List ℕ)) (refused : Refused) : Type 0 where
+  pub bytes : List ℕ
+  pub consumed : Consumes left left' bytes
+  pub whole : refused.why ≢ whys.TooLong → IsAtEnd left'
+  pub refusal : IsRefused bytes refused
 
--- the words ask for one or the other
-abbrev pub AsksRun : List (List ℕ) → Type 0
-AsksRun words = (caches : Bool) × IsRun words caches
+-- a source gave these bytes to its end, and they are the text of the script
+pub record Takes (left left' : Option (List ℕ)) (script : Script) : Type 0 where
+  pub bytes : List ℕ
+  pub consumed : Consumes left left' bytes
+  pub at_end : IsAtEnd left'
+  pub reads : Reads bytes script
 
--- the words ask for no run on threads
-abbrev pub IsNoRun : List (List ℕ) → Type 0
-IsNoRun words = (caches : Bool) → IsRun words caches → ⊥
-
--- the report is one of the script, and of a run of its processors, each on a thread of its own; and the table at which they made
--- that run was closed with this
-pub record IsReportOfThreads (script : Script) (report : Report) (ended : EndValue) : Type 0 where
+-- the report is one of the script, and keeps the law of reports
+pub record IsReportOf (script : Script) (report : Report) : Type 0 where
   pub run : IsOfRun script report
   pub lawful : IsLawful script report
-  pub threads : IsThreadRun script report ended
+
+-- the report is one of the script, and of a run of its processors on the written schedule; and the table at which they made that
+-- run was closed with this
+pub record IsReportOfRun (script : Script) (report : Report) (ended : EndValue) : Type 0 where
+  pub run : IsOfRun script report
+  pub lawful : IsLawful script report
+  pub core : IsCoreRun script report
+  pub table : IsTableRun script report ended
 
 -- the report is one of the script that a source gave
 pub record Reports (left left' : Option (List ℕ)) (report : Report) (ended : EndValue) : Type 0 where
   pub script : Script
   pub takes : Takes left left' script
-  pub report_of : IsReportOfThreads script report ended
+  pub report_of : IsReportOfRun script report ended
 
--- the report of a script that a source gave, its text, and its status
-pub record IsThreaded (left left' : Option (List ℕ)) (status : ℕ) (text : List ℕ) (report : Report) (ended : EndValue) : Type 0 where
-  pub reports : Reports left left' report ended
-  pub status_is : status ≡ done_status report
-  pub text_is : text ≡ report_text report
+-- the name of a reason
+abbrev pub why_text : Why → List ℕ
+why_text whys.BadHeader = codes "BadHeader"
+why_text whys.UnknownWord = codes "UnknownWord"
+why_text whys.BadNumber = codes "BadNumber"
+why_text whys.OverLimit = codes "OverLimit"
+why_text whys.Undeclared = codes "Undeclared"
+why_text whys.Twice = codes "Twice"
+why_text whys.WrongPlace = codes "WrongPlace"
+why_text whys.NoEnd = codes "NoEnd"
+why_text whys.TooLong = codes "TooLong"
 
--- the same of a run with translation caches: at its end no entry of a cache names a handled frame
-pub record IsThreadedTlb (left left' : Option (List ℕ)) (status : ℕ) (text : List ℕ) (report : Report) (ended : EndValue) : Type 0 where
-  pub threaded : IsThreaded left left' status text report ended
-  pub cached : IsCachedEnd tlb_entries ended
+-- `script line L: WHY`, and a line feed
+abbrev pub refusal_text : Refused → List ℕ
+refusal_text refused = codes "script line " ++ (decimal refused.line ++ (codes ": " ++ (why_text refused.why ++ 10 ∷ [])))
 
--- the output of a run on threads: its status, its text, its report, and what its table was closed with: `tlb` where the table has
--- translation caches, else `ended`
-abbrev pub IsThreadedOf : Bool → Option (List ℕ) → Option (List ℕ) → ℕ → List ℕ → Option Report → Option EndValue → Option EndValue → Type 0
-IsThreadedOf false left left' status text report ended tlb = HasRun report ended (IsThreaded left left' status text) × (tlb ≡ None)
-IsThreadedOf true left left' status text report ended tlb = HasRun report tlb (IsThreadedTlb left left' status text) × (ended ≡ None)
+-- a sink took the text, or its count of faults rose
+abbrev pub Told : Option (List ℕ) → Option (List ℕ) → ℕ → ℕ → List ℕ → Type 0
+Told taken taken' faults faults' text = Appends taken taken' text ⊎ (faults < faults')
 
--- the words ask for a run on threads, and this is its output
-pub record IsThreadedCall (words : List (List ℕ)) (left left' : Option (List ℕ)) (status : ℕ) (text : List ℕ) (report : Option Report) (ended tlb : Option EndValue) : Type 0 where
-  pub caches : Bool
-  pub asked : IsRun words caches
-  pub output : IsThreadedOf caches left left' status text report ended tlb
+-- the texts of the statuses that have one text each
+abbrev pub usage_text : List ℕ
+usage_text = codes "usage: hwp step [tlb]|run [tlb]|check|gen N|sum N" ++ 10 ∷ []
+
+abbrev pub read_fault_text : List ℕ
+read_fault_text = codes "read fault" ++ 10 ∷ []
+
+abbrev pub write_fault_text : List ℕ
+write_fault_text = codes "write fault" ++ 10 ∷ []
+
+abbrev pub memory_text : List ℕ
+memory_text = codes "out of memory" ++ 10 ∷ []
+
+-- the text that a status tells on the error sink, but for status 3, whose text names the line and the reason
+abbrev pub told_text : ℕ → Option (List ℕ)
+told_text status =
+    if status == 2 then Some usage_text
+    else if status == 4 then Some read_fault_text
+    else if status == 5 then Some write_fault_text
+    else if status == 6 then Some memory_text
+    else None
+
+-- the whole output was written
+abbrev pub IsDone : ℕ → Type 0
+IsDone status = (status ≡ 0) ⊎ ((status ≡ 1) ⊎ (status ≡ 8))
+
+-- the status of a report that was written: 8 where the machine stopped
+abbrev pub done_status : Report → ℕ
+done_status report = if is_some report.stop then 8 else 0

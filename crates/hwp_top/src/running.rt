@@ -1,108 +1,71 @@
-//! What `run` and `run tlb` write.
-ghost use Rattle.std.specs.Prelude.{◌≡◌, ◌<◌, true, false, IfOk, IsErrOf};
-ghost use Rattle.hwp_top_threads.specs.hwp_script_read.declared.Refused.{Refused};
-ghost use Rattle.hwp_top_threads.specs.hwp_report_text.ReportText.{report_text};
-ghost use Rattle.hwp_top_step.specs.Top.{Refuses};
-ghost use Rattle.hwp_top_threads.specs.hwp_top_turns.hwp_top_report.Caches.{IsCachedEnd};
-ghost use Rattle.hwp_top.specs.Top.{IsThreadedOf, Reports};
+ghost use Rattle.std.specs.Prelude.{◌≡◌, [], IfOk};
+ghost use Rattle.hwp_top_report.specs.hwp_law.Law.{IsLawful};
+ghost use Rattle.hwp_top_report.specs.hwp_law.Runs.{IsOfRun};
+ghost use Rattle.hwp_plain.specs.hwp_script_read.Valid.{IsValid};
+ghost use Rattle.hwp_table_words.specs.Known.{first_knowing};
+ghost use Rattle.hwp_table_words.specs.Seats.{IsTableOf};
+ghost use Rattle.hwp_top_report.specs.Caches.{IsCachedEnd};
+ghost use Rattle.hwp_top.specs.Runs.{IsCoreRun, IsTablePlayed, IsTableRun, KnowsRun};
 
-use hwp_io::Source;
-use hwp_threads::Gate;
-use hwp_top_step::{InputFault, Output, status_of, take_script};
-use hwp_top_threads::{Bare, Cached, Finished, Text, Ways, run_on_threads};
-use std::alloc::Global;
-use std::sync::Wait;
-use std::thread::Threads;
+use crate::playing::play;
+use hwp_cpu::Rows;
+use hwp_table::{OfTable, SeatBoard};
+use hwp_table_words::{Ended, Pass, Sheet, Slot, Ways, begin, close};
+use hwp_top_report::{Finished, OutOfMemory, Script, finish_run};
+use std::alloc::{AllocError, Global};
+use std::marker::Brand;
+use std::sync::Arc;
 
-/// The run on threads of the script that a source gives, and the text of its report.
-fn report_of<R: Threads + Wait + Sync, W: Ways + Send, S: Source, G: Gate + Sync>(
-    rt: &R,
+/// All turns of a script's processors at a table whose one seat has all there is: that seat again, with what they led to, and the
+/// rows of each processor.
+fn seat_all<N: OfTable, W: Ways>(
     alloc: Global,
-    src: &mut S,
-    gate: &G,
-) -> Result<(Finished<W>, Text), InputFault>
-    ensures report { IfOk result (λ done. Reports (S.left src.old) (S.left src.new) done.0.report done.0.ended) }
-    ensures cached { IfOk result (λ done. IsCachedEnd W.ways done.0.ended) }
-    ensures text { IfOk result (λ done. done.1 ≡ report_text done.0.report) }
-    ensures refused { (r : Refused) → IsErrOf result (InputFault.Refused r) → Refuses (S.left src.old) (S.left src.new) r }
-    ensures fault { IsErrOf result InputFault.ReadFault → S.faults src.old < S.faults src.new }
+    sheet: &Sheet<W>,
+    script: &Script,
+    pass: Pass,
+) -> Result<(Pass, Rows), OutOfMemory>
+    requires valid { IsValid script.now }
+    requires named { N.table ≡ sheet.now.table_id }
+    requires table { IsTableOf W.ways script.now.layout sheet.now.table_id × (sheet.now.key ≡ script.now.layout) }
+    requires seat { (pass.table_id ≡ sheet.now.table_id) × (pass.me ≡ (first_knowing script.now.layout, [])) }
+    ensures same { IfOk result (λ end. end.0.table_id ≡ sheet.now.table_id) }
+    ensures knows { IfOk result (λ end. KnowsRun script.now end.0.me.0.known end.1) }
 {
-    let script = take_script(alloc, src)?;
-    match run_on_threads::<R, W, G>(rt, alloc, &script, gate) {
-        Ok(run) => {
-            drop(script);
-            match hwp_top_threads::print(alloc, &run.report) {
-                Ok(text) => Ok((run, text)),
-                Err(_) => {
-                    drop(run);
-                    Err(InputFault::OutOfMemory)
-                }
-            }
-        }
-        Err(_) => {
-            drop(script);
-            Err(InputFault::OutOfMemory)
-        }
-    }
+    let mut board = SeatBoard::<N, W>::new(alloc, sheet, &script.layout, pass)?;
+    let rows = play(alloc, script, &mut board)?;
+    Ok((board.into_pass(), rows))
 }
 
-/// The output of `run`.
-fn threaded_bare<R: Threads + Wait + Sync, S: Source, G: Gate + Sync>(
-    rt: &R,
+/// The turns of a script's processors at a table of their own: what the table was closed with, the bodies that were in its
+/// slots, and the rows of each processor.
+fn play_at_table<W: Ways>(
     alloc: Global,
-    src: &mut S,
-    gate: &G,
-) -> Result<Output, InputFault>
-    ensures output { IfOk result (λ o. IsThreadedOf false (S.left src.old) (S.left src.new) o.status o.text o.report o.ended o.tlb) }
-    ensures refused { (r : Refused) → IsErrOf result (InputFault.Refused r) → Refuses (S.left src.old) (S.left src.new) r }
-    ensures fault { IsErrOf result InputFault.ReadFault → S.faults src.old < S.faults src.new }
+    script: &Script,
+) -> Result<(Ended<W>, Vec<Slot>, Rows), OutOfMemory>
+    requires valid { IsValid script.now }
+    ensures played { IfOk result (λ end. IsTablePlayed script.now end.0 end.2) }
+    ensures bodies { IfOk result (λ end. end.0.slots ≡ end.1.items) }
 {
-    let (run, text) = report_of::<R, Bare, S, G>(rt, alloc, src, gate)?;
-    Ok(Output {
-        text,
-        status: status_of(&run.report),
-        report: Some(run.report),
-        ended: Some(run.ended),
-        tlb: None,
-    })
+    let layout = Arc::new(alloc, script.layout.copy(alloc)?)?;
+    let (table, pass) = begin::<W>(alloc, &layout)?;
+    let (pass, rows) = seat_all::<Brand, W>(alloc, &table.shared, script, pass)?;
+    let Ok((ended, slots)) = close(alloc, &script.layout, table, pass) else {
+        return Err(AllocError);
+    };
+    ended.reached();
+    Ok((ended, slots, rows))
 }
 
-/// The output of `run tlb`.
-fn threaded_tlb<R: Threads + Wait + Sync, S: Source, G: Gate + Sync>(
-    rt: &R,
-    alloc: Global,
-    src: &mut S,
-    gate: &G,
-) -> Result<Output, InputFault>
-    ensures output { IfOk result (λ o. IsThreadedOf true (S.left src.old) (S.left src.new) o.status o.text o.report o.ended o.tlb) }
-    ensures refused { (r : Refused) → IsErrOf result (InputFault.Refused r) → Refuses (S.left src.old) (S.left src.new) r }
-    ensures fault { IsErrOf result InputFault.ReadFault → S.faults src.old < S.faults src.new }
+/// The run of a script in turns: its processors make them in the order of the schedule, and then in the finishing order, until each
+/// of their commands is answered. They make them at one table of atomic words, and the report is of what it is closed with.
+pub fn run_in_turns<W: Ways>(alloc: Global, script: &Script) -> Result<Finished<W>, OutOfMemory>
+    requires valid { IsValid script.now }
+    ensures of_run { IfOk result (λ run. IsOfRun script.now run.report) }
+    ensures lawful { IfOk result (λ run. IsLawful script.now run.report) }
+    ensures core { IfOk result (λ run. IsCoreRun script.now run.report) }
+    ensures ended { IfOk result (λ run. IsTableRun script.now run.report run.ended) }
+    ensures caches { IfOk result (λ run. IsCachedEnd W.ways run.ended) }
 {
-    let (run, text) = report_of::<R, Cached, S, G>(rt, alloc, src, gate)?;
-    Ok(Output {
-        text,
-        status: status_of(&run.report),
-        report: Some(run.report),
-        ended: None,
-        tlb: Some(run.ended),
-    })
-}
-
-/// The output of a run on threads, with translation caches or without.
-pub(crate) fn threaded<R: Threads + Wait + Sync, S: Source, G: Gate + Sync>(
-    rt: &R,
-    alloc: Global,
-    caches: bool,
-    src: &mut S,
-    gate: &G,
-) -> Result<Output, InputFault>
-    ensures output { IfOk result (λ o. IsThreadedOf caches (S.left src.old) (S.left src.new) o.status o.text o.report o.ended o.tlb) }
-    ensures refused { (r : Refused) → IsErrOf result (InputFault.Refused r) → Refuses (S.left src.old) (S.left src.new) r }
-    ensures fault { IsErrOf result InputFault.ReadFault → S.faults src.old < S.faults src.new }
-{
-    if caches {
-        threaded_tlb(rt, alloc, src, gate)
-    } else {
-        threaded_bare(rt, alloc, src, gate)
-    }
+    let (ended, bodies, rows) = play_at_table::<W>(alloc, script)?;
+    finish_run(alloc, script, ended, bodies, &rows)
 }

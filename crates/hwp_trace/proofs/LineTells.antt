@@ -2,22 +2,22 @@
 use Rattle.std.proofs.Common.{◌≡◌, ℕ, ◌<◌, List, ◌∷◌, Option, Some, None, length, slice_set, refl, sym, ap, ◌∙◌, subst, arith}
 use Rattle.std.proofs.lemmas.List.{get_or-set_same}
 use Rattle.std.proofs.lemmas.Option.{none-some, same_Some}
-use Rattle.hwp_top_turns.specs.hwp_geom.declared.Kind.{Kind}
-use Rattle.hwp_top_turns.specs.hwp_geom.declared.Layout.{Layout}
-use Rattle.hwp_top_turns.specs.hwp_geom.declared.Who.{Who}
-use Rattle.hwp_top_turns.specs.hwp_core_rule.declared.SharedWord.{SharedWord}
-use Rattle.hwp_top_turns.specs.hwp_core_rule.declared.Log.{Log}
-use Rattle.hwp_top_turns.specs.hwp_core_rule.declared.Rec.{Rec}
-use Rattle.hwp_top_turns.specs.hwp_core_rule.declared.State.{State}
-use Rattle.hwp_top_turns.specs.hwp_core_rule.declared.Step.{Step}
-use Rattle.hwp_top_turns.specs.hwp_core_rule.Moves.{Move}
-use Rattle.hwp_top_turns.specs.hwp_core_rule.Steps.{kind_of, place_of, word_after}
-use Rattle.hwp_top_turns.specs.hwp_core_rule.Words.{IsPlace, index, read, size, words_of}
-use Rattle.hwp_top_turns.proofs.of_hwp_core_rule.WordsByKind.{index-within, words-read}
-use Rattle.hwp_top_turns.specs.hwp_core_rule.declared.Turn.{Turn}
-use Rattle.hwp_top_turns.specs.hwp_core_rule.Boards.{Played, TakesTurn, TakesTurnBy}
-use Rattle.hwp_top_turns.specs.hwp_core_rule.Calls.{logs, rec_of}
-use Rattle.hwp_top_turns.specs.hwp_core_rule.Turns.{Member}
+use Rattle.hwp_top.specs.hwp_geom.declared.Kind.{Kind}
+use Rattle.hwp_top.specs.hwp_geom.declared.Layout.{Layout}
+use Rattle.hwp_top.specs.hwp_geom.declared.Who.{Who}
+use Rattle.hwp_top.specs.hwp_core_rule.declared.SharedWord.{SharedWord}
+use Rattle.hwp_top.specs.hwp_core_rule.declared.Log.{Log}
+use Rattle.hwp_top.specs.hwp_core_rule.declared.Rec.{Rec}
+use Rattle.hwp_top.specs.hwp_core_rule.declared.State.{State}
+use Rattle.hwp_top.specs.hwp_core_rule.declared.Step.{Step}
+use Rattle.hwp_top.specs.hwp_core_rule.Moves.{Move}
+use Rattle.hwp_top.specs.hwp_core_rule.Steps.{kind_of, place_of, word_after}
+use Rattle.hwp_top.specs.hwp_core_rule.Words.{IsPlace, index, read, size, words_of}
+use Rattle.hwp_top.proofs.of_hwp_core_rule.WordsByKind.{index-within, words-read}
+use Rattle.hwp_top.specs.hwp_core_rule.declared.Turn.{Turn}
+use Rattle.hwp_top.specs.hwp_core_rule.Boards.{Played, TakesTurn, TakesTurnBy}
+use Rattle.hwp_top.specs.hwp_core_rule.Calls.{logs, rec_of}
+use Rattle.hwp_top.specs.hwp_core_rule.Turns.{Member}
 use Rattle.hwp_trace.specs.declared.line.TraceLine.{TraceLine}
 use Rattle.hwp_trace.specs.declared.notes.Sight.{Sight}
 use Rattle.hwp_trace.specs.Notes.{Notes, Sees, SeesStep, line_now, line_seen}

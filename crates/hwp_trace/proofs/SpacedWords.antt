@@ -1,6 +1,6 @@
 -- Words with a space behind each, and the line that they begin.
 use Rattle.std.proofs.Common.{◌≡◌, ℕ, Bool, false, cond, List, [], ◌∷◌, ◌++◌, refl, sym, ap, ◌∙◌, append_assoc}
-use Rattle.hwp_top_turns.specs.hwp_geom.Words.{line}
+use Rattle.hwp_top.specs.hwp_geom.Words.{line}
 use Rattle.hwp_trace.specs.Text.{spaced}
 
 pub spaced-append : (xs ys : List (List ℕ)) → spaced (xs ++ ys) ≡ spaced xs ++ spaced ys

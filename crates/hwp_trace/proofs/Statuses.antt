@@ -2,8 +2,8 @@
 use Rattle.std.specs.Prelude.{◌≡◌, ℕ, List, ◌⊎◌, Option, Some, None}
 use Rattle.std.proofs.Common.{lit<, refl, subst, sym, inl, inr}
 use Rattle.hwp_report_text.specs.declared.Report.{Report}
-use Rattle.hwp_top_step.specs.Top.{IsDone}
-use Rattle.hwp_top_step.proofs.Statuses.{RunStatus, report_is_done, report_is_run_status}
+use Rattle.hwp_top.specs.Top.{IsDone}
+use Rattle.hwp_top.proofs.Statuses.{RunStatus, report_is_done, report_is_run_status}
 use Rattle.hwp_trace.specs.Shown.{IsShown}
 
 module _ (left left' : Option (List ℕ)) (status : ℕ) (text : List ℕ) where

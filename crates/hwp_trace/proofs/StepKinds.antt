@@ -1,17 +1,17 @@
 -- A step that can be made has a kind.
 use Rattle.std.proofs.Common.{◌≡◌, Option, Some, refl}
-use Rattle.hwp_top_turns.specs.hwp_geom.declared.Kind.{Kind}
-use Rattle.hwp_top_turns.specs.hwp_geom.declared.Kind.TheVariants as kinds
-use Rattle.hwp_top_turns.specs.hwp_geom.declared.Layout.{Layout}
-use Rattle.hwp_top_turns.specs.hwp_geom.declared.Who.{Who}
-use Rattle.hwp_top_turns.specs.hwp_core_rule.declared.Log.{Log}
-use Rattle.hwp_top_turns.specs.hwp_core_rule.declared.SharedWord.{SharedWord}
-use Rattle.hwp_top_turns.specs.hwp_core_rule.declared.SharedWord.TheVariants as places
-use Rattle.hwp_top_turns.specs.hwp_core_rule.declared.Step.{Step}
-use Rattle.hwp_top_turns.specs.hwp_core_rule.declared.Step.TheVariants as steps
-use Rattle.hwp_top_turns.specs.hwp_core_rule.declared.View.{View}
-use Rattle.hwp_top_turns.specs.hwp_core_rule.Asks.{AsksOf}
-use Rattle.hwp_top_turns.specs.hwp_core_rule.Steps.{IsLoaded, kind_of}
+use Rattle.hwp_top.specs.hwp_geom.declared.Kind.{Kind}
+use Rattle.hwp_top.specs.hwp_geom.declared.Kind.TheVariants as kinds
+use Rattle.hwp_top.specs.hwp_geom.declared.Layout.{Layout}
+use Rattle.hwp_top.specs.hwp_geom.declared.Who.{Who}
+use Rattle.hwp_top.specs.hwp_core_rule.declared.Log.{Log}
+use Rattle.hwp_top.specs.hwp_core_rule.declared.SharedWord.{SharedWord}
+use Rattle.hwp_top.specs.hwp_core_rule.declared.SharedWord.TheVariants as places
+use Rattle.hwp_top.specs.hwp_core_rule.declared.Step.{Step}
+use Rattle.hwp_top.specs.hwp_core_rule.declared.Step.TheVariants as steps
+use Rattle.hwp_top.specs.hwp_core_rule.declared.View.{View}
+use Rattle.hwp_top.specs.hwp_core_rule.Asks.{AsksOf}
+use Rattle.hwp_top.specs.hwp_core_rule.Steps.{IsLoaded, kind_of}
 
 pub record HasKind (step : Step) : Type 0 where
   pub kind : Kind

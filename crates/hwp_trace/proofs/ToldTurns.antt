@@ -1,12 +1,12 @@
 -- The lines of a log that grew, turn by turn.
 use Rattle.std.proofs.Common.{◌≡◌, List, [], ◌∷◌, ◌++◌, sym, ap, ◌∙◌, subst, append_assoc, append-nil}
-use Rattle.hwp_top_turns.specs.hwp_geom.Pairs.{Pairs}
-use Rattle.hwp_top_turns.specs.hwp_core_rule.Boards.{Played}
-use Rattle.hwp_top_turns.specs.hwp_plain.Boards.{Board}
-use Rattle.hwp_top_turns.specs.hwp_script_read.declared.Script.{Script}
-use Rattle.hwp_top_turns.specs.hwp_plain.Order.{logged}
-use Rattle.hwp_top_turns.specs.hwp_report_text.declared.Report.{Report}
-use Rattle.hwp_top_turns.specs.Runs.{IsReportOf}
+use Rattle.hwp_top.specs.hwp_geom.Pairs.{Pairs}
+use Rattle.hwp_top.specs.hwp_core_rule.Boards.{Played}
+use Rattle.hwp_top.specs.hwp_plain.Boards.{Board}
+use Rattle.hwp_top.specs.hwp_script_read.declared.Script.{Script}
+use Rattle.hwp_top.specs.hwp_plain.Order.{logged}
+use Rattle.hwp_top.specs.hwp_report_text.declared.Report.{Report}
+use Rattle.hwp_top.specs.Runs.{IsReportOf}
 use Rattle.hwp_trace.specs.declared.line.TraceLine.{TraceLine}
 use Rattle.hwp_trace.specs.Traced.{AreTold, Tells}
 use Rattle.hwp_trace.specs.Traces.{IsTrace}

@@ -3,4 +3,4 @@ pub mod Notes
 pub mod Traced
 pub mod Traces
 pub mod Shown
-pub use Rattle.hwp_top_turns.specs.hwp_script_read as hwp_script_read
+pub use Rattle.hwp_top.specs.hwp_script_read as hwp_script_read

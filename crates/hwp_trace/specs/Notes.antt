@@ -1,13 +1,13 @@
 -- What is noted of a turn, before it and after it.
 use Rattle.std.specs.Prelude.{◌≡◌, List, [], ◌∷◌, ◌++◌, Option, Some, None}
-use Rattle.hwp_top_turns.specs.hwp_geom.declared.Kind.{Kind}
-use Rattle.hwp_top_turns.specs.hwp_geom.declared.Layout.{Layout}
-use Rattle.hwp_top_turns.specs.hwp_geom.declared.Who.{Who}
-use Rattle.hwp_top_turns.specs.hwp_core_rule.declared.State.{State}
-use Rattle.hwp_top_turns.specs.hwp_core_rule.declared.Step.{Step}
-use Rattle.hwp_top_turns.specs.hwp_core_rule.Steps.{place_of}
-use Rattle.hwp_top_turns.specs.hwp_core_rule.Words.{IsPlace, read, words_of}
-use Rattle.hwp_top_turns.specs.hwp_core_rule.declared.Turn.{Turn}
+use Rattle.hwp_top.specs.hwp_geom.declared.Kind.{Kind}
+use Rattle.hwp_top.specs.hwp_geom.declared.Layout.{Layout}
+use Rattle.hwp_top.specs.hwp_geom.declared.Who.{Who}
+use Rattle.hwp_top.specs.hwp_core_rule.declared.State.{State}
+use Rattle.hwp_top.specs.hwp_core_rule.declared.Step.{Step}
+use Rattle.hwp_top.specs.hwp_core_rule.Steps.{place_of}
+use Rattle.hwp_top.specs.hwp_core_rule.Words.{IsPlace, read, words_of}
+use Rattle.hwp_top.specs.hwp_core_rule.declared.Turn.{Turn}
 use Rattle.hwp_trace.specs.declared.line.TraceLine.{TraceLine}
 use Rattle.hwp_trace.specs.declared.notes.Sight.{Sight}
 

@@ -1,9 +1,9 @@
 -- What the program writes.
 use Rattle.std.specs.Prelude.{◌≡◌, ℕ, ◌++◌, ◌==◌, if◌then◌else◌, List, [], ◌∷◌, Option, Some, IsSomeAnd, codes}
-use Rattle.hwp_top_turns.specs.hwp_script_read.declared.Script.{Script}
+use Rattle.hwp_top.specs.hwp_script_read.declared.Script.{Script}
 use Rattle.hwp_report_text.specs.declared.Report.{Report}
-use Rattle.hwp_top_step.specs.Top.{Takes, done_status}
-use Rattle.hwp_top_step.specs.Top as top
+use Rattle.hwp_top.specs.Top.{Takes, done_status}
+use Rattle.hwp_top.specs.Top as top
 use Rattle.hwp_trace.specs.declared.line.TraceLine.{TraceLine}
 use Rattle.hwp_trace.specs.Text.{trace_text}
 use Rattle.hwp_trace.specs.Traces.{IsTrace}

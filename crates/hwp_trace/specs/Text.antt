@@ -2,28 +2,28 @@
 use Rattle.std.specs.Prelude.{ℕ, ◌==◌, Bool, true, false, cond, List, [], ◌∷◌, ◌++◌, Option, Some, None, codes, decimal, flat_map}
 use Rattle.std.specs.List.{enumerate_from}
 use Rattle.std.specs.Fmt.{signed_decimal}
-use Rattle.hwp_top_turns.specs.hwp_geom.Words.{line, hex}
-use Rattle.hwp_top_turns.specs.hwp_geom.declared.Cpu.{Cpu}
-use Rattle.hwp_top_turns.specs.hwp_geom.declared.Frame.{Frame}
-use Rattle.hwp_top_turns.specs.hwp_geom.declared.Page.{Page}
-use Rattle.hwp_top_turns.specs.hwp_words.Counters.{counter_reading}
-use Rattle.hwp_top_turns.specs.hwp_words.Frames.{frame_reading, is_locked}
-use Rattle.hwp_top_turns.specs.hwp_words.Names.{frame_named, page_named}
-use Rattle.hwp_top_turns.specs.hwp_words.Policies.{policy_reading}
-use Rattle.hwp_top_turns.specs.hwp_words.Stops.{stop_reading}
-use Rattle.hwp_top_turns.specs.hwp_words.Translations.{pte_reading}
-use Rattle.hwp_top_turns.specs.hwp_words.declared.CounterWord.{CounterWord}
-use Rattle.hwp_top_turns.specs.hwp_words.declared.FrameWord.{FrameWord}
-use Rattle.hwp_top_turns.specs.hwp_words.declared.PolicyWord.{PolicyWord}
-use Rattle.hwp_top_turns.specs.hwp_words.declared.Pte.{Pte}
-use Rattle.hwp_top_turns.specs.hwp_words.declared.Pte.TheVariants as ptes
-use Rattle.hwp_top_turns.specs.hwp_words.declared.StopWord.{StopWord}
-use Rattle.hwp_top_turns.specs.hwp_core_rule.declared.SharedWord.{SharedWord}
-use Rattle.hwp_top_turns.specs.hwp_core_rule.declared.SharedWord.TheVariants as places
-use Rattle.hwp_top_turns.specs.hwp_core_rule.declared.Turn.{Turn}
-use Rattle.hwp_top_turns.specs.hwp_core_rule.declared.Turn.TheVariants as turns
-use Rattle.hwp_top_turns.specs.hwp_script_lines.Kinds.{kind_text}
-use Rattle.hwp_top_turns.specs.hwp_report_text.Terms.{policy_word}
+use Rattle.hwp_top.specs.hwp_geom.Words.{line, hex}
+use Rattle.hwp_top.specs.hwp_geom.declared.Cpu.{Cpu}
+use Rattle.hwp_top.specs.hwp_geom.declared.Frame.{Frame}
+use Rattle.hwp_top.specs.hwp_geom.declared.Page.{Page}
+use Rattle.hwp_top.specs.hwp_words.Counters.{counter_reading}
+use Rattle.hwp_top.specs.hwp_words.Frames.{frame_reading, is_locked}
+use Rattle.hwp_top.specs.hwp_words.Names.{frame_named, page_named}
+use Rattle.hwp_top.specs.hwp_words.Policies.{policy_reading}
+use Rattle.hwp_top.specs.hwp_words.Stops.{stop_reading}
+use Rattle.hwp_top.specs.hwp_words.Translations.{pte_reading}
+use Rattle.hwp_top.specs.hwp_words.declared.CounterWord.{CounterWord}
+use Rattle.hwp_top.specs.hwp_words.declared.FrameWord.{FrameWord}
+use Rattle.hwp_top.specs.hwp_words.declared.PolicyWord.{PolicyWord}
+use Rattle.hwp_top.specs.hwp_words.declared.Pte.{Pte}
+use Rattle.hwp_top.specs.hwp_words.declared.Pte.TheVariants as ptes
+use Rattle.hwp_top.specs.hwp_words.declared.StopWord.{StopWord}
+use Rattle.hwp_top.specs.hwp_core_rule.declared.SharedWord.{SharedWord}
+use Rattle.hwp_top.specs.hwp_core_rule.declared.SharedWord.TheVariants as places
+use Rattle.hwp_top.specs.hwp_core_rule.declared.Turn.{Turn}
+use Rattle.hwp_top.specs.hwp_core_rule.declared.Turn.TheVariants as turns
+use Rattle.hwp_top.specs.hwp_script_lines.Kinds.{kind_text}
+use Rattle.hwp_top.specs.hwp_report_text.Terms.{policy_word}
 use Rattle.hwp_trace.specs.declared.line.TraceLine.{TraceLine}
 
 -- words, each with a space behind it: the beginning of a line

@@ -1,8 +1,8 @@
 -- What the lines of a board tell of its moves.
 use Rattle.std.specs.Prelude.{◌≡◌, List, [], ◌∷◌, ◌++◌, Option, Some}
-use Rattle.hwp_top_turns.specs.hwp_core_rule.Steps.{kind_of, place_of, word_after}
-use Rattle.hwp_top_turns.specs.hwp_core_rule.Boards.{Played}
-use Rattle.hwp_top_turns.specs.hwp_plain.Boards.{Board}
+use Rattle.hwp_top.specs.hwp_core_rule.Steps.{kind_of, place_of, word_after}
+use Rattle.hwp_top.specs.hwp_core_rule.Boards.{Played}
+use Rattle.hwp_top.specs.hwp_plain.Boards.{Board}
 use Rattle.hwp_trace.specs.declared.line.TraceLine.{TraceLine}
 
 -- the plain board, and its lines, if memory was there for each

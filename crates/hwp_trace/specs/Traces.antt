@@ -1,11 +1,11 @@
 -- The lines of a script's run, and its report.
 use Rattle.std.specs.Prelude.{List}
-use Rattle.hwp_top_turns.specs.hwp_geom.Pairs.{Pairs}
-use Rattle.hwp_top_turns.specs.hwp_script_read.declared.Script.{Script}
-use Rattle.hwp_top_turns.specs.hwp_report_text.declared.Report.{Report}
-use Rattle.hwp_top_turns.specs.hwp_law.Law.{IsLawful}
-use Rattle.hwp_top_turns.specs.hwp_law.Runs.{IsOfRun}
-use Rattle.hwp_top_turns.specs.Runs.{IsCoreRun}
+use Rattle.hwp_top.specs.hwp_geom.Pairs.{Pairs}
+use Rattle.hwp_top.specs.hwp_script_read.declared.Script.{Script}
+use Rattle.hwp_top.specs.hwp_report_text.declared.Report.{Report}
+use Rattle.hwp_top.specs.hwp_law.Law.{IsLawful}
+use Rattle.hwp_top.specs.hwp_law.Runs.{IsOfRun}
+use Rattle.hwp_top.specs.Runs.{IsCoreRun}
 use Rattle.hwp_trace.specs.declared.line.TraceLine.{TraceLine}
 use Rattle.hwp_trace.specs.Traced.{Tells}
 

@@ -1,11 +1,11 @@
 ghost use Rattle.std.specs.Prelude.{◌≡◌, [], IfOk};
-ghost use Rattle.hwp_top_turns.specs.hwp_geom.Layout.{IsSound};
-ghost use Rattle.hwp_top_turns.specs.hwp_core_rule.Opening.{opening};
+ghost use Rattle.hwp_top.specs.hwp_geom.Layout.{IsSound};
+ghost use Rattle.hwp_top.specs.hwp_core_rule.Opening.{opening};
 ghost use Rattle.hwp_trace.specs.Traced.{AreTold};
 
 use crate::TraceLine;
 use crate::notes::{line_of, look, noted};
-use hwp_top_turns::{Board, Cpu, Kind, Layout, List, OutOfMemory, PlainBoard, Task, Turn};
+use hwp_top::{Board, Cpu, Kind, Layout, List, OutOfMemory, PlainBoard, Task, Turn};
 use std::alloc::{AllocError, Global};
 use std::marker::Model;
 use std::mem;
@@ -19,7 +19,7 @@ pub(crate) struct TracedBoard {
 
 impl Model for TracedBoard {
     ghost use Rattle.hwp_trace.specs.Traced.{IsTraced, Traced};
-    ghost use Rattle.hwp_top_turns.specs.hwp_kill.contracts.Slots as sets;
+    ghost use Rattle.hwp_top.specs.hwp_kill.contracts.Slots as sets;
     ghost use Rattle.std.specs.Coded.{codes};
 
     ghost Value = { Traced };

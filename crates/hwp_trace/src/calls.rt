@@ -1,13 +1,13 @@
 ghost use Rattle.std.specs.Prelude.{◌≡◌, ◌≢◌, ◌↔◌, ◌<◌, ℕ, List, [], ◌∷◌, Contains, None, Some};
 ghost use Rattle.std.specs.Io.KnownBytes.{Appends};
 ghost use Rattle.hwp_io.specs.Causes.{AppendsStrictFront};
-ghost use Rattle.hwp_top_turns.specs.hwp_script_read.declared.Refused.{Refused};
-ghost use Rattle.hwp_top_step.specs.Top.{IsDone, Refuses, Told, refusal_text};
+ghost use Rattle.hwp_top.specs.hwp_script_read.declared.Refused.{Refused};
+ghost use Rattle.hwp_top.specs.Top.{IsDone, Refuses, Told, refusal_text};
 ghost use Rattle.hwp_trace.specs.Shown.{IsShown, told_text};
 
 use crate::showing::traced;
 use hwp_io::{Sink, Source};
-use hwp_top_step::{Done, deliver, tell, tell_fault};
+use hwp_top::{Done, deliver, tell, tell_fault};
 use std::alloc::Global;
 
 /// The text where there are words.

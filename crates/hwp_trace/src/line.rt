@@ -1,4 +1,4 @@
-use hwp_top_turns::{Kind, SharedWord, Turn, Who};
+use hwp_top::{Kind, SharedWord, Turn, Who};
 
 /// A turn that made a step, as a trace tells it.
 #[derive(Clone, Copy)]

@@ -1,9 +1,9 @@
 //! Words of a line, each with a space behind it.
 ghost use Rattle.std.specs.Prelude.{◌≡◌, [], ◌∷◌, ◌++◌, OnOk, string_bytes, decimal};
-ghost use Rattle.hwp_top_turns.specs.hwp_geom.Words.{hex};
+ghost use Rattle.hwp_top.specs.hwp_geom.Words.{hex};
 ghost use Rattle.hwp_trace.specs.Text.{flag_words, spaced};
 
-use hwp_top_turns::OutOfMemory;
+use hwp_top::OutOfMemory;
 
 /// A word.
 pub(crate) fn put_word(out: &mut String, word: &str) -> Result<(), OutOfMemory>

@@ -13,7 +13,7 @@ mod values;
 
 use calls::show;
 use hwp_io::{StdSink, StdSource};
-use hwp_top_step::Done;
+use hwp_top::Done;
 use std::process::ExitCode;
 use std::{env, io};
 

@@ -1,11 +1,11 @@
 ghost use Rattle.std.specs.Prelude.{◌≡◌, IfSome, length};
-ghost use Rattle.hwp_top_turns.specs.hwp_geom.Layout.{IsSound};
-ghost use Rattle.hwp_top_turns.specs.hwp_core_rule.Boards.{view_of};
+ghost use Rattle.hwp_top.specs.hwp_geom.Layout.{IsSound};
+ghost use Rattle.hwp_top.specs.hwp_core_rule.Boards.{view_of};
 ghost use Rattle.hwp_trace.specs.Notes.{Notes, Sees, line_seen};
-ghost use Rattle.hwp_top_turns.specs.hwp_core_rule.Words.{IsPlace, read, size, words_of};
+ghost use Rattle.hwp_top.specs.hwp_core_rule.Words.{IsPlace, read, size, words_of};
 
 use crate::TraceLine;
-use hwp_top_turns::{Kind, Layout, List, Ops, PlainBoard, SharedWord, Task, Turn, Who, index};
+use hwp_top::{Kind, Layout, List, Ops, PlainBoard, SharedWord, Task, Turn, Who, index};
 
 /// What a task is about to touch, and the word that stands there.
 #[derive(Clone, Copy)]

@@ -1,13 +1,13 @@
 ghost use Rattle.std.specs.Prelude.{◌≡◌, [], ◌∷◌, ◌++◌, IfOk, OnOk, string_bytes, codes, decimal};
 ghost use Rattle.std.specs.List.{enumerate_from, flat_map};
-ghost use Rattle.hwp_top_turns.specs.hwp_script_lines.Kinds.{kind_text};
-ghost use Rattle.hwp_top_turns.specs.hwp_geom.Words.{line};
+ghost use Rattle.hwp_top.specs.hwp_script_lines.Kinds.{kind_text};
+ghost use Rattle.hwp_top.specs.hwp_geom.Words.{line};
 ghost use Rattle.hwp_trace.specs.Text.{change_words, place_words, spaced, trace_text, turn_line, turn_word};
 
 use crate::line::TraceLine;
 use crate::line_words::{put_named, put_word};
 use crate::values::put_value;
-use hwp_top_turns::{Kind, OutOfMemory, SharedWord, Text, Turn, Who, kind_name};
+use hwp_top::{Kind, OutOfMemory, SharedWord, Text, Turn, Who, kind_name};
 use std::alloc::Global;
 
 /// The one text of a trace.

@@ -1,14 +1,14 @@
 //! The trace of a script that a source gives.
 ghost use Rattle.std.specs.Prelude.{◌≡◌, ◌<◌, None, IfOk, IsErrOf};
-ghost use Rattle.hwp_top_turns.specs.hwp_script_read.declared.Refused.{Refused};
-ghost use Rattle.hwp_top_step.specs.Top.{Refuses, done_status};
+ghost use Rattle.hwp_top.specs.hwp_script_read.declared.Refused.{Refused};
+ghost use Rattle.hwp_top.specs.Top.{Refuses, done_status};
 ghost use Rattle.hwp_trace.specs.Shown.{IsShown, IsTraceOf};
 
 use crate::printing::print;
 use crate::tracing::trace;
 use hwp_io::Source;
 use hwp_report_text::{Report, Text};
-use hwp_top_step::{InputFault, Output, status_of, take_script};
+use hwp_top::{InputFault, Output, status_of, take_script};
 use std::alloc::Global;
 
 /// The report of the run of the script that a source gives, and the text of its trace.

@@ -1,10 +1,10 @@
 ghost use Rattle.std.specs.Prelude.{IfOk};
-ghost use Rattle.hwp_top_turns.specs.hwp_script_read.Valid.{IsValid};
+ghost use Rattle.hwp_top.specs.hwp_script_read.Valid.{IsValid};
 ghost use Rattle.hwp_trace.specs.Traces.{IsTrace};
 
 use crate::TraceLine;
 use crate::board::TracedBoard;
-use hwp_top_turns::{List, OutOfMemory, Report, Script, play, report_of};
+use hwp_top::{List, OutOfMemory, Report, Script, play, report_of};
 use std::alloc::Global;
 
 /// A run that was watched: its report, and a line for each turn.

@@ -3,7 +3,7 @@ ghost use Rattle.std.specs.Prelude.{◌≡◌, ◌++◌, OnOk, string_bytes};
 ghost use Rattle.hwp_trace.specs.Text.{counter_words, cycle_words, ended_words, frame_words, in_words, lock_words, mark_words, owner_words, policy_words, pte_words, spaced, stop_words, stopper_words, value_words};
 
 use crate::line_words::{put_flag, put_named, put_number, put_set, put_word};
-use hwp_top_turns::{
+use hwp_top::{
     CacheWord, CounterWord, Cpu, Frame, FrameWord, OutOfMemory, Page, PageWord, PolicyWord,
     ProcessWord, Pte, SharedWord, StopWord, policy_word,
 };

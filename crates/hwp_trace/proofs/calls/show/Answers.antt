@@ -1,8 +1,8 @@
 use Rattle.std.proofs.Common.{List, ℕ, lit<, refl, subst}
 use Rattle.std.proofs.lemmas.Option.{same_Some}
-use Rattle.hwp_top_step.specs.Top.{Told}
+use Rattle.hwp_top.specs.Top.{Told}
 use Rattle.hwp_trace.specs.Shown.{usage_text}
-use Rattle.hwp_top_step.proofs.Statuses.{fault_is_run_status}
+use Rattle.hwp_top.proofs.Statuses.{fault_is_run_status}
 use Rattle.hwp_trace.proofs.Statuses.{output-done, output-listed}
 use Rattle.hwp_trace.proofs.calls.show.Goals as goal
 

@@ -1,6 +1,6 @@
 use Rattle.std.proofs.Common.{Some, sym, ap, ◌∙◌, subst}
-use Rattle.hwp_top_turns.specs.hwp_core_rule.declared.SharedWord.{SharedWord}
-use Rattle.hwp_top_turns.specs.hwp_core_rule.Words.{IsPlace, read, words_of}
+use Rattle.hwp_top.specs.hwp_core_rule.declared.SharedWord.{SharedWord}
+use Rattle.hwp_top.specs.hwp_core_rule.Words.{IsPlace, read, words_of}
 use Rattle.hwp_trace.proofs.LineTells.{sees-step}
 use Rattle.hwp_trace.proofs.notes.look.Goals as goal
 

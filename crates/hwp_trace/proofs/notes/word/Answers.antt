@@ -1,5 +1,5 @@
 use Rattle.std.proofs.Common.{slice_index, sym, ap, ◌∙◌}
-use Rattle.hwp_top_turns.proofs.of_hwp_core_rule.WordsByKind.{words-read}
+use Rattle.hwp_top.proofs.of_hwp_core_rule.WordsByKind.{words-read}
 use Rattle.hwp_trace.proofs.notes.word.Goals as goal
 
 pub returns : goal.returns

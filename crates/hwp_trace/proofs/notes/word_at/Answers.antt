@@ -1,6 +1,6 @@
 use Rattle.std.proofs.Common.{length, sym, ap, ◌∙◌, subst}
-use Rattle.hwp_top_turns.specs.hwp_geom.Layout.{IsSound}
-use Rattle.hwp_top_turns.specs.hwp_core_rule.Words.{IsPlace, size}
+use Rattle.hwp_top.specs.hwp_geom.Layout.{IsSound}
+use Rattle.hwp_top.specs.hwp_core_rule.Words.{IsPlace, size}
 use Rattle.hwp_trace.proofs.notes.word_at.Goals as goal
 
 pub word-requires : goal.word-requires

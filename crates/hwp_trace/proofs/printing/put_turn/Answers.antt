@@ -1,6 +1,6 @@
 use Rattle.std.proofs.Common.{[], ◌∷◌, string_bytes, codes, decimal}
 use Rattle.std.proofs.lemmas.Result.{on_ok_weaker}
-use Rattle.hwp_top_turns.specs.hwp_script_lines.Kinds.{kind_text}
+use Rattle.hwp_top.specs.hwp_script_lines.Kinds.{kind_text}
 use Rattle.hwp_trace.specs.Text.{change_words, place_words, turn_word}
 use Rattle.hwp_trace.proofs.SpacedWords.{put-whole}
 use Rattle.hwp_trace.proofs.printing.put_turn.Goals as goal

@@ -1,6 +1,6 @@
 use Rattle.std.proofs.Common.{List, Option, ap, ◌∙◌, subst}
-use Rattle.hwp_top_turns.specs.hwp_geom.declared.Layout.{Layout}
-use Rattle.hwp_top_turns.specs.hwp_core_rule.Boards.{view_of}
+use Rattle.hwp_top.specs.hwp_geom.declared.Layout.{Layout}
+use Rattle.hwp_top.specs.hwp_core_rule.Boards.{view_of}
 use Rattle.hwp_trace.specs.declared.line.TraceLine.{TraceLine}
 use Rattle.hwp_trace.specs.Notes.{Notes, line_seen}
 use Rattle.hwp_trace.specs.Traced.{Traced}

@@ -1,0 +1,10 @@
+use Rattle.std.proofs.lemmas.Result.{IfOk-weaker}
+use Rattle.hwp_top.proofs.Closed.{thread-ended, thread-run}
+use Rattle.hwp_top.proofs.threading.run_on_threads.Goals as goal
+
+pub finish_run-requires-clause-run : goal.finish_run-requires-clause-run
+finish_run-requires-clause-run g c = thread-ended c.args.script.now c.in_ok-ended.ended c.in_ok-ended.rows c.requires.valid c.in_ok-ended.ensures.played
+
+pub returns-clause-ended : goal.returns-clause-ended
+returns-clause-ended g c =
+    IfOk-weaker c.finish_run.result _ _ (λ run is. thread-run c.args.script.now c.in_ok-ended.ended c.in_ok-ended.rows c.requires.valid c.in_ok-ended.ensures.played run.report run.ended is) c.finish_run.ensures.closing

@@ -1,0 +1,166 @@
+//! What each call writes.
+ghost use Rattle.std.specs.Prelude.{◌≡◌, ◌≢◌, ◌<◌, IfOk, IsErrOf, None};
+ghost use Rattle.hwp_script.specs.hwp_script_read.declared.Refused.{Refused};
+ghost use Rattle.hwp_report.specs.hwp_report_text.ReportText.{report_text};
+ghost use Rattle.hwp_top.specs.Outputs.{HasRun, IsGenerated, IsOutputOf, IsRefusedFor, IsSummed};
+ghost use Rattle.hwp_top.specs.Top.{Refuses, Reports, done_status};
+ghost use Rattle.hwp_top_report.specs.Caches.{IsCachedEnd};
+
+use crate::checking::checked;
+use crate::inputs::{InputFault, take_script};
+use crate::running::run_in_turns;
+use crate::served::Call;
+use hwp_io::Source;
+use hwp_report::{print_summary, summary};
+use hwp_script::generate;
+use hwp_table_words::{Bare, Cached, Ended, Ways};
+use hwp_top_report::{Finished, Report, Text};
+use std::alloc::Global;
+
+/// What a call writes, the status where all of it is written, and, where it made a run, the report, and what the run's table was
+/// closed with: `tlb` has it of a table with translation caches, `ended` of any other.
+#[derive(Drop)]
+pub struct Output {
+    pub text: Text,
+    pub status: u8,
+    pub report: Option<Report>,
+    pub ended: Option<Ended<Bare>>,
+    pub tlb: Option<Ended<Cached>>,
+}
+
+/// The run of the script that a source gives, and the text of its report.
+fn report_of<S: Source, W: Ways>(
+    alloc: Global,
+    src: &mut S,
+) -> Result<(Finished<W>, Text), InputFault>
+    ensures report { IfOk result (λ done. Reports (S.left src.old) (S.left src.new) done.0.report done.0.ended) }
+    ensures cached { IfOk result (λ done. IsCachedEnd W.ways done.0.ended) }
+    ensures text { IfOk result (λ done. done.1 ≡ report_text done.0.report) }
+    ensures refused { (r : Refused) → IsErrOf result (InputFault.Refused r) → Refuses (S.left src.old) (S.left src.new) r }
+    ensures fault { IsErrOf result InputFault.ReadFault → S.faults src.old < S.faults src.new }
+{
+    let script = take_script(alloc, src)?;
+    match run_in_turns::<W>(alloc, &script) {
+        Ok(run) => {
+            drop(script);
+            match hwp_top::print(alloc, &run.report) {
+                Ok(text) => Ok((run, text)),
+                Err(_) => {
+                    drop(run);
+                    Err(InputFault::OutOfMemory)
+                }
+            }
+        }
+        Err(_) => {
+            drop(script);
+            Err(InputFault::OutOfMemory)
+        }
+    }
+}
+
+/// The output of `step`.
+fn stepped<S: Source>(alloc: Global, src: &mut S) -> Result<Output, InputFault>
+    ensures output { IfOk result (λ o. IsOutputOf Call.Step (S.left src.old) (S.left src.new) o.status o.text o.report o.ended o.tlb) }
+    ensures refused { (r : Refused) → IsErrOf result (InputFault.Refused r) → Refuses (S.left src.old) (S.left src.new) r }
+    ensures fault { IsErrOf result InputFault.ReadFault → S.faults src.old < S.faults src.new }
+{
+    let (run, text) = report_of::<S, Bare>(alloc, src)?;
+    Ok(Output {
+        text,
+        status: status_of(&run.report),
+        report: Some(run.report),
+        ended: Some(run.ended),
+        tlb: None,
+    })
+}
+
+/// The output of `step tlb`.
+fn stepped_tlb<S: Source>(alloc: Global, src: &mut S) -> Result<Output, InputFault>
+    ensures output { IfOk result (λ o. IsOutputOf Call.StepTlb (S.left src.old) (S.left src.new) o.status o.text o.report o.ended o.tlb) }
+    ensures refused { (r : Refused) → IsErrOf result (InputFault.Refused r) → Refuses (S.left src.old) (S.left src.new) r }
+    ensures fault { IsErrOf result InputFault.ReadFault → S.faults src.old < S.faults src.new }
+{
+    let (run, text) = report_of::<S, Cached>(alloc, src)?;
+    Ok(Output {
+        text,
+        status: status_of(&run.report),
+        report: Some(run.report),
+        ended: None,
+        tlb: Some(run.ended),
+    })
+}
+
+/// The status of a report that is written: 8 where the machine stopped.
+pub fn status_of(report: &Report) -> u8
+    ensures { result ≡ done_status report.now }
+{
+    if report.stop.is_some() { 8 } else { 0 }
+}
+
+/// The output of `gen`.
+fn script_text(alloc: Global, seed: u64) -> Result<Output, InputFault>
+    ensures output { IfOk result (λ o. IsGenerated seed o.text × (o.status ≡ 0) × (o.report ≡ None) × (o.ended ≡ None) × (o.tlb ≡ None)) }
+    ensures memory { (fault : InputFault) → IsErrOf result fault → fault ≡ InputFault.OutOfMemory }
+{
+    let Ok(script) = generate(alloc, seed) else {
+        return Err(InputFault::OutOfMemory);
+    };
+    let Ok(text) = hwp_script::print(alloc, &script) else {
+        drop(script);
+        return Err(InputFault::OutOfMemory);
+    };
+    drop(script);
+    Ok(Output {
+        text,
+        status: 0,
+        report: None,
+        ended: None,
+        tlb: None,
+    })
+}
+
+/// The output of `sum`.
+fn summed(alloc: Global, seed: u64) -> Result<Output, InputFault>
+    ensures output { IfOk result (λ o. HasRun o.report o.ended (IsSummed seed o.status o.text) × (o.tlb ≡ None)) }
+    ensures memory { (fault : InputFault) → IsErrOf result fault → fault ≡ InputFault.OutOfMemory }
+{
+    let Ok(script) = generate(alloc, seed) else {
+        return Err(InputFault::OutOfMemory);
+    };
+    let Ok(run) = run_in_turns::<Bare>(alloc, &script) else {
+        drop(script);
+        return Err(InputFault::OutOfMemory);
+    };
+    drop(script);
+    let Ok(text) = print_summary(alloc, seed, &summary(&run.report)) else {
+        drop(run);
+        return Err(InputFault::OutOfMemory);
+    };
+    Ok(Output {
+        text,
+        status: 0,
+        report: Some(run.report),
+        ended: Some(run.ended),
+        tlb: None,
+    })
+}
+
+/// The output of a call. `step`, `step tlb` and `check` alone read the source.
+pub(crate) fn output_of<S: Source>(
+    alloc: Global,
+    call: Call,
+    src: &mut S,
+) -> Result<Output, InputFault>
+    ensures output { IfOk result (λ o. IsOutputOf call (S.left src.old) (S.left src.new) o.status o.text o.report o.ended o.tlb) }
+    ensures refused { (r : Refused) → IsErrOf result (InputFault.Refused r) → IsRefusedFor call (S.left src.old) (S.left src.new) r }
+    ensures fault { IsErrOf result InputFault.ReadFault → S.faults src.old < S.faults src.new }
+    ensures unread { call ≢ Call.Step → call ≢ Call.StepTlb → call ≢ Call.Check → src.new ≡ src.old }
+{
+    match call {
+        Call::Step => stepped(alloc, src),
+        Call::StepTlb => stepped_tlb(alloc, src),
+        Call::Check => checked(alloc, src),
+        Call::Gen(seed) => script_text(alloc, seed),
+        Call::Sum(seed) => summed(alloc, seed),
+    }
+}

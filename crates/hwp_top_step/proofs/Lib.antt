@@ -1,4 +1,0 @@
-pub mod ReportLevel
-mod RunLevel
-pub mod Statuses
-pub mod Completes

@@ -1,5 +1,0 @@
-pub mod Calls
-pub mod Top
-pub mod Checked
-pub mod Outputs
-pub mod Serving

@@ -1,7 +1,0 @@
-use Rattle.std.proofs.Common.{◌≡◌, length}
-use Rattle.std.specs.Arc.{arc_value}
-use Rattle.hwp_top_turns.proofs.Crews.{AreBegun}
-use Rattle.hwp_top_turns.proofs.crew.crew_of.Given as goal
-
-abbrev pub invariant-loop-cpu : goal.invariant-loop-cpu
-invariant-loop-cpu l = (length l.crew.items ≡ l.cpu) × AreBegun l.script l.crew.items × (arc_value l.layout ≡ l.script.layout) × (l.lists ≡ l.script.lists)

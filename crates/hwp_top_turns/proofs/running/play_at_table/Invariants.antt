@@ -1,4 +1,0 @@
-use Rattle.hwp_top_turns.proofs.running.play_at_table.Given as goal
-
-abbrev pub ghosts-seat_all : goal.ghosts-seat_all
-ghosts-seat_all g a = record { table = a.sheet.now.table_id }
