@@ -17,7 +17,7 @@ use Rattle.hwp_cpu_check.specs.hwp_law.Commands.{is_kernels}
 use Rattle.hwp_cpu_check.specs.hwp_law.Notes.{AreApart, IsRising, checks, ends_machine, frame_of, is_corrected, is_for_pages, noted_frame, notes, notes_of_check, with_line}
 use Rattle.hwp_cpu_check.specs.hwp_law.Watched.{Watched, offlining, told}
 use Rattle.hwp_cpu_check.proofs.of_hwp_law.NoteLaws.{notes-append, notes-rising, offlining-append}
-use Rattle.hwp_cpu_row.specs.declared.Offlining.{Offlining}
+use Rattle.hwp_cpu_row.specs.declared.row.Offlining.{Offlining}
 use Rattle.hwp_cpu_row.specs.Acts.{event_at, told_notes}
 use Rattle.hwp_cpu_row.specs.Locals.{Collects}
 use Rattle.hwp_cpu_row.specs.Dues.{DueValue, HasNoted, first_check, notes_of_event, notes_of_lines}

@@ -6,7 +6,7 @@ use Rattle.hwp_cpu_check.specs.hwp_geom.declared.Layout.{Layout}
 use Rattle.hwp_cpu_check.specs.declared.EventOutcome.{EventOutcome}
 use Rattle.hwp_cpu_check.specs.hwp_law.hwp_cec.Counters.{Counters}
 use Rattle.hwp_cpu_check.specs.hwp_law.Notes.{noted_frame, notes_of_check}
-use Rattle.hwp_cpu_row.specs.declared.Offlining.{Offlining}
+use Rattle.hwp_cpu_row.specs.declared.row.Offlining.{Offlining}
 use Rattle.hwp_cpu_row.specs.Acts.{event_at, told_notes}
 use Rattle.hwp_cpu_row.specs.Locals.{Collects}
 
