@@ -43,7 +43,7 @@ fn report_of<S: Source, W: Ways>(
     match run_in_turns::<W>(alloc, &script) {
         Ok(run) => {
             drop(script);
-            match hwp_top::print(alloc, &run.report) {
+            match hwp_top_report::print(alloc, &run.report) {
                 Ok(text) => Ok((run, text)),
                 Err(_) => {
                     drop(run);
