@@ -1,4 +1,4 @@
-ghost use Rattle.std.specs.Prelude.{◌≡◌, ◌<◌, ◌≤◌, true, None, length, OnOk, OnErr};
+ghost use Rattle.std.specs.Prelude.{◌≡◌, ◌<◌, ◌≤◌, true, None, Some, cond, length, OnOk, OnErr};
 ghost use Rattle.hwp_cpu_row.specs.hwp_geom.Layout.{IsSound};
 ghost use Rattle.hwp_cpu_row.specs.hwp_script_read.Valid.{IsCommandOf};
 ghost use Rattle.hwp_cpu_row.specs.Locals.{collects};
@@ -98,36 +98,14 @@ impl Course {
         self.own.finish(alloc, answer, offlined, local)
     }
 
-    /// Whether frames may be taken out of use: an access pauses, or any other command has its answer.
-    fn rests(&self) -> bool
-        ensures { result ≡ rests self.now.own }
-    {
-        match &self.own {
-            Job::Instruction(instruction) => instruction.pause().is_some(),
-            Job::Copying(copying) => copying.pause().is_some(),
-            other => other.answer().is_some(),
-        }
-    }
-
-    /// What an access told without a pause notes nothing, and the collector passes it over.
-    fn pass(&mut self)
-        ensures { self.new ≡ record self.old { noted = passed self.old.own self.old.noted } }
-    {
-        match &self.own {
-            Job::Instruction(instruction) => self.noted = instruction.told().len(),
-            Job::Copying(copying) => self.noted = copying.told().len(),
-            _ => {}
-        }
-    }
-
     /// The turn of its own task, where the processor collects.
     fn after_own(&mut self, layout: &Layout, turn: Turn) -> Turn
         requires on { collects self.old.watching ≡ true }
         requires covered { Covers self.old.frames self.old.watching }
         ensures { AfterOwnBy layout.now self.old (rests self.old.own) turn self.new result }
     {
-        if !self.rests() {
-            self.pass();
+        if let Some(noted) = passed(&self.own, self.noted) {
+            self.noted = noted;
             return turn;
         }
         let pauses = self.own.pauses();
@@ -226,6 +204,27 @@ impl Drop for Course {
             due: _,
             frames: _,
         } = self;
+    }
+}
+
+/// How much of what the task told its collector has got or passed over, while the task goes on: what an access told without a pause notes
+/// nothing. `None` where the task rests, so that frames may be taken out of use: an access pauses, or any other command has its answer.
+fn passed(own: &Job, noted: usize) -> Option<usize>
+    ensures { result ≡ cond (rests own.now) None (Some (passed own.now noted)) }
+{
+    match own {
+        Job::Instruction(instruction) => match instruction.pause() {
+            Some(_) => None,
+            None => Some(instruction.told().len()),
+        },
+        Job::Copying(copying) => match copying.pause() {
+            Some(_) => None,
+            None => Some(copying.told().len()),
+        },
+        other => match other.answer() {
+            Some(_) => None,
+            None => Some(noted),
+        },
     }
 }
 
