@@ -1,4 +1,4 @@
-ghost use Rattle.std.specs.Prelude.{◌≡◌, [], ◌∷◌, ◌++◌, IfOk};
+ghost use Rattle.std.specs.Prelude.{IfOk};
 ghost use Rattle.hwp_cpu.specs.Processors.{AreFinished};
 
 use crate::processor::Processor;
@@ -7,18 +7,6 @@ use std::alloc::Global;
 
 /// The rows of each processor.
 pub type Rows = List<List<Row>>;
-
-/// Adds a processor at the end of the crew, where there is memory; else lets it go.
-pub fn enlist(crew: &mut Vec<Processor>, processor: Processor) -> Result<(), OutOfMemory>
-    ensures { IfOk result (λ _. crew.new.items ≡ crew.old.items ++ processor ∷ []) }
-{
-    Ok(crew.push(processor)?)
-}
-
-/// Lets the crew go.
-pub fn dismiss(crew: Vec<Processor>) {
-    drop(crew);
-}
 
 /// The rows of each processor.
 ///

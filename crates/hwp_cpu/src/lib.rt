@@ -5,5 +5,5 @@ mod course;
 mod crew;
 mod processor;
 
-pub use crew::{Rows, dismiss, enlist, rows_of};
+pub use crew::{Rows, rows_of};
 pub use processor::Processor;

@@ -2,7 +2,7 @@ ghost use Rattle.std.specs.Prelude.{IfOk};
 ghost use Rattle.hwp_plain.specs.hwp_script_read.Valid.{IsValid};
 ghost use Rattle.hwp_top.specs.Runs.{AreAtBeginning};
 
-use hwp_cpu::{Processor, dismiss, enlist};
+use hwp_cpu::Processor;
 use hwp_top_report::{Cpu, OutOfMemory, Script};
 use std::alloc::Global;
 use std::sync::Arc;
@@ -18,15 +18,9 @@ pub(crate) fn crew_of(alloc: Global, script: &Script) -> Result<Vec<Processor>, 
     for cpu in 0..lists.len() {
         let commands = lists[cpu].as_slice();
         match Processor::new(alloc, &layout, Cpu(cpu as u8), commands) {
-            Ok(processor) => match enlist(&mut crew, processor) {
-                Ok(()) => {}
-                Err(refused) => {
-                    dismiss(crew);
-                    return Err(refused);
-                }
-            },
+            Ok(processor) => crew.push_reserved(processor),
             Err(refused) => {
-                dismiss(crew);
+                drop(crew);
                 return Err(refused);
             }
         }

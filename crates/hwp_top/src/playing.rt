@@ -3,7 +3,7 @@ ghost use Rattle.hwp_plain.specs.hwp_script_read.Valid.{IsValid};
 ghost use Rattle.hwp_top.specs.Runs.{IsOpened, IsPlayed};
 
 use crate::crew::crew_of;
-use hwp_cpu::{Rows, dismiss, rows_of};
+use hwp_cpu::{Rows, rows_of};
 use hwp_plain::step_all;
 use hwp_top_report::{Board, OutOfMemory, Script};
 use std::alloc::Global;
@@ -20,7 +20,7 @@ pub fn play<B: Board>(alloc: Global, script: &Script, board: &mut B) -> Result<R
     match step_all(board, &mut crew, script.go.as_slice()) {
         Ok(()) => {}
         Err(refused) => {
-            dismiss(crew);
+            drop(crew);
             return Err(refused);
         }
     }

@@ -1,5 +1,5 @@
 use Rattle.std.specs.Arc.{arc_value}
-use Rattle.std.proofs.Common.{◌≡◌, ℕ, ◌+◌, ◌<◌, List, [], ◌∷◌, ◌++◌, length, get_or, sym, ap, ◌∙◌, subst, arith}
+use Rattle.std.proofs.Common.{◌≡◌, ℕ, ◌+◌, ◌<◌, ◌≤◌, List, [], ◌∷◌, ◌++◌, length, get_or, sym, ap, ◌∙◌, subst, arith}
 use Rattle.std.proofs.lemmas.List.{length-append}
 use Rattle.hwp_table_words.specs.hwp_geom.declared.Layout.{Layout}
 use Rattle.hwp_plain.specs.hwp_script_read.declared.Command.{Command}
@@ -34,8 +34,10 @@ loop-cpu-preserved c =
     let more : AreBegun c.args.script.now (tasks ++ p ∷ [])
     = begun-more c.args.script.now tasks p c.index-lists-cpu.result c.loop-cpu.invariant.1 (omega (arith, inside, count))
     (subst (λ (n : ℕ). AtBeginning c.args.script.now.layout (cpu_of n) (get_or c.args.script.now.lists n c.index-lists-cpu.result) p) (sym count) of_script) in (
-      ap (λ (l : List Processor). length l) c.in-Ok-enlist.ensures ∙ length-append tasks (p ∷ []) ∙ ap (λ (n : ℕ). n + 1) count,
-      subst (AreBegun c.args.script.now) (sym c.in-Ok-enlist.ensures) more,
+      ap (λ (l : List Processor). length l) c.push_reserved.ensures.items ∙ length-append tasks (p ∷ []) ∙ ap (λ (n : ℕ). n + 1) count,
+      subst (AreBegun c.args.script.now) (sym c.push_reserved.ensures.items) more,
       c.loop-cpu.invariant.2,
       c.loop-cpu.invariant.3,
+      c.push_reserved.ensures.len ∙ ap (λ (n : ℕ). n + 1) c.loop-cpu.invariant.4,
+      subst (λ (n : ℕ). length c.as_slice-lists.result.now ≤ n) (sym c.push_reserved.ensures.capacity) c.loop-cpu.invariant.5,
     )
