@@ -5,7 +5,8 @@ ghost use Rattle.hwp_law.specs.SeenPolicies.{cpu_of_thread};
 ghost use Rattle.hwp_check_rules.specs.Pasts.{AreCounts, AreDone, ArePasts, IsPast, noted, set_if, settings_by};
 
 use crate::policies::set_if;
-use crate::rows::{commands_of, rows_on};
+use crate::rows::commands_of;
+use hwp_check_events::rows_on;
 use hwp_law::{
     Answer, Command, Cpu, CpuLine, Layout, List, OutOfMemory, Policy, Report, Script, Thread,
 };
