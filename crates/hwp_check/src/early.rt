@@ -8,6 +8,7 @@ use hwp_check_state::{histories_fault, shape_fault};
 use hwp_report::Report;
 
 /// The verdict, where one of the rules before that of answers is broken.
+#[tactic(auto, using(crate::proofs::ActedVerdicts::none_below, crate::proofs::ActedVerdicts::shape_broken, crate::proofs::ActedVerdicts::shape_holds, crate::proofs::ActedVerdicts::histories_broken, crate::proofs::ActedVerdicts::histories_holds))]
 pub(crate) fn early_verdict(
     script: &Script,
     acted: &Script,

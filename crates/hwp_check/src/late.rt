@@ -10,6 +10,7 @@ use hwp_report::Report;
 use std::alloc::Global;
 
 /// The verdict, where the rule of policies seen or that of marks is broken.
+#[tactic(auto, using(crate::proofs::ActedVerdicts::shape_held, crate::proofs::ActedVerdicts::answered_held, crate::proofs::ActedVerdicts::seen_broken, crate::proofs::ActedVerdicts::seen_holds, crate::proofs::ActedVerdicts::marks_broken, crate::proofs::ActedVerdicts::marks_holds))]
 fn marked_verdict(
     alloc: Global,
     script: &Script,
@@ -39,6 +40,7 @@ fn marked_verdict(
 }
 
 /// The verdict, where the rule of the count, that of losses or that of the stop is broken.
+#[tactic(auto, using(crate::proofs::ActedVerdicts::shape_held, crate::proofs::ActedVerdicts::answered_held, crate::proofs::ActedVerdicts::count_broken, crate::proofs::ActedVerdicts::count_holds, crate::proofs::ActedVerdicts::losses_broken, crate::proofs::ActedVerdicts::losses_holds, crate::proofs::ActedVerdicts::stop_broken, crate::proofs::ActedVerdicts::stop_holds))]
 fn counted_verdict(
     alloc: Global,
     script: &Script,
@@ -74,6 +76,7 @@ fn counted_verdict(
 }
 
 /// The verdict, where the rule of answers and those before it hold.
+#[tactic(auto, using(crate::proofs::ActedVerdicts::shape_held, crate::proofs::ActedVerdicts::legal_held, crate::proofs::ActedVerdicts::frames_broken))]
 pub(crate) fn late_verdict(
     alloc: Global,
     script: &Script,

@@ -1,5 +1,5 @@
 use Rattle.std.proofs.Common.{arith}
-use Rattle.hwp_check.proofs.ActedVerdicts.{answered_held, count_broken, count_holds, losses_broken, losses_holds, shape_held, stop_broken, stop_holds}
+use Rattle.hwp_check.proofs.ActedVerdicts.{answered_held, count_holds, losses_broken, shape_held}
 use Rattle.hwp_check.proofs.late.counted_verdict.Goals as goal
 
 pub losses_fault-requires-clause-answers : goal.losses_fault-requires-clause-answers
@@ -12,18 +12,3 @@ pub returns-in-Some-2 : goal.returns-in-Some-2
 returns-in-Some-2 c =
     losses_broken c.args.script.now c.args.report.now c.args.acted.now c.args.copies.now c.requires.acts c.in-Some-2.line
     (count_holds c.args.script.now c.args.report.now c.args.acted.now c.args.copies.now c.requires.acts c.requires.below (rw c.in_default.is at c.count_fault.ensures)) (rw c.in-Some-2.is at c.in_ok-line.ensures)
-
-pub returns-in-Some : goal.returns-in-Some
-returns-in-Some c = count_broken c.args.script.now c.args.report.now c.args.acted.now c.args.copies.now c.requires.acts c.in-Some.line c.requires.below (rw c.in-Some.is at c.count_fault.ensures)
-
-pub returns-in-Some-3 : goal.returns-in-Some-3
-returns-in-Some-3 c =
-    stop_broken c.args.script.now c.args.report.now c.args.acted.now c.args.copies.now c.requires.acts c.in-Some-3.line
-    (losses_holds c.args.script.now c.args.report.now c.args.acted.now c.args.copies.now c.requires.acts (count_holds c.args.script.now c.args.report.now c.args.acted.now c.args.copies.now c.requires.acts c.requires.below (rw c.in_default.is at c.count_fault.ensures)) (rw c.in_default-2.is at c.in_ok-line.ensures))
-    (rw c.in-Some-3.is at c.stop_fault.ensures)
-
-pub returns : goal.returns
-returns c =
-    stop_holds c.args.script.now c.args.report.now c.args.acted.now c.args.copies.now c.requires.acts
-    (losses_holds c.args.script.now c.args.report.now c.args.acted.now c.args.copies.now c.requires.acts (count_holds c.args.script.now c.args.report.now c.args.acted.now c.args.copies.now c.requires.acts c.requires.below (rw c.in_default.is at c.count_fault.ensures)) (rw c.in_default-2.is at c.in_ok-line.ensures))
-    (rw c.in_default-3.is at c.stop_fault.ensures)

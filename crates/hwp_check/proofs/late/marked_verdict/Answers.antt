@@ -1,5 +1,5 @@
 use Rattle.std.proofs.Common.{arith}
-use Rattle.hwp_check.proofs.ActedVerdicts.{answered_held, marks_broken, marks_holds, seen_broken, seen_holds, shape_held}
+use Rattle.hwp_check.proofs.ActedVerdicts.{answered_held, marks_broken, seen_broken, seen_holds}
 use Rattle.hwp_check.proofs.late.marked_verdict.Goals as goal
 
 pub marks_fault-requires-clause-answered : goal.marks_fault-requires-clause-answered
@@ -12,11 +12,3 @@ pub returns-in-Some-2 : goal.returns-in-Some-2
 returns-in-Some-2 c =
     marks_broken c.args.script.now c.args.report.now c.args.acted.now c.args.copies.now c.requires.acts c.in-Some-2.line
     (seen_holds c.args.script.now c.args.report.now c.args.acted.now c.args.copies.now c.requires.acts c.requires.below (rw c.in_default.is at c.in_ok-line.ensures)) (rw c.in-Some-2.is at c.in_ok-line-2.ensures)
-
-pub marks_fault-requires-clause-shape : goal.marks_fault-requires-clause-shape
-marks_fault-requires-clause-shape c = shape_held c.args.script.now c.args.report.now c.args.acted.now c.args.copies.now c.requires.acts (omega arith) c.requires.below
-
-pub returns : goal.returns
-returns c =
-    marks_holds c.args.script.now c.args.report.now c.args.acted.now c.args.copies.now c.requires.acts
-    (seen_holds c.args.script.now c.args.report.now c.args.acted.now c.args.copies.now c.requires.acts c.requires.below (rw c.in_default.is at c.in_ok-line.ensures)) (rw c.in_default-2.is at c.in_ok-line-2.ensures)
