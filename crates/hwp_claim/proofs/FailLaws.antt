@@ -13,7 +13,7 @@ use Rattle.hwp_claim_frame.specs.hwp_core_rule.declared.Step.{Step}
 use Rattle.hwp_claim_frame.specs.hwp_core_rule.declared.View.{View}
 use Rattle.hwp_claim_frame.specs.hwp_core_rule.declared.Turn.{Turn}
 use Rattle.hwp_claim_frame.specs.hwp_core_rule.Calls.{CanMake, IsOnTurn, Steps, logs}
-use Rattle.hwp_claim_frame.proofs.of_hwp_core_rule.StepLeaves.{on-turn-after}
+use Rattle.hwp_claim_frame.proofs.of_hwp_core_rule.tasks.StepLeaves.{on-turn-after}
 use Rattle.hwp_claim_frame.proofs.of_hwp_core.TaskTells.{Tells, empty-tells}
 use Rattle.hwp_claim_frame.proofs.of_hwp_core.PageStates.{is-cached, state-is}
 use Rattle.hwp_claim_act.specs.declared.abandon.Failed.{Failed}

@@ -19,8 +19,8 @@ use Rattle.hwp_claim_frame.specs.hwp_core_rule.Boards.{view_of}
 use Rattle.hwp_claim_frame.specs.hwp_core_rule.Calls.{logs, rec_of}
 use Rattle.hwp_claim_frame.specs.hwp_core_rule.Hands.{Hand}
 use Rattle.hwp_claim_frame.specs.hwp_core_rule.Ranks.{IsRanked, Made, OtherHand, Pending, Quiet, failures_left, is_refused, is_waits, words_at}
-use Rattle.hwp_claim_frame.proofs.of_hwp_core_rule.Failures.{mild-leaves}
-use Rattle.hwp_claim_frame.proofs.of_hwp_core_rule.StepRanks.{failed, pending-kept, steps-on}
+use Rattle.hwp_claim_frame.proofs.of_hwp_core_rule.tasks.Failures.{mild-leaves}
+use Rattle.hwp_claim_frame.proofs.of_hwp_core_rule.tasks.StepRanks.{failed, pending-kept, steps-on}
 use Rattle.hwp_claim_frame.specs.hwp_core.declared.give_up.GiveUp.{GiveUp}
 use Rattle.hwp_claim_frame.specs.hwp_core.declared.give_up.GiveUpAt.{GiveUpAt}
 use Rattle.hwp_claim_frame.specs.hwp_core.declared.give_up.GiveUpAt.TheVariants as give_up_at

@@ -21,9 +21,9 @@ use Rattle.hwp_claim_frame.proofs.of_hwp_core_rule.Lists.{same-number}
 use Rattle.hwp_claim_frame.specs.hwp_core_rule.Known.{deeds}
 use Rattle.hwp_claim_frame.specs.hwp_core_rule.declared.Turn.{Turn}
 use Rattle.hwp_claim_frame.specs.hwp_core_rule.Calls.{CanMake, IsOnTurn, Steps, logs}
-use Rattle.hwp_claim_frame.proofs.of_hwp_core_rule.StepLeaves.{can-make, hand-planned, on-turn-after, steps-planned}
-use Rattle.hwp_claim_frame.proofs.of_hwp_core_rule.MadeEntries.{deeds-same}
-use Rattle.hwp_claim_frame.proofs.of_hwp_core_rule.SightKeeps.{saw-load}
+use Rattle.hwp_claim_frame.proofs.of_hwp_core_rule.tasks.StepLeaves.{can-make, hand-planned, on-turn-after, steps-planned}
+use Rattle.hwp_claim_frame.proofs.of_hwp_core_rule.tasks.MadeEntries.{deeds-same}
+use Rattle.hwp_claim_frame.proofs.of_hwp_core_rule.tasks.SightKeeps.{saw-load}
 use Rattle.hwp_claim_frame.specs.hwp_core.declared.unlock.Unlock.{Unlock}
 use Rattle.hwp_claim_frame.specs.hwp_core.Unlocks as unlocks
 use Rattle.hwp_claim_act.specs.declared.abandon.Failed.{Failed}

@@ -21,7 +21,7 @@ use Rattle.hwp_claim_frame.specs.hwp_core_rule.Boards.{view_of}
 use Rattle.hwp_claim_frame.specs.hwp_core_rule.Calls.{logs, rec_of}
 use Rattle.hwp_claim_frame.specs.hwp_core_rule.Classes.{TellsClass}
 use Rattle.hwp_claim_frame.specs.hwp_core_rule.Ranks.{CostFalls, HasFailed, HasFrame, HasPage, IsRanked, Made, OtherHand, Pending, Quiet, failure_weight, failures_left, is_refused, is_waits, words_at}
-use Rattle.hwp_claim_frame.proofs.of_hwp_core_rule.StepRanks.{part-made, pending-kept}
+use Rattle.hwp_claim_frame.proofs.of_hwp_core_rule.tasks.StepRanks.{part-made, pending-kept}
 use Rattle.hwp_claim_frame.proofs.of_hwp_core.TaskTells.{no-frame, no-page}
 use Rattle.hwp_claim.specs.declared.fail.Fail.{Fail}
 use Rattle.hwp_claim.specs.declared.inject.Inject.{Inject}

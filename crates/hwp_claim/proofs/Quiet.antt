@@ -19,7 +19,7 @@ use Rattle.hwp_claim_frame.specs.hwp_core_rule.Logs.{log_of}
 use Rattle.hwp_claim_frame.specs.hwp_core_rule.Steps.{goes}
 use Rattle.hwp_claim_frame.specs.hwp_core_rule.Views.{body_of, listed_of, loaded, noted, put_home, taken, view_by}
 use Rattle.hwp_claim_frame.specs.hwp_core_rule.Calls.{Steps}
-use Rattle.hwp_claim_frame.proofs.of_hwp_core_rule.StepLeaves.{content_of}
+use Rattle.hwp_claim_frame.proofs.of_hwp_core_rule.tasks.StepLeaves.{content_of}
 use Rattle.hwp_claim_frame.specs.hwp_core.declared.give_up.GiveUpAt.{GiveUpAt}
 use Rattle.hwp_claim_frame.specs.hwp_core.declared.give_up.GiveUpAt.TheVariants as give_up_at
 use Rattle.hwp_claim_frame.specs.hwp_core.declared.release.ReleaseAt.{ReleaseAt}

@@ -50,7 +50,7 @@ use Rattle.hwp_core.specs.hwp_core_rule.parts.Losses.{IsPoisonLoss}
 use Rattle.hwp_core.proofs.of_hwp_core_rule.Lists.{same-number}
 use Rattle.hwp_core.specs.hwp_core_rule.Calls.{CanMake, FitsLayout, logs}
 use Rattle.hwp_core.specs.hwp_core_rule.Hands.{Hand}
-use Rattle.hwp_core.proofs.of_hwp_core_rule.StepLeaves.{can-make, can-put}
+use Rattle.hwp_core.proofs.of_hwp_core_rule.tasks.StepLeaves.{can-make, can-put}
 use Rattle.hwp_core.specs.Holds.{page_lock}
 use Rattle.hwp_core.proofs.VacateLaws.{can-uncache, lock-held, put-fits-of, refs-are}
 use Rattle.hwp_claim_act.specs.declared.abandon.Abandon.{Abandon}

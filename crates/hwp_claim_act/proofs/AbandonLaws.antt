@@ -17,8 +17,8 @@ use Rattle.hwp_core.specs.hwp_core_rule.declared.Turn.TheVariants.{Moved}
 use Rattle.hwp_core.specs.hwp_core_rule.Boards.{view_of}
 use Rattle.hwp_core.specs.hwp_core_rule.Calls.{Steps, logs}
 use Rattle.hwp_core.specs.hwp_core_rule.Ranks.{IsRanked, is_waits}
-use Rattle.hwp_core.proofs.of_hwp_core_rule.StepRanks.{rank-of}
-use Rattle.hwp_core.proofs.of_hwp_core_rule.StepLeaves.{on-turn-after, steps-planned}
+use Rattle.hwp_core.proofs.of_hwp_core_rule.tasks.StepRanks.{rank-of}
+use Rattle.hwp_core.proofs.of_hwp_core_rule.tasks.StepLeaves.{on-turn-after, steps-planned}
 use Rattle.hwp_claim_act.specs.declared.abandon.Abandon.{Abandon}
 use Rattle.hwp_claim_act.specs.declared.abandon.AbandonAt.{AbandonAt}
 use Rattle.hwp_claim_act.specs.declared.abandon.AbandonAt.TheVariants as at

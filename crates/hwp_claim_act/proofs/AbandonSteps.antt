@@ -37,9 +37,9 @@ use Rattle.hwp_core.proofs.of_hwp_core_rule.Lists.{at_map, same-number, some-las
 use Rattle.hwp_core.proofs.of_hwp_core_rule.MetWords.{cache-word, frame-named, frame-word, lock-knows}
 use Rattle.hwp_core.specs.hwp_core_rule.Calls.{Steps, logs}
 use Rattle.hwp_core.specs.hwp_core_rule.Hands.{Hand, empty, hand_of, killing, listing, listing_of, putting}
-use Rattle.hwp_core.proofs.of_hwp_core_rule.StepLeaves.{hand-planned}
+use Rattle.hwp_core.proofs.of_hwp_core_rule.tasks.StepLeaves.{hand-planned}
 use Rattle.hwp_core.specs.hwp_core_rule.Known.{HasMade, deeds}
-use Rattle.hwp_core.proofs.of_hwp_core_rule.MadeEntries.{Lists, deeds-none, deeds-one, deeds-same, has-made, has-made-stays, kill-lists, loss-lists, page-lists}
+use Rattle.hwp_core.proofs.of_hwp_core_rule.tasks.MadeEntries.{Lists, deeds-none, deeds-one, deeds-same, has-made, has-made-stays, kill-lists, loss-lists, page-lists}
 use Rattle.hwp_core.specs.Holds.{one_ref, page_lock}
 use Rattle.hwp_core.specs.Vacates.{page_held, with_frame}
 use Rattle.hwp_core.proofs.BodyGrows.{Grown, extends-grown, length-grown}

@@ -25,9 +25,9 @@ use Rattle.hwp_core.proofs.of_hwp_core_rule.Lists.{each-push}
 use Rattle.hwp_core.specs.hwp_core_rule.declared.Turn.{Turn}
 use Rattle.hwp_core.specs.hwp_core_rule.Calls.{Steps, logs}
 use Rattle.hwp_core.specs.hwp_core_rule.Hands.{Hand}
-use Rattle.hwp_core.proofs.of_hwp_core_rule.StepLeaves.{steps-planned}
+use Rattle.hwp_core.proofs.of_hwp_core_rule.tasks.StepLeaves.{steps-planned}
 use Rattle.hwp_core.specs.hwp_core_rule.Known.{HasOnly, IsAt, deeds, is_failure}
-use Rattle.hwp_core.proofs.of_hwp_core_rule.MadeEntries.{Lists, deeds-none, deeds-one, deeds-same, frame-lists, kill-lists, loss-lists, page-lists}
+use Rattle.hwp_core.proofs.of_hwp_core_rule.tasks.MadeEntries.{Lists, deeds-none, deeds-one, deeds-same, frame-lists, kill-lists, loss-lists, page-lists}
 use Rattle.hwp_core.specs.declared.give_up.GiveUp.{GiveUp}
 use Rattle.hwp_core.specs.declared.give_up.GiveUpAt.{GiveUpAt}
 use Rattle.hwp_core.specs.declared.give_up.GiveUpAt.TheVariants as give_up_at

@@ -15,7 +15,7 @@ use Rattle.hwp_core.specs.hwp_core_rule.Words.{Words}
 use Rattle.hwp_core.specs.hwp_core_rule.declared.Turn.{Turn}
 use Rattle.hwp_core.specs.hwp_core_rule.Boards.{view_of}
 use Rattle.hwp_core.specs.hwp_core_rule.Ranks.{IsRanked, is_waits, words_at, pass}
-use Rattle.hwp_core.proofs.of_hwp_core_rule.StepRanks.{rank-of, steps-on}
+use Rattle.hwp_core.proofs.of_hwp_core_rule.tasks.StepRanks.{rank-of, steps-on}
 use Rattle.hwp_core.specs.declared.give_up.GiveUp.{GiveUp}
 use Rattle.hwp_core.specs.GiveUps as give_ups
 use Rattle.hwp_core.proofs.GiveUpCosts.{give-up-falls, give-up-goes, give-up-mild, give-up-ranked, give-up-small}

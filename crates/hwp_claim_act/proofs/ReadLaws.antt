@@ -33,9 +33,9 @@ use Rattle.hwp_core.specs.hwp_core_rule.Boards.{view_of}
 use Rattle.hwp_core.specs.hwp_core_rule.Calls.{CanMake, Steps}
 use Rattle.hwp_core.specs.hwp_core_rule.Hands.{Hand}
 use Rattle.hwp_core.specs.hwp_core_rule.Ranks.{IsRanked, is_waits}
-use Rattle.hwp_core.proofs.of_hwp_core_rule.StepRanks.{rank-of}
-use Rattle.hwp_core.proofs.of_hwp_core_rule.StepLeaves.{can-make, hand-planned, on-turn-after, steps-planned}
-use Rattle.hwp_core.proofs.of_hwp_core_rule.MadeEntries.{ListsNone}
+use Rattle.hwp_core.proofs.of_hwp_core_rule.tasks.StepRanks.{rank-of}
+use Rattle.hwp_core.proofs.of_hwp_core_rule.tasks.StepLeaves.{can-make, hand-planned, on-turn-after, steps-planned}
+use Rattle.hwp_core.proofs.of_hwp_core_rule.tasks.MadeEntries.{ListsNone}
 use Rattle.hwp_core.specs.Holds.{HoldsPage}
 use Rattle.hwp_claim_act.specs.declared.read_policies.ReadPolicies.{ReadPolicies}
 use Rattle.hwp_claim_act.specs.Reads.{CanReadMore, Fits, Follows, FollowsAt, HoldsFailed, IsNextOf, ReadsMore, Shows, ShowsAt, cost, cost_at, plan, plan_at, seen_in, task as read-policies-task}

@@ -16,7 +16,7 @@ use Rattle.hwp_core.specs.hwp_core_rule.declared.View.{View}
 use Rattle.hwp_core.specs.hwp_core_rule.Asks.{OwesCount}
 use Rattle.hwp_core.specs.hwp_core_rule.Views.{noted, owing_count, paying_count, stamp_of}
 use Rattle.hwp_core.specs.hwp_core_rule.Calls.{Steps, logs}
-use Rattle.hwp_core.proofs.of_hwp_core_rule.StepLeaves.{steps-planned}
+use Rattle.hwp_core.proofs.of_hwp_core_rule.tasks.StepLeaves.{steps-planned}
 use Rattle.hwp_core.specs.declared.unlock.Unlock.{Unlock}
 use Rattle.hwp_core.specs.Unlocks as unlocks
 use Rattle.hwp_claim_frame.specs.declared.claim.Claim.{Claim}

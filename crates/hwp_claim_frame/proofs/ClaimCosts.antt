@@ -21,8 +21,8 @@ use Rattle.hwp_core.specs.hwp_core_rule.declared.Turn.TheVariants.{Moved, Change
 use Rattle.hwp_core.specs.hwp_core_rule.Boards.{view_of}
 use Rattle.hwp_core.specs.hwp_core_rule.Calls.{logs, rec_of}
 use Rattle.hwp_core.specs.hwp_core_rule.Ranks.{Made, Quiet, OtherHand, failures_left, is_waits, stale, words_at, stale_weight}
-use Rattle.hwp_core.proofs.of_hwp_core_rule.Failures.{mild-leaves}
-use Rattle.hwp_core.proofs.of_hwp_core_rule.StepRanks.{met, poison-fails, words-kept}
+use Rattle.hwp_core.proofs.of_hwp_core_rule.tasks.Failures.{mild-leaves}
+use Rattle.hwp_core.proofs.of_hwp_core_rule.tasks.StepRanks.{met, poison-fails, words-kept}
 use Rattle.hwp_core.specs.declared.unlock.Unlock.{Unlock}
 use Rattle.hwp_core.specs.Unlocks as unlocks
 use Rattle.hwp_core.proofs.TaskCosts.{met-own}

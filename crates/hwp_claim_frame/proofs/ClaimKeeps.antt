@@ -18,7 +18,7 @@ use Rattle.hwp_core.specs.hwp_core_rule.declared.Turn.{Turn}
 use Rattle.hwp_core.specs.hwp_core_rule.Boards.{view_of}
 use Rattle.hwp_core.specs.hwp_core_rule.Ranks.{Made, Pending, words_at}
 use Rattle.hwp_core.specs.hwp_core_rule.Turns.{Member}
-use Rattle.hwp_core.proofs.of_hwp_core_rule.StepRanks.{me}
+use Rattle.hwp_core.proofs.of_hwp_core_rule.tasks.StepRanks.{me}
 use Rattle.hwp_claim_frame.specs.Meets.{word_in}
 use Rattle.hwp_claim_frame.proofs.MeetCosts.{after-is, met-at, set-word}
 

@@ -34,9 +34,9 @@ use Rattle.hwp_core.proofs.of_hwp_core_rule.MetWords.{frame-word}
 use Rattle.hwp_core.specs.hwp_core_rule.declared.Turn.{Turn}
 use Rattle.hwp_core.specs.hwp_core_rule.Calls.{CanMake, IsOnTurn, Steps, logs}
 use Rattle.hwp_core.specs.hwp_core_rule.Hands.{hand_of, empty}
-use Rattle.hwp_core.proofs.of_hwp_core_rule.StepLeaves.{on-turn-after, hand-planned, steps-planned, can-make}
+use Rattle.hwp_core.proofs.of_hwp_core_rule.tasks.StepLeaves.{on-turn-after, hand-planned, steps-planned, can-make}
 use Rattle.hwp_core.specs.hwp_core_rule.Known.{IsShown}
-use Rattle.hwp_core.proofs.of_hwp_core_rule.SightKeeps.{saw-stopped, stop-listed}
+use Rattle.hwp_core.proofs.of_hwp_core_rule.tasks.SightKeeps.{saw-stopped, stop-listed}
 use Rattle.hwp_core.specs.declared.unlock.Unlock.{Unlock}
 use Rattle.hwp_core.specs.declared.unlock.UnlockAt.{UnlockAt}
 use Rattle.hwp_core.specs.declared.unlock.UnlockAt.TheVariants as unlock_at

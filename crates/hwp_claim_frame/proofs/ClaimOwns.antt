@@ -20,7 +20,7 @@ use Rattle.hwp_core.specs.hwp_core_rule.declared.Turn.{Turn}
 use Rattle.hwp_core.specs.hwp_core_rule.Boards.{view_of}
 use Rattle.hwp_core.specs.hwp_core_rule.Hands.{Hand}
 use Rattle.hwp_core.specs.hwp_core_rule.Ranks.{Made, IsRanked, Pending, words_at}
-use Rattle.hwp_core.proofs.of_hwp_core_rule.StepRanks.{failed, pending-kept}
+use Rattle.hwp_core.proofs.of_hwp_core_rule.tasks.StepRanks.{failed, pending-kept}
 use Rattle.hwp_core.specs.declared.release.ReleaseAt.{ReleaseAt}
 use Rattle.hwp_core.specs.declared.release.ReleaseAt.TheVariants as release_at
 use Rattle.hwp_core.specs.Holds.{is_free}

@@ -23,7 +23,7 @@ use Rattle.hwp_core.specs.hwp_core_rule.parts.Bodies.{content_name}
 use Rattle.hwp_core.proofs.of_hwp_core_rule.Lists.{same-number}
 use Rattle.hwp_core.specs.hwp_core_rule.Calls.{CanMake, FitsLayout, IsOnTurn, logs}
 use Rattle.hwp_core.specs.hwp_core_rule.Hands.{Hand, hand_of, hand_after, body_in, putting, taking}
-use Rattle.hwp_core.proofs.of_hwp_core_rule.StepLeaves.{can-put}
+use Rattle.hwp_core.proofs.of_hwp_core_rule.tasks.StepLeaves.{can-put}
 use Rattle.hwp_core.specs.Unlocks.{FitsFrame, holding}
 use Rattle.hwp_core.proofs.HoldEnds.{as-taken, none-more}
 use Rattle.hwp_claim_frame.specs.Meets.{AsTaken, paged, reference}

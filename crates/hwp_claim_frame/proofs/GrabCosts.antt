@@ -32,7 +32,7 @@ use Rattle.hwp_core.specs.hwp_core_rule.Calls.{rec_of}
 use Rattle.hwp_core.specs.hwp_core_rule.Hands.{Hand, hand_of}
 use Rattle.hwp_core.specs.hwp_core_rule.Ranks.{HasFrame, IsRanked, Made, OtherHand, is_waits, stale, words_at, stale_weight}
 use Rattle.hwp_core.specs.hwp_core_rule.Turns.{Member}
-use Rattle.hwp_core.proofs.of_hwp_core_rule.StepRanks.{met, pending-kept, words-after}
+use Rattle.hwp_core.proofs.of_hwp_core_rule.tasks.StepRanks.{met, pending-kept, words-after}
 use Rattle.hwp_core.proofs.FreeWords.{none-cleared}
 use Rattle.hwp_core.proofs.TaskCosts.{met-own, stale-most}
 use Rattle.hwp_claim_frame.specs.declared.grab.Grab.{Grab}

@@ -22,8 +22,8 @@ use Rattle.hwp_core.proofs.of_hwp_core_rule.MetWords.{frame-word, hand-bare}
 use Rattle.hwp_core.specs.hwp_core_rule.declared.Turn.{Turn}
 use Rattle.hwp_core.specs.hwp_core_rule.Calls.{CanMake, Steps}
 use Rattle.hwp_core.specs.hwp_core_rule.Hands.{Hand, hand_of, empty}
-use Rattle.hwp_core.proofs.of_hwp_core_rule.StepLeaves.{on-turn-after, hand-planned, steps-planned, can-make}
-use Rattle.hwp_core.proofs.of_hwp_core_rule.SightKeeps.{saw-adopt}
+use Rattle.hwp_core.proofs.of_hwp_core_rule.tasks.StepLeaves.{on-turn-after, hand-planned, steps-planned, can-make}
+use Rattle.hwp_core.proofs.of_hwp_core_rule.tasks.SightKeeps.{saw-adopt}
 use Rattle.hwp_core.specs.Releases.{adopted_lock}
 use Rattle.hwp_core.proofs.TaskTells.{Tells, empty-tells, frame-tells}
 use Rattle.hwp_claim_frame.specs.declared.grab.Grab.{Grab}

@@ -30,7 +30,7 @@ use Rattle.hwp_core.specs.hwp_core_rule.Calls.{logs, rec_of}
 use Rattle.hwp_core.specs.hwp_core_rule.Hands.{Hand}
 use Rattle.hwp_core.specs.hwp_core_rule.Ranks.{Made, IsRanked, Quiet, is_waits, stale, words_at, stale_weight}
 use Rattle.hwp_core.specs.hwp_core_rule.Turns.{Member}
-use Rattle.hwp_core.proofs.of_hwp_core_rule.StepRanks.{met, no-lock, no-page, rank-of, steps-on, words-after}
+use Rattle.hwp_core.proofs.of_hwp_core_rule.tasks.StepRanks.{met, no-lock, no-page, rank-of, steps-on, words-after}
 use Rattle.hwp_core.specs.declared.release.Release.{Release}
 use Rattle.hwp_core.specs.declared.release.ReleaseAt.{ReleaseAt}
 use Rattle.hwp_core.specs.declared.release.ReleaseAt.TheVariants as release_at

@@ -28,8 +28,8 @@ use Rattle.hwp_core.proofs.of_hwp_core_rule.MetWords.{free-word, lock-knows, nam
 use Rattle.hwp_core.specs.hwp_core_rule.declared.Turn.{Turn}
 use Rattle.hwp_core.specs.hwp_core_rule.Calls.{CanMake, FitsLayout, IsOnTurn, Steps, logs}
 use Rattle.hwp_core.specs.hwp_core_rule.Hands.{Hand, empty, hand_of, putting, taking}
-use Rattle.hwp_core.proofs.of_hwp_core_rule.StepLeaves.{on-turn-after, content_of, brought, was-home, hand-planned, steps-planned, can-make, can-put}
-use Rattle.hwp_core.proofs.of_hwp_core_rule.SightKeeps.{saw-log-frame}
+use Rattle.hwp_core.proofs.of_hwp_core_rule.tasks.StepLeaves.{on-turn-after, content_of, brought, was-home, hand-planned, steps-planned, can-make, can-put}
+use Rattle.hwp_core.proofs.of_hwp_core_rule.tasks.SightKeeps.{saw-log-frame}
 use Rattle.hwp_core.specs.declared.release.Release.{Release}
 use Rattle.hwp_core.specs.declared.release.ReleaseAt.{ReleaseAt}
 use Rattle.hwp_core.specs.declared.release.ReleaseAt.TheVariants as release_at

@@ -20,7 +20,7 @@ use Rattle.hwp_core.specs.hwp_core_rule.Logs.{log_of}
 use Rattle.hwp_core.specs.hwp_core_rule.Steps.{goes}
 use Rattle.hwp_core.specs.hwp_core_rule.Views.{listed_of, loaded, losses_made, made_from, noted, put_home, stamp_of, taken, view_by}
 use Rattle.hwp_core.specs.hwp_core_rule.Calls.{Steps, logs}
-use Rattle.hwp_core.proofs.of_hwp_core_rule.StepLeaves.{content_of}
+use Rattle.hwp_core.proofs.of_hwp_core_rule.tasks.StepLeaves.{content_of}
 use Rattle.hwp_core.specs.declared.release.Release.{Release}
 use Rattle.hwp_core.specs.declared.release.ReleaseAt.{ReleaseAt}
 use Rattle.hwp_core.specs.declared.release.ReleaseAt.TheVariants as release_at

@@ -32,9 +32,9 @@ use Rattle.hwp_core_rule.specs.Calls.{CanMake, Steps}
 use Rattle.hwp_core_rule.specs.Hands.{Hand, hand_of}
 use Rattle.hwp_core_rule.specs.Ranks.{IsRanked, is_waits, translation_room, words_at}
 use Rattle.hwp_core_rule.specs.Boards.{view_of}
-use Rattle.hwp_core_rule.proofs.StepRanks.{rank-of, steps-on}
-use Rattle.hwp_core_rule.proofs.StepLeaves.{on-turn-after, hand-planned, steps-planned, can-make}
-use Rattle.hwp_core_rule.proofs.MadeEntries.{ListsNone}
+use Rattle.hwp_core_rule.proofs.tasks.StepRanks.{rank-of, steps-on}
+use Rattle.hwp_core_rule.proofs.tasks.StepLeaves.{on-turn-after, hand-planned, steps-planned, can-make}
+use Rattle.hwp_core_rule.proofs.tasks.MadeEntries.{ListsNone}
 use Rattle.hwp_core.specs.Holds.{page_lock}
 use Rattle.hwp_core.specs.declared.clear.Clear.{Clear}
 use Rattle.hwp_core.specs.Clears.{pte_of, IsNextFrom, plan, plan_at, Follows, FollowsAt, Shows, ShowsAt, is_done, word_now, IsCounted, IsClearing, Fits, cost, cost_at, task as clear-task}

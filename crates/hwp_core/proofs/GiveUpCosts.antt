@@ -7,7 +7,7 @@ use Rattle.hwp_core_rule.specs.declared.Step.TheVariants as steps
 use Rattle.hwp_core_rule.specs.Lasting.{IsMild}
 use Rattle.hwp_core_rule.specs.Words.{Words}
 use Rattle.hwp_core_rule.specs.Ranks.{IsRanked, is_waits, words_at}
-use Rattle.hwp_core_rule.proofs.StepRanks.{rank-of}
+use Rattle.hwp_core_rule.proofs.tasks.StepRanks.{rank-of}
 use Rattle.hwp_core.specs.declared.give_up.GiveUp.{GiveUp}
 use Rattle.hwp_core.specs.declared.give_up.GiveUpAt.{GiveUpAt}
 use Rattle.hwp_core.specs.declared.give_up.GiveUpAt.TheVariants as give_up_at

@@ -10,7 +10,7 @@ use Rattle.hwp_core_rule.specs.declared.Step.{Step}
 use Rattle.hwp_core_rule.specs.declared.View.{View}
 use Rattle.hwp_core_rule.specs.declared.Turn.{Turn}
 use Rattle.hwp_core_rule.specs.Calls.{CanMake, Steps, IsOnTurn, logs}
-use Rattle.hwp_core_rule.proofs.StepLeaves.{on-turn-after, hand-planned, can-make}
+use Rattle.hwp_core_rule.proofs.tasks.StepLeaves.{on-turn-after, hand-planned, can-make}
 use Rattle.hwp_core.specs.declared.give_up.GiveUp.{GiveUp}
 use Rattle.hwp_core.specs.declared.give_up.GiveUpAt.{GiveUpAt}
 use Rattle.hwp_core.specs.declared.give_up.GiveUpAt.TheVariants as at

@@ -22,7 +22,7 @@ use Rattle.hwp_core_rule.specs.Words.{index}
 use Rattle.hwp_core_rule.proofs.Lists.{same-number}
 use Rattle.hwp_core_rule.proofs.MetWords.{free-word, cache-words, cache-word, cached-frame, on-shelf, lock-knows, stays-referenced, in-slot}
 use Rattle.hwp_core_rule.specs.declared.Turn.{Turn}
-use Rattle.hwp_core_rule.proofs.SightKeeps.{saw-log-stays, saw-log-shelf, saw-log-frame}
+use Rattle.hwp_core_rule.proofs.tasks.SightKeeps.{saw-log-stays, saw-log-shelf, saw-log-frame}
 use Rattle.hwp_core.specs.declared.hold.Hold.{Hold}
 use Rattle.hwp_core.specs.declared.hold.HoldAt.{HoldAt}
 use Rattle.hwp_core.specs.declared.hold.HoldAt.TheVariants as at
@@ -35,7 +35,7 @@ use Rattle.hwp_core.specs.Holds.{is_free, plan, plan_at, named_at, pinned, locke
 use Rattle.hwp_core.specs.Pins as pins
 use Rattle.hwp_core.specs.Pins.{is_gone}
 use Rattle.hwp_core.proofs.PinLaws as pinning
-use Rattle.hwp_core_rule.proofs.StepLeaves.{on-turn-after, content_of, brought, was-home, hand-planned, steps-planned, can-make}
+use Rattle.hwp_core_rule.proofs.tasks.StepLeaves.{on-turn-after, content_of, brought, was-home, hand-planned, steps-planned, can-make}
 
 -- a page's lock, just taken
 abbrev bare : Page → Option Log → PageLock

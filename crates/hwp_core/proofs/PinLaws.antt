@@ -20,7 +20,7 @@ use Rattle.hwp_core.specs.declared.pin.PinAt.TheVariants as at
 use Rattle.hwp_core_rule.specs.Calls.{CanMake, Steps}
 use Rattle.hwp_core_rule.specs.Hands.{Hand, hand_of, hand_after}
 use Rattle.hwp_core.specs.Pins.{is_gone, plan, plan_at, next, next_at, at_word, turn, Fits, FitsAt, hand_next, hand_next_at}
-use Rattle.hwp_core_rule.proofs.StepLeaves.{on-turn-after, content_of, hand-planned, can-make}
+use Rattle.hwp_core_rule.proofs.tasks.StepLeaves.{on-turn-after, content_of, hand-planned, can-make}
 
 -- a frame that isn't gone has references
 counted : (word : ℕ) → is_gone word ≡ false → 0 < count_of word

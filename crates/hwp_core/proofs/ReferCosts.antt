@@ -12,7 +12,7 @@ use Rattle.hwp_core_rule.specs.Words.{Words, read}
 use Rattle.hwp_core_rule.proofs.Lists.{same-number}
 use Rattle.hwp_core_rule.specs.declared.Turn.TheVariants.{Moved, Changed}
 use Rattle.hwp_core_rule.specs.Ranks.{IsRanked, is_waits, stale, stale_weight, words_at}
-use Rattle.hwp_core_rule.proofs.StepRanks.{met, words-kept, rank-of}
+use Rattle.hwp_core_rule.proofs.tasks.StepRanks.{met, words-kept, rank-of}
 use Rattle.hwp_core.specs.declared.refer.Refer.{Refer}
 use Rattle.hwp_core.specs.declared.refer.ReferAt.{ReferAt}
 use Rattle.hwp_core.specs.declared.refer.ReferAt.TheVariants as refer_at

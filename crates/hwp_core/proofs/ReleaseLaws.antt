@@ -21,7 +21,7 @@ use Rattle.hwp_core.specs.declared.release.ReleaseAt.TheVariants as at
 use Rattle.hwp_core_rule.specs.Calls.{CanMake, Steps, logs}
 use Rattle.hwp_core_rule.specs.Hands.{Hand, hand_of}
 use Rattle.hwp_core.specs.Releases.{plan, plan_at, next, next_at, Fits, FitsAt, hand_next, hand_next_at}
-use Rattle.hwp_core_rule.proofs.StepLeaves.{on-turn-after, hand-planned, steps-planned, can-make}
+use Rattle.hwp_core_rule.proofs.tasks.StepLeaves.{on-turn-after, hand-planned, steps-planned, can-make}
 
 module _ {layout : Layout} {old new : View} {step : Step} {found : ℕ} {got : Option BodyValue} (r : Release) (is : plan r ≡ Some step) (made : Steps layout r.who step None old new found got) (fits : Fits layout old r) where
   -- what a step leaves of what is held

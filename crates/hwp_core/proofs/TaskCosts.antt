@@ -17,13 +17,13 @@ use Rattle.hwp_core_rule.specs.Views.{frame_in}
 use Rattle.hwp_core_rule.specs.Words.{Words, read, index}
 use Rattle.hwp_core_rule.proofs.Lists.{same-number}
 use Rattle.hwp_core_rule.proofs.MetWords.{held-word, page-free, frame-free}
-use Rattle.hwp_core_rule.proofs.MadeEntries.{ListsNone}
+use Rattle.hwp_core_rule.proofs.tasks.MadeEntries.{ListsNone}
 use Rattle.hwp_core_rule.specs.declared.Turn.{Turn}
 use Rattle.hwp_core_rule.specs.declared.Turn.TheVariants.{Moved, Changed, Waits}
 use Rattle.hwp_core_rule.specs.Boards.{view_of}
 use Rattle.hwp_core_rule.specs.Hands.{Hand}
 use Rattle.hwp_core_rule.specs.Ranks.{CostFalls, IsRanked, Made, Quiet, is_waits, stale, stale_weight, words_at}
-use Rattle.hwp_core_rule.proofs.StepRanks.{met, words-kept, steps-on, no-page, no-lock, rank-of}
+use Rattle.hwp_core_rule.proofs.tasks.StepRanks.{met, words-kept, steps-on, no-page, no-lock, rank-of}
 use Rattle.hwp_core.specs.declared.hold.Hold.{Hold}
 use Rattle.hwp_core.specs.declared.hold.HoldAt.{HoldAt}
 use Rattle.hwp_core.specs.declared.hold.HoldAt.TheVariants as hold_at

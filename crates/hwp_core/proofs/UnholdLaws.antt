@@ -38,7 +38,7 @@ use Rattle.hwp_core.specs.Holds.{page_lock, named, refs_to}
 use Rattle.hwp_core.specs.Releases as releases
 use Rattle.hwp_core.specs.Unholds.{plan, plan_at, put, put_at, bare, bare_at, next, next_at, after_release, holding, HoldsAhead, releasing, IsReleasing, FitsPage, Fits, FitsAt}
 use Rattle.hwp_core.proofs.ReleaseLaws as releasing-laws
-use Rattle.hwp_core_rule.proofs.StepLeaves.{on-turn-after, hand-planned, steps-planned, can-put}
+use Rattle.hwp_core_rule.proofs.tasks.StepLeaves.{on-turn-after, hand-planned, steps-planned, can-put}
 
 -- ---- what is held after each step
 

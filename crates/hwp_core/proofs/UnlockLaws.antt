@@ -25,8 +25,8 @@ use Rattle.hwp_core_rule.specs.declared.Turn.TheVariants.{Moved}
 use Rattle.hwp_core_rule.specs.Calls.{CanMake, FitsLayout, Steps, IsOnTurn, logs}
 use Rattle.hwp_core_rule.specs.Hands.{Hand, hand_of, empty, putting}
 use Rattle.hwp_core_rule.specs.Ranks.{IsRanked, is_waits, words_at}
-use Rattle.hwp_core_rule.proofs.StepRanks.{rank-of}
-use Rattle.hwp_core_rule.proofs.StepLeaves.{on-turn-after, hand-planned, steps-planned, can-put}
+use Rattle.hwp_core_rule.proofs.tasks.StepRanks.{rank-of}
+use Rattle.hwp_core_rule.proofs.tasks.StepLeaves.{on-turn-after, hand-planned, steps-planned, can-put}
 use Rattle.hwp_core.specs.declared.release.Release.{Release}
 use Rattle.hwp_core.specs.declared.release.ReleaseAt.{ReleaseAt}
 use Rattle.hwp_core.specs.declared.release.ReleaseAt.TheVariants as release_at

@@ -11,8 +11,8 @@ use Rattle.hwp_core_rule.specs.Words.{Words}
 use Rattle.hwp_core_rule.specs.declared.InHand.{InHand}
 use Rattle.hwp_core_rule.specs.Hands.{hand_of}
 use Rattle.hwp_core_rule.specs.Ranks.{IsRanked, is_waits, words_at}
-use Rattle.hwp_core_rule.proofs.StepRanks.{rank-of}
-use Rattle.hwp_core_rule.proofs.MadeEntries.{ListsNone}
+use Rattle.hwp_core_rule.proofs.tasks.StepRanks.{rank-of}
+use Rattle.hwp_core_rule.proofs.tasks.MadeEntries.{ListsNone}
 use Rattle.hwp_core.specs.declared.release.Release.{Release}
 use Rattle.hwp_core.specs.declared.release.ReleaseAt.{ReleaseAt}
 use Rattle.hwp_core.specs.declared.release.ReleaseAt.TheVariants as release_at

@@ -36,7 +36,7 @@ use Rattle.hwp_core_rule.specs.declared.Turn.{Turn}
 use Rattle.hwp_core_rule.specs.declared.Turn.TheVariants.{Moved}
 use Rattle.hwp_core_rule.specs.Calls.{CanMake, FitsLayout, Steps, IsOnTurn, logs}
 use Rattle.hwp_core_rule.specs.Hands.{Hand, hand_of, empty, putting}
-use Rattle.hwp_core_rule.proofs.StepLeaves.{on-turn-after, hand-planned, steps-planned, can-make, can-put}
+use Rattle.hwp_core_rule.proofs.tasks.StepLeaves.{on-turn-after, hand-planned, steps-planned, can-make, can-put}
 use Rattle.hwp_core.specs.declared.release.Release.{Release}
 use Rattle.hwp_core.specs.declared.release.ReleaseAt.{ReleaseAt}
 use Rattle.hwp_core.specs.declared.release.ReleaseAt.TheVariants as release_at

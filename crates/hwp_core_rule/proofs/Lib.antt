@@ -34,15 +34,7 @@ pub mod BoardOpens
 pub mod MetWords
 pub mod StepKeeps
 pub mod bounds
-pub mod DriverSteps
-pub mod StepLeaves
-pub mod Failures
-pub mod StepRanks
-pub mod Revivals
-pub mod SightKeeps
-pub mod MadeEntries
-pub mod StepOwes
-pub mod LossCovers
+pub mod tasks
 pub use Rattle.hwp_page.proofs.of_hwp_geom as of_hwp_geom
 pub use Rattle.hwp_page.proofs.of_hwp_kill as of_hwp_kill
 pub use Rattle.hwp_page.proofs as of_hwp_page

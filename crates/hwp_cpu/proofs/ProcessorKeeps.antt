@@ -42,7 +42,7 @@ use Rattle.hwp_cpu.proofs.ProcessorNotes.{listed-on, noted-on, spoils-on, accoun
 use Rattle.hwp_law_served.proofs.Rows.{rows-stay}
 use Rattle.hwp_cpu_row.specs.hwp_law.Watched.{told, due, Watched}
 use Rattle.hwp_cpu.proofs.commands.TaskLeaves.{soft-leaves, Left}
-use Rattle.hwp_cpu_row.proofs.of_hwp_core_rule.MadeEntries.{made-none}
+use Rattle.hwp_cpu_row.proofs.of_hwp_core_rule.tasks.MadeEntries.{made-none}
 use Rattle.hwp_cpu.proofs.commands.ToldGrows.{told-longer}
 use Rattle.hwp_cpu.specs.declared.course.Course.{Course}
 use Rattle.hwp_cpu.proofs.Marks.{GrowAlike, own-alike, beside-alike}

@@ -27,8 +27,8 @@ use Rattle.hwp_cpu_row.specs.hwp_core_rule.Views.{made_from, more_of, without}
 use Rattle.hwp_cpu_row.proofs.of_hwp_core_rule.Lists.{each-push, same-number}
 use Rattle.hwp_cpu_row.specs.hwp_core_rule.Calls.{CanMake, Steps, logs}
 use Rattle.hwp_cpu_row.specs.hwp_core_rule.Known.{HasMadeBeside, HasMadeNoneBeside, deeds, is_by}
-use Rattle.hwp_cpu_row.proofs.of_hwp_core_rule.MadeEntries.{Lists, frame-lists, kill-lists, loss-lists, page-lists}
-use Rattle.hwp_cpu_row.proofs.of_hwp_core_rule.StepOwes.{frame-owes, kill-owes, listed-none, losses-kept, losses-same, page-owes}
+use Rattle.hwp_cpu_row.proofs.of_hwp_core_rule.tasks.MadeEntries.{Lists, frame-lists, kill-lists, loss-lists, page-lists}
+use Rattle.hwp_cpu_row.proofs.of_hwp_core_rule.tasks.StepOwes.{frame-owes, kill-owes, listed-none, losses-kept, losses-same, page-owes}
 use Rattle.hwp_cpu_command.specs.hwp_cpu_access.Fits.{checks_in, checks_made}
 use Rattle.hwp_cpu_command.proofs.of_hwp_cpu_access.CommandGrows.{More, made-more}
 use Rattle.hwp_cpu_command.specs.hwp_law.Commands.{is_check}

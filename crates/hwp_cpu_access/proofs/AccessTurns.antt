@@ -21,7 +21,7 @@ use Rattle.hwp_fault.proofs.of_hwp_core_rule.MoveKeeps.{shaped}
 use Rattle.hwp_fault.specs.hwp_core_rule.declared.Turn.{Turn}
 use Rattle.hwp_fault.specs.hwp_core_rule.Boards.{view_of}
 use Rattle.hwp_fault.specs.hwp_core_rule.Ranks.{CostFalls, HasFailed, Made, is_waits, words_at}
-use Rattle.hwp_fault.proofs.of_hwp_core_rule.StepRanks.{met, words-kept}
+use Rattle.hwp_fault.proofs.of_hwp_core_rule.tasks.StepRanks.{met, words-kept}
 use Rattle.hwp_fault.specs.hwp_core.declared.Pin.{Pin}
 use Rattle.hwp_fault.specs.hwp_core.declared.pin.PinAt.{PinAt}
 use Rattle.hwp_fault.specs.hwp_core.declared.pin.PinAt.TheVariants as pin_at

@@ -12,7 +12,7 @@ use Rattle.hwp_fault.specs.hwp_core_rule.Words.{Words}
 use Rattle.hwp_fault.specs.hwp_core_rule.declared.Turn.{Turn}
 use Rattle.hwp_fault.specs.hwp_core_rule.Boards.{view_of}
 use Rattle.hwp_fault.specs.hwp_core_rule.Ranks.{Made, is_waits, words_at}
-use Rattle.hwp_fault.proofs.of_hwp_core_rule.StepRanks.{met, poison-fails}
+use Rattle.hwp_fault.proofs.of_hwp_core_rule.tasks.StepRanks.{met, poison-fails}
 use Rattle.hwp_fault.proofs.of_hwp_core.TaskCosts.{met-own}
 use Rattle.hwp_fault.proofs.FaultCosts.{Lowered}
 use Rattle.hwp_cpu_check.specs.hwp_claim_frame.declared.claim.Claim.{Claim}

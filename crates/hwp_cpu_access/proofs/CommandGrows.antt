@@ -30,8 +30,8 @@ use Rattle.hwp_fault.specs.hwp_core_rule.declared.SharedWord.TheVariants as plac
 use Rattle.hwp_fault.proofs.of_hwp_core_rule.Lists.{at_longer, each-push}
 use Rattle.hwp_fault.specs.hwp_core_rule.Calls.{Steps, logs}
 use Rattle.hwp_fault.specs.hwp_core_rule.Known.{HasMadeBeside, HasOnlyBeside, IsOnTheWay, Precedes, Saw, deeds, is_by, is_failure, such_deeds}
-use Rattle.hwp_fault.proofs.of_hwp_core_rule.MadeEntries.{made-kept, only-beside-more, only-beside-stays, only-of-made}
-use Rattle.hwp_fault.proofs.of_hwp_core_rule.SightKeeps.{saw-stays}
+use Rattle.hwp_fault.proofs.of_hwp_core_rule.tasks.MadeEntries.{made-kept, only-beside-more, only-beside-stays, only-of-made}
+use Rattle.hwp_fault.proofs.of_hwp_core_rule.tasks.SightKeeps.{saw-stays}
 use Rattle.hwp_cpu_check.specs.hwp_claim_act.declared.Failed.{Failed}
 use Rattle.hwp_cpu_check.specs.hwp_claim_act.Abandoned.{AddsFailure, failed_in, failed_of}
 use Rattle.hwp_cpu_check.specs.hwp_claim_frame.Claims.{is_own}

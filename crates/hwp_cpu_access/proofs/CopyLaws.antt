@@ -21,8 +21,8 @@ use Rattle.hwp_fault.specs.hwp_core_rule.Hands.{hand_of, empty}
 use Rattle.hwp_fault.specs.hwp_core_rule.Known.{deeds}
 use Rattle.hwp_fault.specs.hwp_core_rule.Pages.{SawState}
 use Rattle.hwp_fault.specs.hwp_core_rule.Turns.{IsTask}
-use Rattle.hwp_fault.proofs.of_hwp_core_rule.SightKeeps.{saw-stays}
-use Rattle.hwp_fault.proofs.of_hwp_core_rule.StepLeaves.{on-turn-after}
+use Rattle.hwp_fault.proofs.of_hwp_core_rule.tasks.SightKeeps.{saw-stays}
+use Rattle.hwp_fault.proofs.of_hwp_core_rule.tasks.StepLeaves.{on-turn-after}
 use Rattle.hwp_fault.specs.declared.Request.{Request}
 use Rattle.hwp_cpu_check.specs.Checks.{left_by, lines_of}
 use Rattle.hwp_evict.specs.declared.evict.Evict.{Evict}

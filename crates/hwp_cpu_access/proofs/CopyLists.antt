@@ -16,8 +16,8 @@ use Rattle.hwp_fault.specs.hwp_core_rule.declared.View.{View}
 use Rattle.hwp_fault.specs.hwp_core_rule.declared.Turn.{Turn}
 use Rattle.hwp_fault.specs.hwp_core_rule.Calls.{Steps, logs}
 use Rattle.hwp_fault.specs.hwp_core_rule.Known.{deeds, is_failure, such_deeds}
-use Rattle.hwp_fault.proofs.of_hwp_core_rule.MadeEntries.{deeds-same}
-use Rattle.hwp_fault.proofs.of_hwp_core_rule.StepLeaves.{steps-planned}
+use Rattle.hwp_fault.proofs.of_hwp_core_rule.tasks.MadeEntries.{deeds-same}
+use Rattle.hwp_fault.proofs.of_hwp_core_rule.tasks.StepLeaves.{steps-planned}
 use Rattle.hwp_fault.specs.declared.Access.{Access}
 use Rattle.hwp_fault.specs.declared.Request.{Request}
 use Rattle.hwp_fault.specs.Accesses as accesses

@@ -20,10 +20,10 @@ use Rattle.hwp_fault.specs.hwp_core_rule.Boards.{view_of}
 use Rattle.hwp_fault.specs.hwp_core_rule.Calls.{logs, rec_of}
 use Rattle.hwp_fault.specs.hwp_core_rule.Classes.{TellsClass}
 use Rattle.hwp_fault.specs.hwp_core_rule.Ranks.{CostFalls, HasFailed, HasFrame, HasPage, IsRanked, Made, OtherHand, PaysRevival, Pending, Quiet, failure_weight, failures_left, is_refused, is_waits, words_at}
-use Rattle.hwp_fault.proofs.of_hwp_core_rule.Failures.{mild-leaves}
+use Rattle.hwp_fault.proofs.of_hwp_core_rule.tasks.Failures.{mild-leaves}
 use Rattle.hwp_fault.specs.hwp_core_rule.Lasting.{LeavesPoison}
-use Rattle.hwp_fault.proofs.of_hwp_core_rule.Revivals.{lasting-pays}
-use Rattle.hwp_fault.proofs.of_hwp_core_rule.StepRanks.{part-made, steps-on}
+use Rattle.hwp_fault.proofs.of_hwp_core_rule.tasks.Revivals.{lasting-pays}
+use Rattle.hwp_fault.proofs.of_hwp_core_rule.tasks.StepRanks.{part-made, steps-on}
 use Rattle.hwp_fault.proofs.of_hwp_core.TaskTells.{no-frame, no-page}
 use Rattle.hwp_evict.specs.declared.evict.Evict.{Evict}
 use Rattle.hwp_evict.specs.declared.evict.EvictAnswer.{EvictAnswer}

@@ -26,7 +26,7 @@ use Rattle.hwp_fault.specs.hwp_core_rule.declared.Turn.{Turn}
 use Rattle.hwp_fault.specs.hwp_core_rule.Boards.{view_of}
 use Rattle.hwp_fault.specs.hwp_core_rule.Ranks.{Made, Pending, failures_left, words_at}
 use Rattle.hwp_fault.specs.hwp_core_rule.Turns.{Member}
-use Rattle.hwp_fault.proofs.of_hwp_core_rule.StepRanks.{me, met, retire-fails, words-after}
+use Rattle.hwp_fault.proofs.of_hwp_core_rule.tasks.StepRanks.{me, met, retire-fails, words-after}
 use Rattle.hwp_fault.specs.hwp_core.declared.Release.{Release}
 use Rattle.hwp_fault.specs.hwp_core.declared.release.ReleaseAt.{ReleaseAt}
 use Rattle.hwp_fault.specs.hwp_core.declared.release.ReleaseAt.TheVariants as release_at

@@ -16,8 +16,8 @@ use Rattle.hwp_fault.specs.hwp_core_rule.declared.View.{View}
 use Rattle.hwp_fault.specs.hwp_core_rule.Calls.{Steps, logs}
 use Rattle.hwp_fault.specs.hwp_core_rule.Known.{is_failure, such_deeds}
 use Rattle.hwp_fault.specs.hwp_words.declared.Pte.TheVariants as ptes
-use Rattle.hwp_fault.proofs.of_hwp_core_rule.MadeEntries.{ListsNone, deeds-same, frame-lists, page-lists, such-kept}
-use Rattle.hwp_fault.proofs.of_hwp_core_rule.StepLeaves.{steps-planned}
+use Rattle.hwp_fault.proofs.of_hwp_core_rule.tasks.MadeEntries.{ListsNone, deeds-same, frame-lists, page-lists, such-kept}
+use Rattle.hwp_fault.proofs.of_hwp_core_rule.tasks.StepLeaves.{steps-planned}
 use Rattle.hwp_fault.specs.hwp_core.declared.give_up.GiveUp.{GiveUp}
 use Rattle.hwp_fault.specs.hwp_core.declared.give_up.GiveUpAt.{GiveUpAt}
 use Rattle.hwp_fault.specs.hwp_core.declared.give_up.GiveUpAt.TheVariants as give_up_at

@@ -19,8 +19,8 @@ use Rattle.hwp_evict.specs.hwp_core_rule.Views.{frame_in}
 use Rattle.hwp_evict.specs.hwp_core_rule.declared.Turn.{Turn}
 use Rattle.hwp_evict.specs.hwp_core_rule.Calls.{Steps, logs}
 use Rattle.hwp_evict.specs.hwp_core_rule.Known.{HasMadeNoneBeside, is_by}
-use Rattle.hwp_evict.proofs.of_hwp_core_rule.MadeEntries.{each-filter}
-use Rattle.hwp_evict.proofs.of_hwp_core_rule.StepLeaves.{brought, content_of, steps-planned, was-home}
+use Rattle.hwp_evict.proofs.of_hwp_core_rule.tasks.MadeEntries.{each-filter}
+use Rattle.hwp_evict.proofs.of_hwp_core_rule.tasks.StepLeaves.{brought, content_of, steps-planned, was-home}
 use Rattle.hwp_evict.specs.hwp_core.declared.hold.Hold.{Hold}
 use Rattle.hwp_evict.specs.hwp_core.declared.hold.HoldAt.{HoldAt}
 use Rattle.hwp_evict.specs.hwp_core.declared.hold.HoldAt.TheVariants as hold_at

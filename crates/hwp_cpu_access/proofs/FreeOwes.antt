@@ -14,9 +14,9 @@ use Rattle.hwp_evict.specs.hwp_core_rule.declared.View.{View}
 use Rattle.hwp_evict.specs.hwp_page.Losses.{is_loss}
 use Rattle.hwp_evict.specs.hwp_core_rule.Calls.{Steps, logs}
 use Rattle.hwp_evict.specs.hwp_words.declared.Pte.TheVariants as ptes
-use Rattle.hwp_evict.proofs.of_hwp_core_rule.MadeEntries.{ListsNone}
-use Rattle.hwp_evict.proofs.of_hwp_core_rule.StepOwes.{frame-owes, losses-same, page-owes}
-use Rattle.hwp_evict.proofs.of_hwp_core_rule.StepLeaves.{steps-planned}
+use Rattle.hwp_evict.proofs.of_hwp_core_rule.tasks.MadeEntries.{ListsNone}
+use Rattle.hwp_evict.proofs.of_hwp_core_rule.tasks.StepOwes.{frame-owes, losses-same, page-owes}
+use Rattle.hwp_evict.proofs.of_hwp_core_rule.tasks.StepLeaves.{steps-planned}
 use Rattle.hwp_evict.specs.hwp_core.declared.give_up.GiveUp.{GiveUp}
 use Rattle.hwp_evict.specs.hwp_core.declared.give_up.GiveUpAt.{GiveUpAt}
 use Rattle.hwp_evict.specs.hwp_core.declared.give_up.GiveUpAt.TheVariants as give_up_at

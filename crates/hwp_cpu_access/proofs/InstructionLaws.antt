@@ -21,13 +21,13 @@ use Rattle.hwp_fault.specs.hwp_core_rule.declared.View.{View}
 use Rattle.hwp_fault.specs.hwp_core_rule.declared.Turn.{Turn}
 use Rattle.hwp_fault.specs.hwp_core_rule.Calls.{CanMake, IsOnTurn, Steps, logs}
 use Rattle.hwp_fault.specs.hwp_core_rule.Hands.{hand_of, empty}
-use Rattle.hwp_fault.proofs.of_hwp_core_rule.StepLeaves.{can-make, hand-planned, on-turn-after, steps-planned}
+use Rattle.hwp_fault.proofs.of_hwp_core_rule.tasks.StepLeaves.{can-make, hand-planned, on-turn-after, steps-planned}
 use Rattle.hwp_cpu_check.specs.hwp_claim_act.Abandoned.{AddsFailure}
 use Rattle.hwp_fault.specs.hwp_core_rule.declared.Made.{Made}
 use Rattle.hwp_fault.specs.hwp_core_rule.Known.{HasMadeNoneBeside, deeds}
 use Rattle.hwp_fault.specs.hwp_core_rule.Turns.{IsTask}
-use Rattle.hwp_fault.proofs.of_hwp_core_rule.MadeEntries.{deeds-same, only-beside-stays}
-use Rattle.hwp_fault.proofs.of_hwp_core_rule.SightKeeps.{saw-stays}
+use Rattle.hwp_fault.proofs.of_hwp_core_rule.tasks.MadeEntries.{deeds-same, only-beside-stays}
+use Rattle.hwp_fault.proofs.of_hwp_core_rule.tasks.SightKeeps.{saw-stays}
 use Rattle.hwp_fault.specs.declared.Access.{Access}
 use Rattle.hwp_fault.specs.declared.AccessAnswer.{AccessAnswer}
 use Rattle.hwp_fault.specs.declared.AccessAnswer.TheVariants as access_answers

@@ -29,8 +29,8 @@ use Rattle.hwp_fault.specs.hwp_core_rule.Boards.{view_of}
 use Rattle.hwp_fault.specs.hwp_core_rule.Calls.{logs, rec_of}
 use Rattle.hwp_fault.specs.hwp_core_rule.Classes.{TellsClass}
 use Rattle.hwp_fault.specs.hwp_core_rule.Ranks.{CostFalls, HasFailed, HasFrame, HasPage, IsRanked, Made, OtherHand, Pending, Quiet, is_refused, is_waits, words_at, again_most, failure_weight, free_room}
-use Rattle.hwp_fault.proofs.of_hwp_core_rule.Failures.{mild-leaves}
-use Rattle.hwp_fault.proofs.of_hwp_core_rule.StepRanks.{failed, met, pending-kept, steps-on, words-kept}
+use Rattle.hwp_fault.proofs.of_hwp_core_rule.tasks.Failures.{mild-leaves}
+use Rattle.hwp_fault.proofs.of_hwp_core_rule.tasks.StepRanks.{failed, met, pending-kept, steps-on, words-kept}
 use Rattle.hwp_fault.proofs.of_hwp_core.TaskCosts.{left-own, met-own}
 use Rattle.hwp_fault.proofs.of_hwp_core.TaskTells.{no-frame, no-page}
 use Rattle.hwp_fault.specs.declared.Access.{Access}

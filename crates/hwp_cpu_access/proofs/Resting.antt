@@ -21,10 +21,10 @@ use Rattle.hwp_fault.proofs.of_hwp_core_rule.Lists.{at_longer}
 use Rattle.hwp_fault.specs.hwp_core_rule.Calls.{IsOnTurn, Steps}
 use Rattle.hwp_fault.specs.hwp_core_rule.Hands.{hand_of, empty}
 use Rattle.hwp_fault.specs.hwp_core_rule.Known.{deeds}
-use Rattle.hwp_fault.proofs.of_hwp_core_rule.Failures.{marks-by}
-use Rattle.hwp_fault.proofs.of_hwp_core_rule.MadeEntries.{only-of-none}
-use Rattle.hwp_fault.proofs.of_hwp_core_rule.SightKeeps.{saw-stays}
-use Rattle.hwp_fault.proofs.of_hwp_core_rule.StepLeaves.{content_of}
+use Rattle.hwp_fault.proofs.of_hwp_core_rule.tasks.Failures.{marks-by}
+use Rattle.hwp_fault.proofs.of_hwp_core_rule.tasks.MadeEntries.{only-of-none}
+use Rattle.hwp_fault.proofs.of_hwp_core_rule.tasks.SightKeeps.{saw-stays}
+use Rattle.hwp_fault.proofs.of_hwp_core_rule.tasks.StepLeaves.{content_of}
 use Rattle.hwp_fault.proofs.AccessLaws.{begins-again}
 use Rattle.hwp_fault.specs.Accesses as accesses
 use Rattle.hwp_cpu_check.specs.hwp_claim_frame.Claims.{is_own, marks_by}

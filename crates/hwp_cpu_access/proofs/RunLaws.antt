@@ -16,7 +16,7 @@ use Rattle.hwp_fault.specs.hwp_core_rule.declared.Step.{Step}
 use Rattle.hwp_fault.specs.hwp_core_rule.declared.View.{View}
 use Rattle.hwp_fault.specs.hwp_core_rule.Calls.{Steps}
 use Rattle.hwp_fault.specs.declared.Request.{Request}
-use Rattle.hwp_fault.proofs.of_hwp_core_rule.SightKeeps.{saw-state-stays, saw-stays}
+use Rattle.hwp_fault.proofs.of_hwp_core_rule.tasks.SightKeeps.{saw-state-stays, saw-stays}
 use Rattle.hwp_cpu_check.specs.hwp_banks.Banks.{Banks}
 use Rattle.hwp_cpu_check.specs.hwp_banks.declared.Origin.TheVariants as origins
 use Rattle.hwp_cpu_check.specs.hwp_law.Commands.{is_check}

@@ -11,7 +11,7 @@ use Rattle.hwp_fault.specs.hwp_core_rule.declared.Step.{Step}
 use Rattle.hwp_fault.specs.hwp_core_rule.declared.View.{View}
 use Rattle.hwp_fault.specs.hwp_core_rule.declared.Turn.{Turn}
 use Rattle.hwp_fault.specs.hwp_core_rule.Calls.{IsOnTurn, Steps, logs}
-use Rattle.hwp_fault.proofs.of_hwp_core_rule.StepLeaves.{on-turn-after}
+use Rattle.hwp_fault.proofs.of_hwp_core_rule.tasks.StepLeaves.{on-turn-after}
 use Rattle.hwp_fault.specs.declared.Access.{Access}
 use Rattle.hwp_fault.specs.declared.AccessAnswer.{AccessAnswer}
 use Rattle.hwp_fault.specs.declared.AccessAnswer.TheVariants as access_answers

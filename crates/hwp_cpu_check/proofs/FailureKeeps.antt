@@ -18,7 +18,7 @@ use Rattle.hwp_claim.specs.hwp_claim_frame.hwp_core_rule.Lists.{SomeMember}
 use Rattle.hwp_claim.proofs.of_hwp_claim_frame.of_hwp_core_rule.Lists.{at_longer, some-last, some-push}
 use Rattle.hwp_claim.specs.hwp_claim_frame.hwp_core_rule.Calls.{Steps}
 use Rattle.hwp_claim.specs.hwp_claim_frame.hwp_core_rule.Known.{IsAt, deeds}
-use Rattle.hwp_claim.proofs.of_hwp_claim_frame.of_hwp_core_rule.SightKeeps.{saw-stays}
+use Rattle.hwp_claim.proofs.of_hwp_claim_frame.of_hwp_core_rule.tasks.SightKeeps.{saw-stays}
 use Rattle.hwp_claim.specs.hwp_claim_act.declared.Failed.{Failed}
 use Rattle.hwp_claim.specs.hwp_claim_act.Abandoned.{AddsFailure}
 use Rattle.hwp_claim.specs.hwp_claim_frame.Claims.{SawPoison, is_own, marks_by}

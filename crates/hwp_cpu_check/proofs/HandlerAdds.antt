@@ -15,8 +15,8 @@ use Rattle.hwp_claim.specs.hwp_claim_frame.hwp_core_rule.declared.Step.TheVarian
 use Rattle.hwp_claim.specs.hwp_claim_frame.hwp_core_rule.declared.View.{View}
 use Rattle.hwp_claim.specs.hwp_claim_frame.hwp_core_rule.declared.Turn.{Turn}
 use Rattle.hwp_claim.specs.hwp_claim_frame.hwp_core_rule.Calls.{Steps, logs}
-use Rattle.hwp_claim.proofs.of_hwp_claim_frame.of_hwp_core_rule.StepLeaves.{steps-planned}
-use Rattle.hwp_claim.proofs.of_hwp_claim_frame.of_hwp_core_rule.MadeEntries.{deeds-same}
+use Rattle.hwp_claim.proofs.of_hwp_claim_frame.of_hwp_core_rule.tasks.StepLeaves.{steps-planned}
+use Rattle.hwp_claim.proofs.of_hwp_claim_frame.of_hwp_core_rule.tasks.MadeEntries.{deeds-same}
 use Rattle.hwp_claim.specs.hwp_claim_act.declared.Failed.{Failed}
 use Rattle.hwp_claim.specs.hwp_claim_act.Abandoned.{AddsFailure}
 use Rattle.hwp_claim.specs.hwp_claim_frame.Done.{Grows, Marking, counts_owed, marking_of}

@@ -22,9 +22,9 @@ use Rattle.hwp_law.specs.hwp_severity.declared.Severity.TheVariants as severitie
 use Rattle.hwp_claim.specs.hwp_claim_frame.hwp_core_rule.declared.Turn.{Turn}
 use Rattle.hwp_claim.specs.hwp_claim_frame.hwp_core_rule.Calls.{CanMake, IsOnTurn, Steps, logs}
 use Rattle.hwp_claim.specs.hwp_claim_frame.hwp_core_rule.Hands.{hand_of, empty}
-use Rattle.hwp_claim.proofs.of_hwp_claim_frame.of_hwp_core_rule.StepLeaves.{can-make, hand-planned, on-turn-after, steps-planned}
-use Rattle.hwp_claim.proofs.of_hwp_claim_frame.of_hwp_core_rule.MadeEntries.{deeds-same}
-use Rattle.hwp_claim.proofs.of_hwp_claim_frame.of_hwp_core_rule.SightKeeps.{saw-stopped, stop-listed}
+use Rattle.hwp_claim.proofs.of_hwp_claim_frame.of_hwp_core_rule.tasks.StepLeaves.{can-make, hand-planned, on-turn-after, steps-planned}
+use Rattle.hwp_claim.proofs.of_hwp_claim_frame.of_hwp_core_rule.tasks.MadeEntries.{deeds-same}
+use Rattle.hwp_claim.proofs.of_hwp_claim_frame.of_hwp_core_rule.tasks.SightKeeps.{saw-stopped, stop-listed}
 use Rattle.hwp_law.specs.hwp_report_text.declared.Acted.{Acted}
 use Rattle.hwp_law.specs.hwp_report_text.declared.Acted.TheVariants as acts
 use Rattle.hwp_banks.specs.Banks.{Banks}

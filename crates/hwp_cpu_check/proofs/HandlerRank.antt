@@ -20,7 +20,7 @@ use Rattle.hwp_claim.specs.hwp_claim_frame.hwp_core_rule.Boards.{view_of}
 use Rattle.hwp_claim.specs.hwp_claim_frame.hwp_core_rule.Calls.{logs, rec_of}
 use Rattle.hwp_claim.specs.hwp_claim_frame.hwp_core_rule.Classes.{TellsClass}
 use Rattle.hwp_claim.specs.hwp_claim_frame.hwp_core_rule.Ranks.{CostFalls, HasFailed, HasFrame, HasPage, IsRanked, Made, OtherHand, Pending, Quiet, failure_weight, failures_left, is_refused, is_waits, top, words_at}
-use Rattle.hwp_claim.proofs.of_hwp_claim_frame.of_hwp_core_rule.StepRanks.{part-made, pending-kept}
+use Rattle.hwp_claim.proofs.of_hwp_claim_frame.of_hwp_core_rule.tasks.StepRanks.{part-made, pending-kept}
 use Rattle.hwp_claim.proofs.of_hwp_claim_frame.of_hwp_core.TaskTells.{no-frame, no-page}
 use Rattle.hwp_claim.specs.declared.fail.Fail.{Fail}
 use Rattle.hwp_claim.specs.declared.fail.FailAt.{FailAt}

@@ -21,8 +21,8 @@ use Rattle.hwp_cpu_control.specs.hwp_core_rule.Calls.{CanMake, Steps, logs}
 use Rattle.hwp_cpu_control.specs.hwp_core_rule.Classes.{TellsClass}
 use Rattle.hwp_cpu_control.specs.hwp_core_rule.Ranks.{Made, CostFalls, HasFailed, HasFrame, HasPage, IsRanked, OtherHand, PaysRevival, Pending, Quiet, failure_weight, failures_left, is_refused, is_waits, top, words_at}
 use Rattle.hwp_cpu_control.specs.hwp_core_rule.Turns.{IsTask, Member}
-use Rattle.hwp_cpu_control.proofs.of_hwp_core_rule.Failures.{mild-leaves}
-use Rattle.hwp_cpu_control.proofs.of_hwp_core_rule.StepRanks.{failures-kept, pending-kept}
+use Rattle.hwp_cpu_control.proofs.of_hwp_core_rule.tasks.Failures.{mild-leaves}
+use Rattle.hwp_cpu_control.proofs.of_hwp_core_rule.tasks.StepRanks.{failures-kept, pending-kept}
 use Rattle.hwp_cpu_control.specs.declared.Nested.{Nested}
 use Rattle.hwp_cpu_control.specs.declared.Denied.{Denied}
 use Rattle.hwp_cpu_control.specs.declared.Prctl.{Prctl}

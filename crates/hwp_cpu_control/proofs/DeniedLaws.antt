@@ -20,10 +20,10 @@ use Rattle.hwp_core_rule.specs.Classes.{TellsClass}
 use Rattle.hwp_core_rule.specs.Hands.{hand_of, empty}
 use Rattle.hwp_core_rule.specs.Known.{Saw, deeds}
 use Rattle.hwp_core_rule.specs.Ranks.{IsRanked, is_waits}
-use Rattle.hwp_core_rule.proofs.StepRanks.{rank-of}
-use Rattle.hwp_core_rule.proofs.StepLeaves.{can-make, hand-planned, on-turn-after, steps-planned}
-use Rattle.hwp_core_rule.proofs.MadeEntries.{deeds-same}
-use Rattle.hwp_core_rule.proofs.SightKeeps.{saw-load}
+use Rattle.hwp_core_rule.proofs.tasks.StepRanks.{rank-of}
+use Rattle.hwp_core_rule.proofs.tasks.StepLeaves.{can-make, hand-planned, on-turn-after, steps-planned}
+use Rattle.hwp_core_rule.proofs.tasks.MadeEntries.{deeds-same}
+use Rattle.hwp_core_rule.proofs.tasks.SightKeeps.{saw-load}
 use Rattle.hwp_cpu_control.specs.declared.denied.Denied.{Denied}
 use Rattle.hwp_cpu_control.specs.declared.denied.DeniedAt.{DeniedAt}
 use Rattle.hwp_cpu_control.specs.declared.denied.DeniedAt.TheVariants as at

@@ -12,7 +12,7 @@ use Rattle.hwp_core_rule.specs.Calls.{Steps}
 use Rattle.hwp_core_rule.specs.Ranks.{HasFrame, HasPage}
 use Rattle.hwp_core_rule.specs.Hands.{Hand, hand_of, empty}
 use Rattle.hwp_core_rule.specs.Known.{SawStop}
-use Rattle.hwp_core_rule.proofs.SightKeeps.{saw-load}
+use Rattle.hwp_core_rule.proofs.tasks.SightKeeps.{saw-load}
 
 -- a view that holds nothing has no frame and no page
 pub no-frame : (view : View) → hand_of view ≡ empty → HasFrame view → ⊥

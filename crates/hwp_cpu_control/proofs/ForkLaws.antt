@@ -29,11 +29,11 @@ use Rattle.hwp_core_rule.specs.Calls.{CanMake, Steps}
 use Rattle.hwp_core_rule.specs.Hands.{hand_of, empty}
 use Rattle.hwp_core_rule.specs.Ranks.{IsRanked, is_waits}
 use Rattle.hwp_core_rule.specs.Classes.{TellsClass}
-use Rattle.hwp_core_rule.proofs.StepRanks.{rank-of}
-use Rattle.hwp_core_rule.proofs.StepLeaves.{can-make, hand-planned, on-turn-after, steps-planned}
+use Rattle.hwp_core_rule.proofs.tasks.StepRanks.{rank-of}
+use Rattle.hwp_core_rule.proofs.tasks.StepLeaves.{can-make, hand-planned, on-turn-after, steps-planned}
 use Rattle.hwp_core_rule.specs.Known.{Saw, deeds}
-use Rattle.hwp_core_rule.proofs.MadeEntries.{deeds-same}
-use Rattle.hwp_core_rule.proofs.SightKeeps.{saw-load, saw-stays}
+use Rattle.hwp_core_rule.proofs.tasks.MadeEntries.{deeds-same}
+use Rattle.hwp_core_rule.proofs.tasks.SightKeeps.{saw-load, saw-stays}
 use Rattle.hwp_cpu_control.specs.declared.fork.Fork.{Fork}
 use Rattle.hwp_cpu_control.specs.declared.fork.ForkAt.{ForkAt}
 use Rattle.hwp_cpu_control.specs.declared.fork.ForkAt.TheVariants as at

@@ -14,11 +14,11 @@ use Rattle.hwp_core_rule.specs.declared.Turn.{Turn}
 use Rattle.hwp_core_rule.specs.declared.Turn.TheVariants.{Moved, Changed, NoMemory}
 use Rattle.hwp_core_rule.specs.Calls.{CanMake, Steps}
 use Rattle.hwp_core_rule.specs.Ranks.{IsRanked, is_waits}
-use Rattle.hwp_core_rule.proofs.StepRanks.{rank-of}
-use Rattle.hwp_core_rule.proofs.StepLeaves.{can-make, hand-planned, on-turn-after, steps-planned}
+use Rattle.hwp_core_rule.proofs.tasks.StepRanks.{rank-of}
+use Rattle.hwp_core_rule.proofs.tasks.StepLeaves.{can-make, hand-planned, on-turn-after, steps-planned}
 use Rattle.hwp_core_rule.specs.Classes.{TellsClass}
-use Rattle.hwp_core_rule.proofs.MadeEntries.{deeds-same}
-use Rattle.hwp_core_rule.proofs.SightKeeps.{saw-stopped, stop-listed}
+use Rattle.hwp_core_rule.proofs.tasks.MadeEntries.{deeds-same}
+use Rattle.hwp_core_rule.proofs.tasks.SightKeeps.{saw-stopped, stop-listed}
 use Rattle.hwp_cpu_control.specs.declared.nested.Nested.{Nested}
 use Rattle.hwp_cpu_control.specs.declared.nested.NestedAt.{NestedAt}
 use Rattle.hwp_cpu_control.specs.declared.nested.NestedAt.TheVariants as at

@@ -14,10 +14,10 @@ use Rattle.hwp_core_rule.specs.declared.Turn.{Turn}
 use Rattle.hwp_core_rule.specs.declared.Turn.TheVariants.{Moved}
 use Rattle.hwp_core_rule.specs.Calls.{CanMake, Steps}
 use Rattle.hwp_core_rule.specs.Ranks.{IsRanked, is_waits}
-use Rattle.hwp_core_rule.proofs.StepRanks.{rank-of}
-use Rattle.hwp_core_rule.proofs.StepLeaves.{can-make, hand-planned, on-turn-after, steps-planned}
+use Rattle.hwp_core_rule.proofs.tasks.StepRanks.{rank-of}
+use Rattle.hwp_core_rule.proofs.tasks.StepLeaves.{can-make, hand-planned, on-turn-after, steps-planned}
 use Rattle.hwp_core_rule.specs.Classes.{TellsClass}
-use Rattle.hwp_core_rule.proofs.MadeEntries.{deeds-same}
+use Rattle.hwp_core_rule.proofs.tasks.MadeEntries.{deeds-same}
 use Rattle.hwp_cpu_control.specs.declared.read_stop.ReadStop.{ReadStop}
 use Rattle.hwp_cpu_control.specs.declared.read_stop.ReadStopAt.{ReadStopAt}
 use Rattle.hwp_cpu_control.specs.declared.read_stop.ReadStopAt.TheVariants as at

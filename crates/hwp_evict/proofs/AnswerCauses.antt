@@ -19,8 +19,8 @@ use Rattle.hwp_core.specs.hwp_core_rule.Views.{is_body_of}
 use Rattle.std.specs.List.{find}
 use Rattle.hwp_core.specs.hwp_core_rule.Calls.{Steps, logs}
 use Rattle.hwp_core.specs.hwp_core_rule.Known.{HasMadeBeside, IsAt, deeds}
-use Rattle.hwp_core.proofs.of_hwp_core_rule.MadeEntries.{Lists, ListsNone, deeds-none, deeds-one, deeds-same, frame-lists, has-made-beside, has-made-stays, only-of-none, page-lists}
-use Rattle.hwp_core.proofs.of_hwp_core_rule.SightKeeps.{saw-bad-of-stays, saw-stays, saw-state-stays}
+use Rattle.hwp_core.proofs.of_hwp_core_rule.tasks.MadeEntries.{Lists, ListsNone, deeds-none, deeds-one, deeds-same, frame-lists, has-made-beside, has-made-stays, only-of-none, page-lists}
+use Rattle.hwp_core.proofs.of_hwp_core_rule.tasks.SightKeeps.{saw-bad-of-stays, saw-stays, saw-state-stays}
 use Rattle.hwp_core.specs.declared.give_up.GiveUp.{GiveUp}
 use Rattle.hwp_core.specs.declared.give_up.GiveUpAt.{GiveUpAt}
 use Rattle.hwp_core.specs.declared.give_up.GiveUpAt.TheVariants as give_up_at
@@ -37,7 +37,7 @@ use Rattle.hwp_core.specs.GiveUps as give_ups
 use Rattle.hwp_core.specs.Unholds as unholds
 use Rattle.hwp_core.specs.Unlocks as unlocks
 use Rattle.hwp_core.specs.Releases as releases
-use Rattle.hwp_core.proofs.of_hwp_core_rule.StepLeaves.{steps-planned}
+use Rattle.hwp_core.proofs.of_hwp_core_rule.tasks.StepLeaves.{steps-planned}
 use Rattle.hwp_core.proofs.TaskCosts.{release-lists}
 use Rattle.hwp_evict.specs.declared.evict.EvictAnswer.{EvictAnswer}
 use Rattle.hwp_evict.specs.declared.evict.EvictAnswer.TheVariants as answers

@@ -27,7 +27,7 @@ use Rattle.hwp_core.specs.hwp_core_rule.Calls.{rec_of}
 use Rattle.hwp_core.specs.hwp_core_rule.Hands.{hand_of, empty}
 use Rattle.hwp_core.specs.hwp_core_rule.Classes.{TellsClass}
 use Rattle.hwp_core.specs.hwp_core_rule.Ranks.{CostFalls, HasFrame, HasPage, IsRanked, Made, OtherHand, Quiet, failure_weight, is_waits, pass, stale_weight, translation_room, words_at}
-use Rattle.hwp_core.proofs.of_hwp_core_rule.StepRanks.{met, words-kept, steps-on, rank-of}
+use Rattle.hwp_core.proofs.of_hwp_core_rule.tasks.StepRanks.{met, words-kept, steps-on, rank-of}
 use Rattle.hwp_core.specs.declared.give_up.GiveUp.{GiveUp}
 use Rattle.hwp_core.specs.declared.give_up.GiveUpAt.{GiveUpAt}
 use Rattle.hwp_core.specs.declared.give_up.GiveUpAt.TheVariants as give_up_at

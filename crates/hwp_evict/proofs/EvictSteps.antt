@@ -26,10 +26,10 @@ use Rattle.hwp_core.specs.hwp_core_rule.parts.Entries.{HasSeen, Shows}
 use Rattle.hwp_core.proofs.of_hwp_core_rule.Lists.{some-last}
 use Rattle.hwp_core.specs.hwp_core_rule.Calls.{IsOnTurn, Steps}
 use Rattle.hwp_core.specs.hwp_core_rule.Hands.{Hand, body_in, hand_of, taking}
-use Rattle.hwp_core.proofs.of_hwp_core_rule.StepLeaves.{content_of, hand-planned, steps-planned}
+use Rattle.hwp_core.proofs.of_hwp_core_rule.tasks.StepLeaves.{content_of, hand-planned, steps-planned}
 use Rattle.hwp_core.specs.hwp_core_rule.Known.{HasMadeNoneBeside, SawLog}
-use Rattle.hwp_core.proofs.of_hwp_core_rule.MadeEntries.{deeds-same}
-use Rattle.hwp_core.proofs.of_hwp_core_rule.SightKeeps.{saw-bad-of-load, saw-log-stays}
+use Rattle.hwp_core.proofs.of_hwp_core_rule.tasks.MadeEntries.{deeds-same}
+use Rattle.hwp_core.proofs.of_hwp_core_rule.tasks.SightKeeps.{saw-bad-of-load, saw-log-stays}
 use Rattle.hwp_core.specs.declared.hold.Hold.{Hold}
 use Rattle.hwp_core.specs.declared.hold.HoldAt.{HoldAt}
 use Rattle.hwp_core.specs.declared.hold.HoldAt.TheVariants as hold_at

@@ -17,13 +17,13 @@ use Rattle.hwp_core.specs.hwp_core_rule.Calls.{CanMake, Steps}
 use Rattle.hwp_core.specs.hwp_core_rule.Hands.{hand_of, empty}
 use Rattle.hwp_core.specs.hwp_core_rule.Ranks.{IsRanked, is_waits, words_at}
 use Rattle.hwp_core.specs.hwp_core_rule.Classes.{TellsClass}
-use Rattle.hwp_core.proofs.of_hwp_core_rule.StepRanks.{rank-of}
-use Rattle.hwp_core.proofs.of_hwp_core_rule.StepLeaves.{on-turn-after, hand-planned, steps-planned, can-make}
+use Rattle.hwp_core.proofs.of_hwp_core_rule.tasks.StepRanks.{rank-of}
+use Rattle.hwp_core.proofs.of_hwp_core_rule.tasks.StepLeaves.{on-turn-after, hand-planned, steps-planned, can-make}
 use Rattle.hwp_core.specs.hwp_core_rule.Known.{Covers, Saw, HasMadeNone}
-use Rattle.hwp_core.proofs.of_hwp_core_rule.LossCovers.{report-covers, report-reaches}
-use Rattle.hwp_core.proofs.of_hwp_core_rule.StepOwes.{losses-same}
-use Rattle.hwp_core.proofs.of_hwp_core_rule.SightKeeps.{saw-load, saw-report, seen-loss-stays}
-use Rattle.hwp_core.proofs.of_hwp_core_rule.MadeEntries.{deeds-same}
+use Rattle.hwp_core.proofs.of_hwp_core_rule.tasks.LossCovers.{report-covers, report-reaches}
+use Rattle.hwp_core.proofs.of_hwp_core_rule.tasks.StepOwes.{losses-same}
+use Rattle.hwp_core.proofs.of_hwp_core_rule.tasks.SightKeeps.{saw-load, saw-report, seen-loss-stays}
+use Rattle.hwp_core.proofs.of_hwp_core_rule.tasks.MadeEntries.{deeds-same}
 use Rattle.hwp_evict.specs.declared.fsync.Fsync.{Fsync}
 use Rattle.hwp_evict.specs.declared.fsync.FsyncAt.{FsyncAt}
 use Rattle.hwp_evict.specs.declared.fsync.FsyncAt.TheVariants as at

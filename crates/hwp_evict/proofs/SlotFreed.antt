@@ -30,8 +30,8 @@ use Rattle.hwp_core.proofs.of_hwp_core_rule.Lists.{same-number, same-or, set_her
 use Rattle.hwp_core.proofs.of_hwp_core_rule.MetWords.{frame-named, lock-knows}
 use Rattle.hwp_core.specs.hwp_core_rule.Calls.{IsOnTurn, Steps}
 use Rattle.hwp_core.specs.hwp_core_rule.Hands.{Hand, hand_of, body_in}
-use Rattle.hwp_core.proofs.of_hwp_core_rule.StepLeaves.{hand-planned}
-use Rattle.hwp_core.proofs.of_hwp_core_rule.MadeEntries.{deeds-same}
+use Rattle.hwp_core.proofs.of_hwp_core_rule.tasks.StepLeaves.{hand-planned}
+use Rattle.hwp_core.proofs.of_hwp_core_rule.tasks.MadeEntries.{deeds-same}
 use Rattle.hwp_core.specs.Holds.{page_lock, refs_to}
 use Rattle.hwp_core.specs.Unholds as unholds
 use Rattle.hwp_core.specs.Unholds.{holding}

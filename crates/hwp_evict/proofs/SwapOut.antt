@@ -31,9 +31,9 @@ use Rattle.hwp_core.proofs.of_hwp_core_rule.PageWords.{fitting-at}
 use Rattle.hwp_core.proofs.of_hwp_core_rule.Lists.{same-number}
 use Rattle.hwp_core.specs.hwp_core_rule.Calls.{IsOnTurn, Steps}
 use Rattle.hwp_core.specs.hwp_core_rule.Hands.{Hand, hand_of, body_in}
-use Rattle.hwp_core.proofs.of_hwp_core_rule.StepLeaves.{steps-planned}
+use Rattle.hwp_core.proofs.of_hwp_core_rule.tasks.StepLeaves.{steps-planned}
 use Rattle.hwp_core.specs.hwp_core_rule.Known.{HasMadeNoneBeside}
-use Rattle.hwp_core.proofs.of_hwp_core_rule.MadeEntries.{deeds-same}
+use Rattle.hwp_core.proofs.of_hwp_core_rule.tasks.MadeEntries.{deeds-same}
 use Rattle.hwp_core.specs.Holds.{HoldsPage}
 use Rattle.hwp_core.specs.declared.clear.Clear.{Clear}
 use Rattle.hwp_evict.specs.declared.evict.EvictAnswer.TheVariants as answers

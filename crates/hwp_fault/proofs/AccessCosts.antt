@@ -36,7 +36,7 @@ use Rattle.hwp_core.specs.hwp_core_rule.Calls.{logs, rec_of}
 use Rattle.hwp_core.specs.hwp_core_rule.Classes.{TellsClass}
 use Rattle.hwp_core.specs.hwp_core_rule.Hands.{Hand, hand_of}
 use Rattle.hwp_core.specs.hwp_core_rule.Ranks.{CostFalls, HasFailed, HasFrame, HasPage, IsRanked, Made, OtherHand, Quiet, access_most, again_most, failure_weight, failures_left, free_room, is_waits, stale, stale_weight, words_at}
-use Rattle.hwp_core.proofs.of_hwp_core_rule.StepRanks.{met, words-after, words-kept, no-lock, failed, rank-failing}
+use Rattle.hwp_core.proofs.of_hwp_core_rule.tasks.StepRanks.{met, words-after, words-kept, no-lock, failed, rank-failing}
 use Rattle.hwp_core.specs.declared.GiveUp.{GiveUp}
 use Rattle.hwp_core.specs.declared.give_up.GiveUpAt.{GiveUpAt}
 use Rattle.hwp_core.specs.declared.give_up.GiveUpAt.TheVariants as give_up_at

@@ -40,12 +40,12 @@ use Rattle.hwp_core.proofs.of_hwp_core_rule.MetWords.{free-word, same-frame}
 use Rattle.hwp_core.specs.hwp_core_rule.declared.Turn.{Turn}
 use Rattle.hwp_core.specs.hwp_core_rule.Calls.{CanMake, FitsLayout, Steps, IsOnTurn, logs}
 use Rattle.hwp_core.specs.hwp_core_rule.Hands.{Hand, hand_of, empty, taking, body_in}
-use Rattle.hwp_core.proofs.of_hwp_core_rule.StepLeaves.{on-turn-after, content_of, brought, was-home, hand-planned, steps-planned, can-make}
+use Rattle.hwp_core.proofs.of_hwp_core_rule.tasks.StepLeaves.{on-turn-after, content_of, brought, was-home, hand-planned, steps-planned, can-make}
 use Rattle.hwp_core.specs.hwp_core_rule.Known.{Saw, HasMadeNoneBeside, Precedes, HasOnlyBeside, HasMadeBeside, IsAt, deeds}
-use Rattle.hwp_core.proofs.of_hwp_core_rule.MadeEntries.{ListsNone, deeds-same, frame-lists, deeds-none, deeds-one, has-made-beside, has-made-stays, only-beside-stays, only-of-none}
+use Rattle.hwp_core.proofs.of_hwp_core_rule.tasks.MadeEntries.{ListsNone, deeds-same, frame-lists, deeds-none, deeds-one, has-made-beside, has-made-stays, only-beside-stays, only-of-none}
 use Rattle.hwp_core.specs.hwp_core_rule.Pages.{SawState}
 use Rattle.hwp_core.specs.hwp_core_rule.Turns.{IsTask}
-use Rattle.hwp_core.proofs.of_hwp_core_rule.SightKeeps.{saw-stays, saw-load, saw-state-stays}
+use Rattle.hwp_core.proofs.of_hwp_core_rule.tasks.SightKeeps.{saw-stays, saw-load, saw-state-stays}
 use Rattle.hwp_core.specs.declared.GiveUp.{GiveUp}
 use Rattle.hwp_core.specs.declared.give_up.GiveUpAt.{GiveUpAt}
 use Rattle.hwp_core.specs.declared.give_up.GiveUpAt.TheVariants as give_up_at

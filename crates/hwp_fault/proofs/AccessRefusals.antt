@@ -34,9 +34,9 @@ use Rattle.hwp_core.specs.hwp_core_rule.parts.Fits.{FitsWords}
 use Rattle.hwp_core.proofs.of_hwp_core_rule.Lists.{same-number}
 use Rattle.hwp_core.specs.hwp_core_rule.Calls.{IsOnTurn, Steps}
 use Rattle.hwp_core.specs.hwp_core_rule.Hands.{Hand, body_in, hand_of, killing, listing, listing_of}
-use Rattle.hwp_core.proofs.of_hwp_core_rule.StepLeaves.{hand-made}
+use Rattle.hwp_core.proofs.of_hwp_core_rule.tasks.StepLeaves.{hand-made}
 use Rattle.hwp_core.specs.hwp_core_rule.Known.{HasMadeBeside, HasOnlyBeside, IsAt, Precedes, deeds}
-use Rattle.hwp_core.proofs.of_hwp_core_rule.MadeEntries.{deeds-one, has-made-beside, kill-lists}
+use Rattle.hwp_core.proofs.of_hwp_core_rule.tasks.MadeEntries.{deeds-one, has-made-beside, kill-lists}
 use Rattle.hwp_core.specs.Holds.{HoldsPage, held, page_lock}
 use Rattle.hwp_core.specs.Unholds as unholds
 use Rattle.hwp_core.specs.Unholds.{HoldsAhead, holding}

@@ -31,9 +31,9 @@ use Rattle.hwp_core.proofs.of_hwp_core_rule.MoreEntries.{made-each}
 use Rattle.hwp_core.proofs.of_hwp_core_rule.ListDrops.{find-is}
 use Rattle.hwp_core.specs.hwp_core_rule.Calls.{CanMake, Steps, logs}
 use Rattle.hwp_core.specs.hwp_core_rule.Hands.{body_in, hand_of}
-use Rattle.hwp_core.proofs.of_hwp_core_rule.StepLeaves.{hand-planned, steps-planned}
+use Rattle.hwp_core.proofs.of_hwp_core_rule.tasks.StepLeaves.{hand-planned, steps-planned}
 use Rattle.hwp_core.specs.hwp_core_rule.Known.{HasMadeBeside, HasOnlyBeside, IsAt, IsOnTheWay, Precedes, deeds, is_by}
-use Rattle.hwp_core.proofs.of_hwp_core_rule.MadeEntries.{Lists, ListsNone, deeds-none, deeds-one, deeds-same, each-filter, frame-lists, has-made-beside, has-made-stays, only-beside-more, only-beside-stays, page-lists}
+use Rattle.hwp_core.proofs.of_hwp_core_rule.tasks.MadeEntries.{Lists, ListsNone, deeds-none, deeds-one, deeds-same, each-filter, frame-lists, has-made-beside, has-made-stays, only-beside-more, only-beside-stays, page-lists}
 use Rattle.hwp_fault_fill.specs.declared.Fill.{Fill}
 use Rattle.hwp_fault_fill.specs.declared.fill.FillAt.{FillAt}
 use Rattle.hwp_fault_fill.specs.declared.fill.FillAt.TheVariants as fill_at

@@ -31,10 +31,10 @@ use Rattle.hwp_core.proofs.of_hwp_core_rule.ListDrops.{find-is}
 use Rattle.hwp_core.specs.hwp_core_rule.declared.Turn.{Turn}
 use Rattle.hwp_core.specs.hwp_core_rule.Calls.{CanMake, Steps, logs}
 use Rattle.hwp_core.specs.hwp_core_rule.Hands.{body_in}
-use Rattle.hwp_core.proofs.of_hwp_core_rule.StepLeaves.{steps-planned}
+use Rattle.hwp_core.proofs.of_hwp_core_rule.tasks.StepLeaves.{steps-planned}
 use Rattle.hwp_core.specs.hwp_core_rule.Known.{such_deeds}
-use Rattle.hwp_core.proofs.of_hwp_core_rule.MadeEntries.{Lists, ListsNone, deeds-one, deeds-same, frame-lists, kill-lists, page-lists, such-kept}
-use Rattle.hwp_core.proofs.of_hwp_core_rule.StepOwes.{frame-owes, kill-owes, losses-same, page-owes}
+use Rattle.hwp_core.proofs.of_hwp_core_rule.tasks.MadeEntries.{Lists, ListsNone, deeds-one, deeds-same, frame-lists, kill-lists, page-lists, such-kept}
+use Rattle.hwp_core.proofs.of_hwp_core_rule.tasks.StepOwes.{frame-owes, kill-owes, losses-same, page-owes}
 use Rattle.hwp_core.specs.declared.give_up.GiveUpAt.{GiveUpAt}
 use Rattle.hwp_core.specs.declared.give_up.GiveUpAt.TheVariants as give_up_at
 use Rattle.hwp_core.specs.declared.Pin.{Pin}

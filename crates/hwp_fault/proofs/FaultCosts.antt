@@ -33,7 +33,7 @@ use Rattle.hwp_core.specs.hwp_core_rule.Boards.{view_of}
 use Rattle.hwp_core.specs.hwp_core_rule.Calls.{logs, rec_of}
 use Rattle.hwp_core.specs.hwp_core_rule.Ranks.{CostFalls, HasFailed, IsRanked, Made, Quiet, access_most, again_most, failures_left, free_room, is_waits, stale, stale_weight, take_most, words_at}
 use Rattle.hwp_core.specs.hwp_core_rule.Turns.{Member}
-use Rattle.hwp_core.proofs.of_hwp_core_rule.StepRanks.{me, met, words-after, words-kept, failed, rank-failing}
+use Rattle.hwp_core.proofs.of_hwp_core_rule.tasks.StepRanks.{me, met, words-after, words-kept, failed, rank-failing}
 use Rattle.hwp_fault_fill.specs.declared.Fill.{Fill}
 use Rattle.hwp_fault_fill.specs.declared.fill.FillAt.{FillAt}
 use Rattle.hwp_fault_fill.specs.declared.fill.FillAt.TheVariants as fill_at

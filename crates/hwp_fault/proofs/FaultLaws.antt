@@ -36,11 +36,11 @@ use Rattle.hwp_core.specs.hwp_core_rule.Views.{more_of}
 use Rattle.hwp_core.specs.hwp_core_rule.declared.Turn.{Turn}
 use Rattle.hwp_core.specs.hwp_core_rule.Calls.{CanMake, Steps, IsOnTurn, logs}
 use Rattle.hwp_core.specs.hwp_core_rule.Hands.{Hand, hand_of, body_in, empty}
-use Rattle.hwp_core.proofs.of_hwp_core_rule.StepLeaves.{on-turn-after, hand-planned, steps-planned, can-make}
+use Rattle.hwp_core.proofs.of_hwp_core_rule.tasks.StepLeaves.{on-turn-after, hand-planned, steps-planned, can-make}
 use Rattle.hwp_core.specs.hwp_core_rule.Ranks.{HasFrame, HasPage}
 use Rattle.hwp_core.specs.hwp_core_rule.Turns.{IsTask}
 use Rattle.hwp_core.specs.hwp_core_rule.Known.{SawLog, HasOnlyBeside, Precedes}
-use Rattle.hwp_core.proofs.of_hwp_core_rule.SightKeeps.{saw-stays, saw-log-stays, saw-state-stays}
+use Rattle.hwp_core.proofs.of_hwp_core_rule.tasks.SightKeeps.{saw-stays, saw-log-stays, saw-state-stays}
 use Rattle.hwp_fault_fill.specs.declared.Fill.{Fill}
 use Rattle.hwp_fault_fill.specs.declared.fill.FillAt.{FillAt}
 use Rattle.hwp_fault_fill.specs.declared.fill.FillAt.TheVariants as fill_at

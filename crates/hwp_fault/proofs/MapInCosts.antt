@@ -9,7 +9,7 @@ use Rattle.hwp_core.specs.hwp_core_rule.Lasting.{IsMild}
 use Rattle.hwp_core.specs.hwp_core_rule.Steps.{place_of, word_after}
 use Rattle.hwp_core.specs.hwp_core_rule.Words.{Words, read}
 use Rattle.hwp_core.specs.hwp_core_rule.Ranks.{IsRanked, is_waits, stale_weight, words_at}
-use Rattle.hwp_core.proofs.of_hwp_core_rule.StepRanks.{met, words-kept, rank-of}
+use Rattle.hwp_core.proofs.of_hwp_core_rule.tasks.StepRanks.{met, words-kept, rank-of}
 use Rattle.hwp_core.specs.declared.Refer.{Refer}
 use Rattle.hwp_core.specs.declared.refer.ReferAt.{ReferAt}
 use Rattle.hwp_core.specs.declared.refer.ReferAt.TheVariants as refer_at

@@ -39,7 +39,7 @@ use Rattle.hwp_core.proofs.of_hwp_core_rule.WordsByKind.{words-read}
 use Rattle.hwp_core.specs.hwp_core_rule.declared.Turn.{Turn}
 use Rattle.hwp_core.specs.hwp_core_rule.Calls.{CanMake, Steps, IsOnTurn}
 use Rattle.hwp_core.specs.hwp_core_rule.Hands.{Hand, hand_of, body_in}
-use Rattle.hwp_core.proofs.of_hwp_core_rule.StepLeaves.{on-turn-after, hand-planned, steps-planned, can-make}
+use Rattle.hwp_core.proofs.of_hwp_core_rule.tasks.StepLeaves.{on-turn-after, hand-planned, steps-planned, can-make}
 use Rattle.hwp_core.specs.declared.Refer.{Refer}
 use Rattle.hwp_core.specs.declared.refer.ReferAt.{ReferAt}
 use Rattle.hwp_core.specs.declared.refer.ReferAt.TheVariants as refer_at

@@ -14,7 +14,7 @@ use Rattle.hwp_core.specs.hwp_core_rule.Words.{Words, read}
 use Rattle.hwp_core.specs.hwp_core_rule.declared.Turn.{Turn}
 use Rattle.hwp_core.specs.hwp_core_rule.Boards.{view_of}
 use Rattle.hwp_core.specs.hwp_core_rule.Ranks.{CostFalls, HasFailed, IsRanked, Made, is_waits, stale_weight, take_most, words_at}
-use Rattle.hwp_core.proofs.of_hwp_core_rule.StepRanks.{met, words-after, words-kept, retire-fails, failed, rank-failing}
+use Rattle.hwp_core.proofs.of_hwp_core_rule.tasks.StepRanks.{met, words-after, words-kept, retire-fails, failed, rank-failing}
 use Rattle.hwp_core.specs.declared.refer.Refer.{Refer}
 use Rattle.hwp_core.specs.declared.refer.ReferAt.{ReferAt}
 use Rattle.hwp_core.specs.declared.refer.ReferAt.TheVariants as refer_at

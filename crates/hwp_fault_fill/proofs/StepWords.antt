@@ -12,7 +12,7 @@ use Rattle.hwp_core.specs.hwp_core_rule.declared.Turn.{Turn}
 use Rattle.hwp_core.specs.hwp_core_rule.Boards.{view_of}
 use Rattle.hwp_core.specs.hwp_core_rule.Ranks.{Made, words_at}
 use Rattle.hwp_core.specs.hwp_core_rule.Turns.{Member}
-use Rattle.hwp_core.proofs.of_hwp_core_rule.StepRanks.{me}
+use Rattle.hwp_core.proofs.of_hwp_core_rule.tasks.StepRanks.{me}
 
 -- a step of a seat meets a word on a board that keeps the rule
 pub record IsMet (layout : Layout) (a : State) (seat : ℕ) (view : View) (step : Step) (found : ℕ) : Type 0 where

@@ -19,7 +19,7 @@ use Rattle.hwp_core.specs.hwp_core_rule.declared.Turn.{Turn}
 use Rattle.hwp_core.specs.hwp_core_rule.declared.Turn.TheVariants.{Moved, Changed}
 use Rattle.hwp_core.specs.hwp_core_rule.Boards.{view_of}
 use Rattle.hwp_core.specs.hwp_core_rule.Ranks.{CostFalls, HasFailed, IsRanked, Made, free_room, is_waits, stale, stale_weight, take_most, words_at}
-use Rattle.hwp_core.proofs.of_hwp_core_rule.StepRanks.{words-after, retire-fails, failed, rank-failing}
+use Rattle.hwp_core.proofs.of_hwp_core_rule.tasks.StepRanks.{words-after, retire-fails, failed, rank-failing}
 use Rattle.hwp_core.proofs.FreeWords.{all_zero, frees-length, some-free, some-reserved, shown, lowest-shown, none-cleared, zero-on, not-zero, zero-past}
 use Rattle.hwp_core.proofs.TaskCosts.{stale-most}
 use Rattle.hwp_fault_fill.specs.declared.take.Take.{Take}

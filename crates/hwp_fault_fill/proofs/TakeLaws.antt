@@ -35,9 +35,9 @@ use Rattle.hwp_core.proofs.of_hwp_core_rule.kinds.Adopt.{unreferenced}
 use Rattle.hwp_core.specs.hwp_core_rule.declared.Turn.{Turn}
 use Rattle.hwp_core.specs.hwp_core_rule.Calls.{CanMake, Steps, logs}
 use Rattle.hwp_core.specs.hwp_core_rule.Hands.{Hand, hand_of}
-use Rattle.hwp_core.proofs.of_hwp_core_rule.StepLeaves.{on-turn-after, hand-planned, steps-planned, can-make}
+use Rattle.hwp_core.proofs.of_hwp_core_rule.tasks.StepLeaves.{on-turn-after, hand-planned, steps-planned, can-make}
 use Rattle.hwp_core.specs.hwp_core_rule.Known.{Saw}
-use Rattle.hwp_core.proofs.of_hwp_core_rule.SightKeeps.{saw-load, saw-reserve}
+use Rattle.hwp_core.proofs.of_hwp_core_rule.tasks.SightKeeps.{saw-load, saw-reserve}
 use Rattle.hwp_core.specs.Releases.{adopted_lock}
 use Rattle.hwp_core.proofs.FreeWords.{lowest-shown}
 use Rattle.hwp_fault_fill.specs.declared.take.Take.{Take}

@@ -12,7 +12,7 @@ use Rattle.hwp_plain.specs.hwp_core_rule.Lists.{EachMember}
 use Rattle.hwp_plain.specs.hwp_core_rule.Views.{noted, view_by}
 use Rattle.hwp_plain.proofs.of_hwp_core_rule.Lists.{each-push}
 use Rattle.hwp_plain.specs.hwp_core_rule.Calls.{Steps}
-use Rattle.hwp_plain.proofs.of_hwp_core_rule.StepLeaves.{content_of}
+use Rattle.hwp_plain.proofs.of_hwp_core_rule.tasks.StepLeaves.{content_of}
 use Rattle.hwp_plain.specs.hwp_core_rule.Known.{deeds}
 use Rattle.hwp_soft.specs.hwp_claim_act.Abandoned.{failed_in}
 use Rattle.hwp_soft.specs.hwp_claim_frame.Done.{marking_of}

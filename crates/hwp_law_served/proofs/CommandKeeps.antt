@@ -28,10 +28,10 @@ use Rattle.hwp_plain.specs.hwp_core_rule.Steps.{goes}
 use Rattle.hwp_plain.specs.hwp_core_rule.Views.{body_of, listed_of, loaded, noted, put_home, taken, view_by}
 use Rattle.hwp_plain.proofs.of_hwp_core_rule.Lists.{some-push}
 use Rattle.hwp_plain.specs.hwp_core_rule.Calls.{CanMake, Steps, logs}
-use Rattle.hwp_plain.proofs.of_hwp_core_rule.StepLeaves.{content_of}
+use Rattle.hwp_plain.proofs.of_hwp_core_rule.tasks.StepLeaves.{content_of}
 use Rattle.hwp_plain.specs.hwp_core_rule.Known.{HasMadeNone, SawStop, deeds}
-use Rattle.hwp_plain.proofs.of_hwp_core_rule.MadeEntries.{has-made-stays, has-only-stays}
-use Rattle.hwp_plain.proofs.of_hwp_core_rule.SightKeeps.{saw-bad-of-stays, saw-state-stays, saw-stays}
+use Rattle.hwp_plain.proofs.of_hwp_core_rule.tasks.MadeEntries.{has-made-stays, has-only-stays}
+use Rattle.hwp_plain.proofs.of_hwp_core_rule.tasks.SightKeeps.{saw-bad-of-stays, saw-state-stays, saw-stays}
 use Rattle.hwp_soft.specs.hwp_soft_move.Seizes.{SawKernel}
 use Rattle.hwp_soft.proofs.SpareSteps.{free-stays}
 use Rattle.hwp_law.specs.hwp_script_read.declared.Command.{Command}

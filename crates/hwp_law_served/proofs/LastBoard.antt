@@ -30,9 +30,9 @@ use Rattle.hwp_law.specs.Copies.{ended_through}
 use Rattle.hwp_law.specs.Runs.{StopsFirst, WasOut, WereOut, slot_ended, slot_of}
 use Rattle.hwp_law.specs.Commands.{command_at}
 use Rattle.hwp_law_served.proofs.Homes.{there-is}
-use Rattle.hwp_law_served.proofs.TurnLeads.{leads-hold}
+use Rattle.hwp_law_served.proofs.turns.TurnLeads.{leads-hold}
 use Rattle.hwp_law_served.proofs.Legal.{run-legal}
-use Rattle.hwp_law_served.proofs.SightOrder.{run-rises}
+use Rattle.hwp_law_served.proofs.turns.SightOrder.{run-rises}
 use Rattle.hwp_cpu_row.specs.declared.FrameChange.{FrameChange}
 use Rattle.hwp_cpu_row.specs.declared.Row.{Row}
 use Rattle.hwp_cpu_row.specs.hwp_cpu_check.declared.EventOutcome.{EventOutcome}

@@ -1,15 +1,10 @@
-pub mod TurnLeads
-pub mod SeatKnows
-pub mod SeatTells
 pub mod SameEntries
 pub mod Histories
-pub mod StepEntries
 pub mod Homes
-pub mod SightOrder
 pub mod Legal
 pub mod Placed
 pub mod Reported
-pub mod TurnKeeps
+pub mod turns
 pub mod RunEnds
 pub mod RowLines
 pub mod GuestRows

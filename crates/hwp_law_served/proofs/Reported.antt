@@ -36,7 +36,7 @@ use Rattle.hwp_law_served.proofs.Histories.{IsThat, entry-made, made-stands, one
 use Rattle.hwp_law_served.proofs.Homes.{home-within, there-is}
 use Rattle.hwp_law_served.proofs.Legal.{AreLegal}
 use Rattle.hwp_law_served.proofs.Placed.{cached-once}
-use Rattle.hwp_law_served.proofs.SightOrder.{Rising}
+use Rattle.hwp_law_served.proofs.turns.SightOrder.{Rising}
 
 -- the report is that of this board, which a run led to, and on which no frame is locked and no body in hand
 pub record IsLast (layout : Layout) (last : State) (report : Report) : Type 0 where

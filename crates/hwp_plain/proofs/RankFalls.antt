@@ -15,7 +15,7 @@ use Rattle.hwp_core_rule.specs.Boards.{Played, view_of, AreSeated}
 use Rattle.hwp_core_rule.specs.Ranks.{CostFalls, HasFailed, OtherHand, Pending, cpu_room, failure_room, failures_left, is_refused, is_waits, top, words_at}
 use Rattle.hwp_core_rule.specs.Turns.{Member}
 use Rattle.hwp_core_rule.specs.Classes.{IsScheduled}
-use Rattle.hwp_core_rule.proofs.Failures.{failures-few}
+use Rattle.hwp_core_rule.proofs.tasks.Failures.{failures-few}
 use Rattle.hwp_plain.specs.Order.{Running, IsAt, IsNoMemory, TurnOf, levels, IsChosen, cpu_of, seat_of}
 use Rattle.hwp_plain.specs.Rank.{words_in, phi, has_one, stage, is_none, over_at, aborts_at, cost_at, need_at, ceiling, number_of, rank}
 use Rattle.hwp_plain.specs.Ready.{AreLevels, Claimed, Ready, IsNext}

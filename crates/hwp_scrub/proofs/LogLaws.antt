@@ -12,7 +12,7 @@ use Rattle.hwp_cpu_control.specs.hwp_core_rule.declared.Turn.TheVariants.{Moved}
 use Rattle.hwp_cpu_control.specs.hwp_core_rule.Calls.{CanMake, Steps}
 use Rattle.hwp_cpu_control.specs.hwp_core_rule.Classes.{TellsClass}
 use Rattle.hwp_cpu_control.specs.hwp_core_rule.Ranks.{IsRanked, is_waits}
-use Rattle.hwp_cpu_control.proofs.of_hwp_core_rule.StepRanks.{rank-of}
+use Rattle.hwp_cpu_control.proofs.of_hwp_core_rule.tasks.StepRanks.{rank-of}
 use Rattle.hwp_cpu_control.specs.declared.ReadStopAnswer.{ReadStopAnswer}
 use Rattle.hwp_cpu_control.specs.declared.read_stop.ReadStopAt.{ReadStopAt}
 use Rattle.hwp_cpu_control.specs.declared.read_stop.ReadStopAt.TheVariants as read_at

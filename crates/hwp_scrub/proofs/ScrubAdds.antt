@@ -17,8 +17,8 @@ use Rattle.hwp_cpu_check.specs.hwp_core_rule.declared.Step.{Step}
 use Rattle.hwp_cpu_check.specs.hwp_core_rule.declared.View.{View}
 use Rattle.hwp_cpu_check.specs.hwp_core_rule.declared.Turn.{Turn}
 use Rattle.hwp_cpu_check.specs.hwp_core_rule.Calls.{Steps, logs}
-use Rattle.hwp_cpu_check.proofs.of_hwp_core_rule.StepLeaves.{steps-planned}
-use Rattle.hwp_cpu_check.proofs.of_hwp_core_rule.MadeEntries.{ListsNone, deeds-same}
+use Rattle.hwp_cpu_check.proofs.of_hwp_core_rule.tasks.StepLeaves.{steps-planned}
+use Rattle.hwp_cpu_check.proofs.of_hwp_core_rule.tasks.MadeEntries.{ListsNone, deeds-same}
 use Rattle.hwp_cpu_check.specs.hwp_claim_act.declared.Failed.{Failed}
 use Rattle.hwp_cpu_check.specs.hwp_claim_act.Abandoned.{AddsFailure}
 use Rattle.hwp_cpu_check.specs.hwp_claim_frame.Done.{Grows, Marking, counts_owed, marking_of}

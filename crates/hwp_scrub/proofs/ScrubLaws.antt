@@ -23,11 +23,11 @@ use Rattle.hwp_cpu_check.specs.hwp_core_rule.Lists.{EachMember}
 use Rattle.hwp_cpu_check.specs.hwp_core_rule.declared.Turn.{Turn}
 use Rattle.hwp_cpu_check.specs.hwp_core_rule.Calls.{CanMake, IsOnTurn, Steps, logs}
 use Rattle.hwp_cpu_check.specs.hwp_core_rule.Hands.{hand_of, empty}
-use Rattle.hwp_cpu_check.proofs.of_hwp_core_rule.StepLeaves.{can-make, hand-planned, on-turn-after, steps-planned}
+use Rattle.hwp_cpu_check.proofs.of_hwp_core_rule.tasks.StepLeaves.{can-make, hand-planned, on-turn-after, steps-planned}
 use Rattle.hwp_cpu_check.specs.hwp_core_rule.Known.{HasMadeNone, is_failure}
-use Rattle.hwp_cpu_check.proofs.of_hwp_core_rule.MadeEntries.{deeds-same}
-use Rattle.hwp_cpu_check.proofs.of_hwp_core_rule.StepOwes.{losses-same}
-use Rattle.hwp_cpu_check.proofs.of_hwp_core_rule.SightKeeps.{saw-load, saw-stays}
+use Rattle.hwp_cpu_check.proofs.of_hwp_core_rule.tasks.MadeEntries.{deeds-same}
+use Rattle.hwp_cpu_check.proofs.of_hwp_core_rule.tasks.StepOwes.{losses-same}
+use Rattle.hwp_cpu_check.proofs.of_hwp_core_rule.tasks.SightKeeps.{saw-load, saw-stays}
 use Rattle.hwp_cpu_check.specs.hwp_claim_act.Abandoned.{AddsFailure}
 use Rattle.hwp_cpu_check.proofs.of_hwp_claim_act.ActAdds.{only-failed-stays}
 use Rattle.hwp_cpu_check.specs.hwp_banks.Banks.{Banks}

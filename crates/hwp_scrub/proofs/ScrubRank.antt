@@ -23,7 +23,7 @@ use Rattle.hwp_cpu_check.specs.hwp_core_rule.Calls.{logs, rec_of}
 use Rattle.hwp_cpu_check.specs.hwp_core_rule.Classes.{TellsClass}
 use Rattle.hwp_cpu_check.specs.hwp_core_rule.Hands.{hand_of, empty}
 use Rattle.hwp_cpu_check.specs.hwp_core_rule.Ranks.{CostFalls, HasFailed, HasFrame, HasPage, IsRanked, Made, OtherHand, Pending, Quiet, failure_weight, failures_left, is_refused, is_waits, top, words_at}
-use Rattle.hwp_cpu_check.proofs.of_hwp_core_rule.StepRanks.{part-made, pending-kept}
+use Rattle.hwp_cpu_check.proofs.of_hwp_core_rule.tasks.StepRanks.{part-made, pending-kept}
 use Rattle.hwp_cpu_check.proofs.of_hwp_core.TaskTells.{no-frame, no-page}
 use Rattle.hwp_cpu_check.specs.hwp_claim.Fails as fails
 use Rattle.hwp_cpu_check.proofs.of_hwp_claim.FailRank.{fail-small}

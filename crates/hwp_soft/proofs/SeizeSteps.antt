@@ -24,10 +24,10 @@ use Rattle.hwp_core.specs.hwp_core_rule.parts.Entries.{Shows}
 use Rattle.hwp_core.proofs.of_hwp_core_rule.Lists.{some-last}
 use Rattle.hwp_core.specs.hwp_core_rule.Calls.{IsOnTurn, Steps, logs}
 use Rattle.hwp_core.specs.hwp_core_rule.Hands.{Hand, empty, hand_of}
-use Rattle.hwp_core.proofs.of_hwp_core_rule.StepLeaves.{hand-planned}
+use Rattle.hwp_core.proofs.of_hwp_core_rule.tasks.StepLeaves.{hand-planned}
 use Rattle.hwp_core.specs.hwp_core_rule.Known.{HasMadeNoneBeside, is_by}
-use Rattle.hwp_core.proofs.of_hwp_core_rule.MadeEntries.{deeds-same, made-kept}
-use Rattle.hwp_core.proofs.of_hwp_core_rule.SightKeeps.{saw-bad-of-load, saw-load}
+use Rattle.hwp_core.proofs.of_hwp_core_rule.tasks.MadeEntries.{deeds-same, made-kept}
+use Rattle.hwp_core.proofs.of_hwp_core_rule.tasks.SightKeeps.{saw-bad-of-load, saw-load}
 use Rattle.hwp_core.specs.Holds.{HoldsPage, held}
 use Rattle.hwp_core.specs.Unlocks as unlocks
 use Rattle.hwp_core.proofs.GiveUpLaws.{page-given-up}

@@ -12,7 +12,7 @@ use Rattle.hwp_core.specs.hwp_core_rule.declared.View.{View}
 use Rattle.hwp_core.specs.hwp_core_rule.Asks.{CanUnlockFrame}
 use Rattle.hwp_core.specs.hwp_core_rule.Calls.{CanMake}
 use Rattle.hwp_core.specs.hwp_core_rule.Hands.{Hand}
-use Rattle.hwp_core.proofs.of_hwp_core_rule.StepLeaves.{can-make}
+use Rattle.hwp_core.proofs.of_hwp_core_rule.tasks.StepLeaves.{can-make}
 use Rattle.hwp_core.specs.Releases.{new_lock}
 use Rattle.hwp_core.specs.GiveUps as give_ups
 use Rattle.hwp_core.specs.Unholds as unholds

@@ -11,11 +11,11 @@ use Rattle.hwp_core.specs.hwp_core_rule.declared.View.{View}
 use Rattle.hwp_core.specs.hwp_core_rule.declared.Turn.{Turn}
 use Rattle.hwp_core.specs.hwp_core_rule.Calls.{IsOnTurn, Steps, logs}
 use Rattle.hwp_core.specs.hwp_core_rule.Hands.{empty, hand_of}
-use Rattle.hwp_core.proofs.of_hwp_core_rule.StepLeaves.{hand-planned, on-turn-after, steps-planned}
+use Rattle.hwp_core.proofs.of_hwp_core_rule.tasks.StepLeaves.{hand-planned, on-turn-after, steps-planned}
 use Rattle.hwp_core.specs.hwp_core_rule.Known.{HasMadeNoneBeside, is_by}
 use Rattle.hwp_core.specs.hwp_core_rule.Turns.{IsTask}
-use Rattle.hwp_core.proofs.of_hwp_core_rule.MadeEntries.{deeds-same, has-made-stays}
-use Rattle.hwp_core.proofs.of_hwp_core_rule.SightKeeps.{saw-adopted-stays, saw-bad-of-stays, saw-stays}
+use Rattle.hwp_core.proofs.of_hwp_core_rule.tasks.MadeEntries.{deeds-same, has-made-stays}
+use Rattle.hwp_core.proofs.of_hwp_core_rule.tasks.SightKeeps.{saw-adopted-stays, saw-bad-of-stays, saw-stays}
 use Rattle.hwp_core.specs.declared.give_up.GiveUp.{GiveUp}
 use Rattle.hwp_core.specs.declared.give_up.GiveUpAt.{GiveUpAt}
 use Rattle.hwp_core.specs.declared.give_up.GiveUpAt.TheVariants as give_up_at

@@ -24,7 +24,7 @@ use Rattle.hwp_core.specs.hwp_core_rule.Boards.{view_of}
 use Rattle.hwp_core.specs.hwp_core_rule.Calls.{logs, rec_of}
 use Rattle.hwp_core.specs.hwp_core_rule.Hands.{Hand}
 use Rattle.hwp_core.specs.hwp_core_rule.Ranks.{IsRanked, Made, OtherHand, Pending, Quiet, failures_left, is_waits, words_at, free_room, take_most}
-use Rattle.hwp_core.proofs.of_hwp_core_rule.StepRanks.{failed, met, pending-kept, retire-fails, steps-on, words-after, words-kept}
+use Rattle.hwp_core.proofs.of_hwp_core_rule.tasks.StepRanks.{failed, met, pending-kept, retire-fails, steps-on, words-after, words-kept}
 use Rattle.hwp_core.specs.declared.refer.Refer.{Refer}
 use Rattle.hwp_core.specs.declared.refer.ReferAt.{ReferAt}
 use Rattle.hwp_core.specs.declared.refer.ReferAt.TheVariants as refer_at

@@ -12,7 +12,7 @@ use Rattle.hwp_core.specs.hwp_core_rule.declared.View.{View}
 use Rattle.hwp_core.specs.hwp_core_rule.Lasting.{LeavesPoison}
 use Rattle.hwp_core.specs.hwp_core_rule.Classes.{TellsClass}
 use Rattle.hwp_core.specs.hwp_core_rule.Hands.{empty, hand_of}
-use Rattle.hwp_core.proofs.of_hwp_core_rule.Failures.{mild-leaves}
+use Rattle.hwp_core.proofs.of_hwp_core_rule.tasks.Failures.{mild-leaves}
 use Rattle.hwp_core.specs.declared.give_up.GiveUp.{GiveUp}
 use Rattle.hwp_core.specs.declared.give_up.GiveUpAt.{GiveUpAt}
 use Rattle.hwp_core.specs.declared.give_up.GiveUpAt.TheVariants as give_up_at

@@ -29,9 +29,9 @@ use Rattle.hwp_core.proofs.of_hwp_core_rule.MoveKeeps.{shaped}
 use Rattle.hwp_core.proofs.of_hwp_core_rule.kinds.Adopt.{unreferenced}
 use Rattle.hwp_core.specs.hwp_core_rule.Calls.{IsOnTurn, Steps}
 use Rattle.hwp_core.specs.hwp_core_rule.Hands.{Hand, hand_of}
-use Rattle.hwp_core.proofs.of_hwp_core_rule.StepLeaves.{steps-planned}
+use Rattle.hwp_core.proofs.of_hwp_core_rule.tasks.StepLeaves.{steps-planned}
 use Rattle.hwp_core.specs.hwp_core_rule.Known.{deeds}
-use Rattle.hwp_core.proofs.of_hwp_core_rule.SightKeeps.{saw-adopt}
+use Rattle.hwp_core.proofs.of_hwp_core_rule.tasks.SightKeeps.{saw-adopt}
 use Rattle.hwp_core.specs.declared.release.Release.{Release}
 use Rattle.hwp_core.specs.declared.release.ReleaseAt.{ReleaseAt}
 use Rattle.hwp_core.specs.declared.release.ReleaseAt.TheVariants as release_at

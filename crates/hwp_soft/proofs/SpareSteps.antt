@@ -29,10 +29,10 @@ use Rattle.hwp_core.proofs.of_hwp_core_rule.Lists.{same-number}
 use Rattle.hwp_core.proofs.of_hwp_core_rule.Refs.{refs-with}
 use Rattle.hwp_core.specs.hwp_core_rule.Calls.{IsOnTurn, Steps}
 use Rattle.hwp_core.specs.hwp_core_rule.Hands.{Hand, body_in, hand_of}
-use Rattle.hwp_core.proofs.of_hwp_core_rule.StepLeaves.{hand-planned, steps-planned}
+use Rattle.hwp_core.proofs.of_hwp_core_rule.tasks.StepLeaves.{hand-planned, steps-planned}
 use Rattle.hwp_core.specs.hwp_core_rule.Known.{Saw, deeds, is_by}
-use Rattle.hwp_core.proofs.of_hwp_core_rule.MadeEntries.{ListsNone, deeds-same, made-kept}
-use Rattle.hwp_core.proofs.of_hwp_core_rule.SightKeeps.{saw-adopted-stays, saw-stays}
+use Rattle.hwp_core.proofs.of_hwp_core_rule.tasks.MadeEntries.{ListsNone, deeds-same, made-kept}
+use Rattle.hwp_core.proofs.of_hwp_core_rule.tasks.SightKeeps.{saw-adopted-stays, saw-stays}
 use Rattle.hwp_core.specs.declared.release.Release.{Release}
 use Rattle.hwp_core.specs.declared.release.ReleaseAt.{ReleaseAt}
 use Rattle.hwp_core.specs.declared.release.ReleaseAt.TheVariants as release_at

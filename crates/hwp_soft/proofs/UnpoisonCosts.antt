@@ -20,8 +20,8 @@ use Rattle.hwp_core.specs.hwp_core_rule.declared.Turn.TheVariants.{Moved, Change
 use Rattle.hwp_core.specs.hwp_core_rule.Classes.{TellsClass}
 use Rattle.hwp_core.specs.hwp_core_rule.Hands.{Hand, hand_of, empty}
 use Rattle.hwp_core.specs.hwp_core_rule.Ranks.{Made, CostFalls, HasFrame, IsRanked, PaysRevival, Pending, failure_weight, failures_left, is_waits, stale, words_at, stale_weight}
-use Rattle.hwp_core.proofs.of_hwp_core_rule.StepRanks.{failures-kept, met, pending-kept, words-kept}
-use Rattle.hwp_core.proofs.of_hwp_core_rule.Revivals.{revive-misses, revive-pending, revive-rises}
+use Rattle.hwp_core.proofs.of_hwp_core_rule.tasks.StepRanks.{failures-kept, met, pending-kept, words-kept}
+use Rattle.hwp_core.proofs.of_hwp_core_rule.tasks.Revivals.{revive-misses, revive-pending, revive-rises}
 use Rattle.hwp_core.proofs.TaskCosts.{left-own, met-own, stale-most}
 use Rattle.hwp_soft.specs.declared.unpoison.Unpoison.{Unpoison}
 use Rattle.hwp_soft.specs.declared.unpoison.UnpoisonAt.{UnpoisonAt}

@@ -27,10 +27,10 @@ use Rattle.hwp_core.proofs.of_hwp_core_rule.MetWords.{free-word}
 use Rattle.hwp_core.specs.hwp_core_rule.declared.Turn.{Turn}
 use Rattle.hwp_core.specs.hwp_core_rule.Calls.{CanMake, Steps}
 use Rattle.hwp_core.specs.hwp_core_rule.Hands.{Hand, hand_of, empty}
-use Rattle.hwp_core.proofs.of_hwp_core_rule.StepLeaves.{can-make, hand-planned, on-turn-after, steps-planned}
+use Rattle.hwp_core.proofs.of_hwp_core_rule.tasks.StepLeaves.{can-make, hand-planned, on-turn-after, steps-planned}
 use Rattle.hwp_core.specs.hwp_core_rule.Known.{HasMadeNone, Saw}
-use Rattle.hwp_core.proofs.of_hwp_core_rule.MadeEntries.{ListsNone, deeds-same}
-use Rattle.hwp_core.proofs.of_hwp_core_rule.SightKeeps.{saw-load, saw-stays}
+use Rattle.hwp_core.proofs.of_hwp_core_rule.tasks.MadeEntries.{ListsNone, deeds-same}
+use Rattle.hwp_core.proofs.of_hwp_core_rule.tasks.SightKeeps.{saw-load, saw-stays}
 use Rattle.hwp_soft.specs.declared.unpoison.Unpoison.{Unpoison}
 use Rattle.hwp_soft.specs.declared.unpoison.UnpoisonAt.{UnpoisonAt}
 use Rattle.hwp_soft.specs.declared.unpoison.UnpoisonAt.TheVariants as at

@@ -23,10 +23,10 @@ use Rattle.hwp_claim_frame.specs.hwp_core_rule.Boards.{view_of}
 use Rattle.hwp_claim_frame.specs.hwp_core_rule.Calls.{CanMake, IsOnTurn, Steps, logs}
 use Rattle.hwp_claim_frame.specs.hwp_core_rule.Hands.{Hand, hand_of, empty}
 use Rattle.hwp_claim_frame.specs.hwp_core_rule.Ranks.{IsRanked, Made, Pending, is_waits, words_at}
-use Rattle.hwp_claim_frame.proofs.of_hwp_core_rule.Failures.{mild-leaves}
-use Rattle.hwp_claim_frame.proofs.of_hwp_core_rule.StepRanks.{pending-kept}
-use Rattle.hwp_claim_frame.proofs.of_hwp_core_rule.StepLeaves.{on-turn-after, hand-planned, steps-planned, can-make}
-use Rattle.hwp_claim_frame.proofs.of_hwp_core_rule.SightKeeps.{saw-stays}
+use Rattle.hwp_claim_frame.proofs.of_hwp_core_rule.tasks.Failures.{mild-leaves}
+use Rattle.hwp_claim_frame.proofs.of_hwp_core_rule.tasks.StepRanks.{pending-kept}
+use Rattle.hwp_claim_frame.proofs.of_hwp_core_rule.tasks.StepLeaves.{on-turn-after, hand-planned, steps-planned, can-make}
+use Rattle.hwp_claim_frame.proofs.of_hwp_core_rule.tasks.SightKeeps.{saw-stays}
 use Rattle.hwp_claim_frame.specs.hwp_core.declared.release.Release.{Release}
 use Rattle.hwp_claim_frame.specs.hwp_core.declared.release.ReleaseAt.{ReleaseAt}
 use Rattle.hwp_claim_frame.specs.hwp_core.declared.release.ReleaseAt.TheVariants as release_at

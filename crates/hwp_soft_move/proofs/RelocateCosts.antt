@@ -16,7 +16,7 @@ use Rattle.hwp_claim_frame.specs.hwp_core_rule.Words.{Words, read}
 use Rattle.hwp_claim_frame.specs.hwp_core_rule.declared.Turn.{Turn}
 use Rattle.hwp_claim_frame.specs.hwp_core_rule.Boards.{view_of}
 use Rattle.hwp_claim_frame.specs.hwp_core_rule.Ranks.{IsRanked, is_waits, words_at, pass, stale_weight, translation_room}
-use Rattle.hwp_claim_frame.proofs.of_hwp_core_rule.StepRanks.{met, rank-of, steps-on, words-kept}
+use Rattle.hwp_claim_frame.proofs.of_hwp_core_rule.tasks.StepRanks.{met, rank-of, steps-on, words-kept}
 use Rattle.hwp_claim_frame.specs.hwp_core.declared.refer.Refer.{Refer}
 use Rattle.hwp_claim_frame.specs.hwp_core.declared.refer.ReferAt.{ReferAt}
 use Rattle.hwp_claim_frame.specs.hwp_core.declared.refer.ReferAt.TheVariants as refer_at

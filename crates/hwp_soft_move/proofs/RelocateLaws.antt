@@ -33,10 +33,10 @@ use Rattle.hwp_claim_frame.proofs.of_hwp_core_rule.MetWords.{frame-named}
 use Rattle.hwp_claim_frame.specs.hwp_core_rule.declared.Turn.{Turn}
 use Rattle.hwp_claim_frame.specs.hwp_core_rule.Calls.{CanMake, IsOnTurn, Steps, logs}
 use Rattle.hwp_claim_frame.specs.hwp_core_rule.Hands.{Hand, empty, hand_of}
-use Rattle.hwp_claim_frame.proofs.of_hwp_core_rule.StepLeaves.{on-turn-after, steps-planned, can-make, can-put}
+use Rattle.hwp_claim_frame.proofs.of_hwp_core_rule.tasks.StepLeaves.{on-turn-after, steps-planned, can-make, can-put}
 use Rattle.hwp_claim_frame.specs.hwp_core_rule.Known.{deeds}
 use Rattle.hwp_claim_frame.specs.hwp_core_rule.Turns.{IsTask}
-use Rattle.hwp_claim_frame.proofs.of_hwp_core_rule.MadeEntries.{ListsNone, deeds-same, has-made-stays}
+use Rattle.hwp_claim_frame.proofs.of_hwp_core_rule.tasks.MadeEntries.{ListsNone, deeds-same, has-made-stays}
 use Rattle.hwp_claim_frame.specs.hwp_core.declared.refer.Refer.{Refer}
 use Rattle.hwp_claim_frame.specs.hwp_core.declared.refer.ReferAt.{ReferAt}
 use Rattle.hwp_claim_frame.specs.hwp_core.declared.refer.ReferAt.TheVariants as refer_at

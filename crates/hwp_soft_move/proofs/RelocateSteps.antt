@@ -34,9 +34,9 @@ use Rattle.hwp_claim_frame.proofs.of_hwp_core_rule.MetWords.{cache-word, frame-n
 use Rattle.hwp_claim_frame.proofs.of_hwp_core_rule.Sights.{seen-more}
 use Rattle.hwp_claim_frame.specs.hwp_core_rule.Calls.{Steps, logs}
 use Rattle.hwp_claim_frame.specs.hwp_core_rule.Hands.{Hand, empty, hand_of, putting}
-use Rattle.hwp_claim_frame.proofs.of_hwp_core_rule.StepLeaves.{hand-planned}
+use Rattle.hwp_claim_frame.proofs.of_hwp_core_rule.tasks.StepLeaves.{hand-planned}
 use Rattle.hwp_claim_frame.specs.hwp_core_rule.Known.{IsAt, deeds}
-use Rattle.hwp_claim_frame.proofs.of_hwp_core_rule.MadeEntries.{deeds-one, deeds-same, frame-lists, has-made-beside, only-of-none}
+use Rattle.hwp_claim_frame.proofs.of_hwp_core_rule.tasks.MadeEntries.{deeds-one, deeds-same, frame-lists, has-made-beside, only-of-none}
 use Rattle.hwp_claim_frame.specs.hwp_core.declared.refer.ReferAt.{ReferAt}
 use Rattle.hwp_claim_frame.specs.hwp_core.declared.refer.ReferAt.TheVariants as refer_at
 use Rattle.hwp_claim_frame.specs.hwp_core.declared.release.ReleaseAt.{ReleaseAt}

@@ -29,8 +29,8 @@ use Rattle.hwp_claim_frame.proofs.of_hwp_core_rule.MetWords.{frame-named, lock-k
 use Rattle.hwp_claim_frame.specs.hwp_core_rule.Calls.{CanMake, Steps}
 use Rattle.hwp_claim_frame.specs.hwp_core_rule.Hands.{Hand, hand_of}
 use Rattle.hwp_claim_frame.specs.hwp_core_rule.Ranks.{translation_room}
-use Rattle.hwp_claim_frame.proofs.of_hwp_core_rule.StepLeaves.{on-turn-after, hand-planned, steps-planned, can-make}
-use Rattle.hwp_claim_frame.proofs.of_hwp_core_rule.MadeEntries.{ListsNone}
+use Rattle.hwp_claim_frame.proofs.of_hwp_core_rule.tasks.StepLeaves.{on-turn-after, hand-planned, steps-planned, can-make}
+use Rattle.hwp_claim_frame.proofs.of_hwp_core_rule.tasks.MadeEntries.{ListsNone}
 use Rattle.hwp_claim_frame.specs.hwp_core.Holds.{page_lock}
 use Rattle.hwp_claim_frame.specs.hwp_core.Clears.{IsNextFrom, is_done}
 use Rattle.hwp_claim_frame.specs.hwp_core.Vacates.{page_held}

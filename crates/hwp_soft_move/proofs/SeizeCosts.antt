@@ -18,7 +18,7 @@ use Rattle.hwp_claim_frame.specs.hwp_core_rule.declared.Turn.{Turn}
 use Rattle.hwp_claim_frame.specs.hwp_core_rule.Boards.{view_of}
 use Rattle.hwp_claim_frame.specs.hwp_core_rule.Calls.{logs, rec_of}
 use Rattle.hwp_claim_frame.specs.hwp_core_rule.Ranks.{IsRanked, Made, Quiet, OtherHand, is_waits, stale, words_at, stale_weight}
-use Rattle.hwp_claim_frame.proofs.of_hwp_core_rule.StepRanks.{met, pending-kept, words-kept}
+use Rattle.hwp_claim_frame.proofs.of_hwp_core_rule.tasks.StepRanks.{met, pending-kept, words-kept}
 use Rattle.hwp_claim_frame.specs.hwp_core.declared.release.ReleaseAt.{ReleaseAt}
 use Rattle.hwp_claim_frame.specs.hwp_core.declared.release.ReleaseAt.TheVariants as release_at
 use Rattle.hwp_claim_frame.proofs.of_hwp_core.TaskCosts.{met-own}

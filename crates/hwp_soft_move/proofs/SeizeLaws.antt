@@ -19,9 +19,9 @@ use Rattle.hwp_claim_frame.proofs.of_hwp_core_rule.MetWords.{frame-word}
 use Rattle.hwp_claim_frame.specs.hwp_core_rule.declared.Turn.{Turn}
 use Rattle.hwp_claim_frame.specs.hwp_core_rule.Calls.{CanMake, IsOnTurn, Steps, logs}
 use Rattle.hwp_claim_frame.specs.hwp_core_rule.Hands.{hand_of, empty}
-use Rattle.hwp_claim_frame.proofs.of_hwp_core_rule.StepLeaves.{on-turn-after, hand-planned, steps-planned, can-make}
+use Rattle.hwp_claim_frame.proofs.of_hwp_core_rule.tasks.StepLeaves.{on-turn-after, hand-planned, steps-planned, can-make}
 use Rattle.hwp_claim_frame.specs.hwp_core_rule.Known.{Saw}
-use Rattle.hwp_claim_frame.proofs.of_hwp_core_rule.SightKeeps.{saw-load}
+use Rattle.hwp_claim_frame.proofs.of_hwp_core_rule.tasks.SightKeeps.{saw-load}
 use Rattle.hwp_claim_frame.specs.hwp_core.declared.release.ReleaseAt.{ReleaseAt}
 use Rattle.hwp_claim_frame.specs.hwp_core.declared.release.ReleaseAt.TheVariants as release_at
 use Rattle.hwp_claim_frame.specs.hwp_core.Holds.{is_free}

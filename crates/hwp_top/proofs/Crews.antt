@@ -20,7 +20,7 @@ use Rattle.hwp_plain.specs.Order.{InOrder, IsAt, Running, cpu_of, running}
 use Rattle.hwp_plain.specs.Ready.{IsCrew}
 use Rattle.hwp_plain.proofs.CrewOpens.{opening-crew}
 use Rattle.hwp_top_report.proofs.of_hwp_law_served.Homes.{there-is}
-use Rattle.hwp_top_report.proofs.of_hwp_law_served.TurnKeeps.{kept-ordered}
+use Rattle.hwp_top_report.proofs.of_hwp_law_served.turns.TurnKeeps.{kept-ordered}
 use Rattle.hwp_top_report.specs.hwp_cpu_row.declared.Row.{Row}
 use Rattle.hwp_top_report.specs.hwp_law_served.Runs.{HaveServed}
 use Rattle.hwp_cpu.specs.declared.Processor.{Processor}

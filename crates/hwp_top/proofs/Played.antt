@@ -13,8 +13,8 @@ use Rattle.hwp_plain.specs.hwp_script_read.Valid.{IsValid}
 use Rattle.hwp_plain.specs.Order.{AreOver, Grows, InOrder, Running, logged, running}
 use Rattle.hwp_plain.specs.Ready.{IsCrew}
 use Rattle.hwp_top_report.specs.hwp_law_served.Turns.{Leads}
-use Rattle.hwp_top_report.proofs.of_hwp_law_served.TurnKeeps.{same-ordered}
-use Rattle.hwp_top_report.proofs.of_hwp_law_served.TurnLeads.{leads-hold, leads-ordered}
+use Rattle.hwp_top_report.proofs.of_hwp_law_served.turns.TurnKeeps.{same-ordered}
+use Rattle.hwp_top_report.proofs.of_hwp_law_served.turns.TurnLeads.{leads-hold, leads-ordered}
 use Rattle.hwp_top_report.specs.hwp_cpu_row.declared.Row.{Row}
 use Rattle.hwp_top_report.proofs.Settled.{settled-when-over}
 use Rattle.hwp_cpu.specs.declared.Processor.{Processor}

@@ -30,7 +30,7 @@ use Rattle.hwp_plain.specs.Order.{logged}
 use Rattle.hwp_plain.specs.Ready.{Claimed}
 use Rattle.hwp_top_report.specs.hwp_law_served.Turns.{Leads}
 use Rattle.hwp_top_report.proofs.of_hwp_law_served.Homes.{there-is}
-use Rattle.hwp_top_report.proofs.of_hwp_law_served.TurnLeads.{leads-hold, leads-on}
+use Rattle.hwp_top_report.proofs.of_hwp_law_served.turns.TurnLeads.{leads-hold, leads-on}
 use Rattle.hwp_top_report.specs.hwp_cpu_row.declared.Row.{Row}
 use Rattle.hwp_cpu.specs.declared.Processor.{Processor}
 use Rattle.hwp_cpu.specs.Processors.{plan, plan_of}

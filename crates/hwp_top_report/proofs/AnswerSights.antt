@@ -42,8 +42,8 @@ use Rattle.hwp_law_served.specs.hwp_cpu_check.Fits.{IsDone, IsFailed}
 use Rattle.hwp_law_served.specs.hwp_cpu_check.Told.{at_once, frame_of, is_already, required_by, severity_at_once}
 use Rattle.hwp_law_served.specs.Scrubs.{ScrubsShown}
 use Rattle.hwp_law_served.specs.Shown.{AlreadyShown, IsShown, OfflineShown}
-use Rattle.hwp_law_served.proofs.SeatKnows.{Said}
-use Rattle.hwp_law_served.proofs.SeatTells.{all-told, told}
+use Rattle.hwp_law_served.proofs.turns.SeatKnows.{Said}
+use Rattle.hwp_law_served.proofs.turns.SeatTells.{all-told, told}
 use Rattle.hwp_law_served.specs.hwp_scrub.Visits.{AreBanks}
 use Rattle.hwp_law_served.specs.Causes.{IsCausedWith}
 use Rattle.hwp_law_served.specs.hwp_cpu_row.Acts.{event_at}

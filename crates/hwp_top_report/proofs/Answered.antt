@@ -23,7 +23,7 @@ use Rattle.hwp_law_served.specs.hwp_core_rule.declared.State.{State}
 use Rattle.hwp_law_served.specs.hwp_core_rule.declared.View.{View}
 use Rattle.hwp_law_served.specs.hwp_core_rule.Boards.{view_of}
 use Rattle.hwp_law_served.specs.hwp_core_rule.Known.{HasMade, Saw, SawBadOf}
-use Rattle.hwp_law_served.proofs.of_hwp_core_rule.SightKeeps.{bad-lines-stay}
+use Rattle.hwp_law_served.proofs.of_hwp_core_rule.tasks.SightKeeps.{bad-lines-stay}
 use Rattle.hwp_law_served.specs.hwp_soft_move.Seizes.{IsUsers}
 use Rattle.hwp_law_served.specs.hwp_script_read.declared.PrctlArgs.{PrctlArgs}
 use Rattle.hwp_law_served.specs.hwp_script_read.declared.Command.{Command}

@@ -6,7 +6,7 @@ use Rattle.hwp_table_words.specs.hwp_core_rule.Rule.{Holds}
 use Rattle.hwp_table_words.specs.hwp_core_rule.Boards.{Played}
 use Rattle.hwp_cpu_row.specs.hwp_script_read.declared.Command.{Command}
 use Rattle.hwp_cpu_row.specs.hwp_script_read.declared.Script.{Script}
-use Rattle.hwp_law_served.proofs.TurnLeads.{leads-hold}
+use Rattle.hwp_law_served.proofs.turns.TurnLeads.{leads-hold}
 use Rattle.hwp_cpu_row.specs.hwp_script_read.Valid.{IsValid}
 use Rattle.hwp_cpu_row.specs.declared.Row.{Row}
 use Rattle.hwp_law_served.specs.Runs.{notes_of}

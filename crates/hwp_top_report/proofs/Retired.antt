@@ -29,7 +29,7 @@ use Rattle.hwp_law_served.specs.hwp_report_text.declared.Report.{Report}
 use Rattle.hwp_law_served.specs.Run.{CoreRun}
 use Rattle.hwp_law_served.specs.Turns.{Leads}
 use Rattle.hwp_law_served.proofs.Homes.{there-is}
-use Rattle.hwp_law_served.proofs.TurnLeads.{leads-hold}
+use Rattle.hwp_law_served.proofs.turns.TurnLeads.{leads-hold}
 use Rattle.hwp_top_report.specs.Retired.{AreHandledRetired, IsBoardOf, IsRetired}
 
 -- a slot of no page's name is empty

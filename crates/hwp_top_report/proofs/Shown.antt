@@ -57,8 +57,8 @@ use Rattle.hwp_law_served.specs.hwp_cpu_check.declared.EventOutcome.{EventOutcom
 use Rattle.hwp_law_served.specs.hwp_cpu_check.Told.{frame_of}
 use Rattle.hwp_law_served.specs.Shown.{AdoptShown, AlreadyShown, AnswerShown, GoesOn, GoneShown, IsFree, LengthShown, NoFrameShown, OfflineShown, ProcessShown, RunningShown, StopShown, IsRevivable}
 use Rattle.hwp_law_served.specs.Turns.{Finds, FindsBad, HasFrameOf, SawPage, SeesPage, TurnBy}
-use Rattle.hwp_law_served.proofs.SeatKnows.{IsUnder, Said}
-use Rattle.hwp_law_served.proofs.SeatTells.{ShowsAdopted, told}
+use Rattle.hwp_law_served.proofs.turns.SeatKnows.{IsUnder, Said}
+use Rattle.hwp_law_served.proofs.turns.SeatTells.{ShowsAdopted, told}
 use Rattle.hwp_law_served.specs.Causes.{FoundGone, FoundNoFrame, FoundState, FoundStopped, IsAnswerCaused, IsOfflineCaused, IsSoftCaused, IsTableCaused, SawBadLines, SawProcess, WasSignalled, IsUnpoisonCaused}
 use Rattle.hwp_law_served.specs.hwp_cpu_row.Acts.{event_at}
 use Rattle.hwp_law_served.specs.hwp_soft_move.Seizes.{IsUsers}

@@ -27,9 +27,9 @@ use Rattle.hwp_law_served.specs.hwp_core_rule.Views.{noted}
 use Rattle.hwp_law_served.specs.hwp_core_rule.declared.Turn.{Turn}
 use Rattle.hwp_law_served.specs.hwp_core_rule.Calls.{Steps, logs}
 use Rattle.hwp_law_served.specs.hwp_core_rule.Known.{HasMadeBeside, HasMadeNoneBeside, Saw, SawStop, deeds, is_by}
-use Rattle.hwp_law_served.proofs.of_hwp_core_rule.MadeEntries.{deeds-same}
-use Rattle.hwp_law_served.proofs.of_hwp_core_rule.SightKeeps.{saw-bad-of-stays, saw-stays}
-use Rattle.hwp_law_served.proofs.of_hwp_core_rule.StepLeaves.{content_of, steps-planned}
+use Rattle.hwp_law_served.proofs.of_hwp_core_rule.tasks.MadeEntries.{deeds-same}
+use Rattle.hwp_law_served.proofs.of_hwp_core_rule.tasks.SightKeeps.{saw-bad-of-stays, saw-stays}
+use Rattle.hwp_law_served.proofs.of_hwp_core_rule.tasks.StepLeaves.{content_of, steps-planned}
 use Rattle.hwp_law_served.specs.hwp_script_lines.declared.Command.{Command}
 use Rattle.hwp_law_served.specs.hwp_script_lines.declared.Command.TheVariants as commands
 use Rattle.hwp_law_served.specs.hwp_report_text.declared.Answer.{Answer}

@@ -26,8 +26,8 @@ use Rattle.hwp_cpu_command.specs.hwp_core_rule.declared.View.{View}
 use Rattle.hwp_cpu_command.specs.hwp_core_rule.Lists.{EachMember}
 use Rattle.hwp_cpu_command.specs.hwp_core_rule.Views.{noted, stamp_of}
 use Rattle.hwp_cpu_command.specs.hwp_core_rule.Calls.{Steps, logs}
-use Rattle.hwp_cpu_command.proofs.of_hwp_core_rule.StepLeaves.{steps-planned}
-use Rattle.hwp_cpu_command.proofs.of_hwp_core_rule.MadeEntries.{deeds-same}
+use Rattle.hwp_cpu_command.proofs.of_hwp_core_rule.tasks.StepLeaves.{steps-planned}
+use Rattle.hwp_cpu_command.proofs.of_hwp_core_rule.tasks.MadeEntries.{deeds-same}
 use Rattle.hwp_cpu_command.specs.hwp_cpu_control.declared.Nested.{Nested}
 use Rattle.hwp_cpu_command.specs.hwp_cpu_control.declared.Fork.{Fork}
 use Rattle.hwp_cpu_command.specs.hwp_cpu_control.declared.ForkAnswer.TheVariants as fork_answers

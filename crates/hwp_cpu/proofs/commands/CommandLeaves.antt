@@ -14,7 +14,7 @@ use Rattle.hwp_cpu_command.specs.hwp_core_rule.declared.Step.TheVariants as step
 use Rattle.hwp_cpu_command.specs.hwp_core_rule.declared.View.{View}
 use Rattle.hwp_cpu_command.specs.hwp_core_rule.declared.Turn.{Turn}
 use Rattle.hwp_cpu_command.specs.hwp_core_rule.Calls.{Steps, logs}
-use Rattle.hwp_cpu_command.proofs.of_hwp_core_rule.StepLeaves.{steps-planned}
+use Rattle.hwp_cpu_command.proofs.of_hwp_core_rule.tasks.StepLeaves.{steps-planned}
 use Rattle.hwp_cpu_command.specs.hwp_cpu_control.declared.Nested.{Nested}
 use Rattle.hwp_cpu_command.specs.hwp_cpu_control.declared.NestedAnswer.TheVariants as nested_answers
 use Rattle.hwp_cpu_command.specs.hwp_cpu_control.declared.Fork.{Fork}

@@ -16,7 +16,7 @@ use Rattle.hwp_cpu_command.specs.hwp_core_rule.Steps.{goes}
 use Rattle.hwp_cpu_command.specs.hwp_core_rule.Views.{marked, noted, owing_count, poison_listed, revived_by, sighted}
 use Rattle.hwp_cpu_command.specs.hwp_core_rule.declared.Turn.{Turn}
 use Rattle.hwp_cpu_command.specs.hwp_core_rule.Calls.{Steps, logs}
-use Rattle.hwp_cpu_command.proofs.of_hwp_core_rule.StepLeaves.{steps-planned}
+use Rattle.hwp_cpu_command.proofs.of_hwp_core_rule.tasks.StepLeaves.{steps-planned}
 use Rattle.hwp_cpu_command.specs.hwp_claim_frame.declared.claim.ClaimAt.{ClaimAt}
 use Rattle.hwp_cpu_command.specs.hwp_claim_frame.declared.claim.ClaimAt.TheVariants as claim_at
 use Rattle.hwp_cpu_command.specs.hwp_claim_frame.Claims as claims

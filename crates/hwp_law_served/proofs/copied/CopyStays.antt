@@ -15,7 +15,7 @@ use Rattle.hwp_plain.specs.hwp_core_rule.declared.View.{View}
 use Rattle.hwp_plain.specs.hwp_core_rule.Lists.{SomeMember}
 use Rattle.hwp_plain.specs.hwp_core_rule.Calls.{CanMake, Steps, logs}
 use Rattle.hwp_plain.specs.hwp_core_rule.Known.{SawStop}
-use Rattle.hwp_plain.proofs.of_hwp_core_rule.SightKeeps.{saw-state-stays, saw-stays}
+use Rattle.hwp_plain.proofs.of_hwp_core_rule.tasks.SightKeeps.{saw-state-stays, saw-stays}
 use Rattle.hwp_law.specs.hwp_report_text.declared.Answer.{Answer}
 use Rattle.hwp_law.specs.hwp_report_text.declared.Answer.TheVariants as answers
 use Rattle.hwp_cpu_row.specs.hwp_cpu_check.declared.EventOutcome.{EventOutcome}

@@ -33,8 +33,8 @@ use Rattle.hwp_plain.proofs.of_hwp_core_rule.ListDrops.{find-is}
 use Rattle.hwp_plain.proofs.of_hwp_core_rule.Lists.{at_map, same-or, sum-map, term-le, terms-le}
 use Rattle.hwp_law_served.proofs.Homes.{home-within}
 use Rattle.hwp_law_served.proofs.Legal.{bodies-by}
-use Rattle.hwp_law_served.proofs.SightOrder.{at-one, at-within, is_at, is_of}
-use Rattle.hwp_law_served.proofs.StepEntries.{AddsLength, AddsMade, AddsNothing, adds}
+use Rattle.hwp_law_served.proofs.turns.SightOrder.{at-one, at-within, is_at, is_of}
+use Rattle.hwp_law_served.proofs.turns.StepEntries.{AddsLength, AddsMade, AddsNothing, adds}
 use Rattle.hwp_law_served.proofs.RunKeeps.{IsKept}
 
 -- those of one page rise

@@ -34,9 +34,9 @@ use Rattle.hwp_plain.specs.hwp_core_rule.Steps.{goes}
 use Rattle.hwp_plain.specs.hwp_core_rule.Views.{body_of, listed_of, loaded, loss_made, losses_made, made_from, more_of, noted, stamp_of, taken, view_by, without}
 use Rattle.hwp_plain.proofs.of_hwp_core_rule.Lists.{sum-zero}
 use Rattle.hwp_plain.specs.hwp_core_rule.Calls.{CanMake, Steps, logs}
-use Rattle.hwp_plain.proofs.of_hwp_core_rule.StepLeaves.{content_of}
+use Rattle.hwp_plain.proofs.of_hwp_core_rule.tasks.StepLeaves.{content_of}
 use Rattle.hwp_plain.specs.hwp_core_rule.Known.{deeds, is_by}
-use Rattle.hwp_plain.proofs.of_hwp_core_rule.MadeEntries.{PutsNone}
+use Rattle.hwp_plain.proofs.of_hwp_core_rule.tasks.MadeEntries.{PutsNone}
 use Rattle.hwp_law.specs.hwp_script_read.declared.Command.{Command}
 use Rattle.hwp_law.specs.hwp_report_text.declared.Answer.{Answer}
 use Rattle.hwp_law.specs.Commands.{can_fail}

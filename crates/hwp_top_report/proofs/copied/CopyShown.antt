@@ -33,8 +33,8 @@ use Rattle.hwp_law_served.specs.hwp_cpu_check.declared.EventOutcome.{EventOutcom
 use Rattle.hwp_law_served.specs.Causes.{IsCausedWith, SawProcess}
 use Rattle.hwp_law_served.specs.Copied.{FoundNone, IsCopyCaused, IsCopyEnded, store_by, sub_next}
 use Rattle.hwp_law_served.proofs.of_hwp_law.ActingLaws.{slot-uncopied}
-use Rattle.hwp_law_served.proofs.SeatKnows.{Said}
-use Rattle.hwp_law_served.proofs.SeatTells.{told}
+use Rattle.hwp_law_served.proofs.turns.SeatKnows.{Said}
+use Rattle.hwp_law_served.proofs.turns.SeatTells.{told}
 use Rattle.hwp_law_served.proofs.RunEnds.{IsEnd}
 use Rattle.hwp_law_served.proofs.copied.EndedThrough.{ended-so}
 use Rattle.hwp_top_report.proofs.Shown.{answer-shown, gone-shown, goes-shown, one-page, page-shown, process-is, process-shown, stopped-shown, word-shown}

@@ -36,7 +36,7 @@ use Rattle.hwp_law_served.proofs.of_hwp_core_rule.Lists.{at_map, each-push}
 use Rattle.hwp_law_served.proofs.of_hwp_core_rule.MoreEntries.{each-append}
 use Rattle.hwp_law_served.proofs.of_hwp_core_rule.NotLater.{not-later}
 use Rattle.hwp_law_served.proofs.of_hwp_core_rule.ListDrops.{each-changed-one, find-is}
-use Rattle.hwp_law_served.proofs.StepEntries.{AddsLength, AddsMade, AddsNothing, adds}
+use Rattle.hwp_law_served.proofs.turns.StepEntries.{AddsLength, AddsMade, AddsNothing, adds}
 use Rattle.hwp_law_served.proofs.Homes.{home-within}
 use Rattle.hwp_law_served.proofs.StepAdds.{Adds, OneMore, adds-by}
 use Rattle.hwp_law_served.proofs.RunKeeps.{IsKept}

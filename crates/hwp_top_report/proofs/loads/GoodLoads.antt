@@ -31,10 +31,10 @@ use Rattle.hwp_law_served.specs.hwp_law.States.{HadState}
 use Rattle.hwp_law_served.specs.Ends.{EndsWith}
 use Rattle.hwp_law_served.specs.Run.{CoreRun}
 use Rattle.hwp_law_served.specs.Turns.{Leads}
-use Rattle.hwp_law_served.proofs.TurnLeads.{leads-hold}
+use Rattle.hwp_law_served.proofs.turns.TurnLeads.{leads-hold}
 use Rattle.hwp_law_served.proofs.Legal.{run-legal}
 use Rattle.hwp_law_served.proofs.Reported.{IsLast, entry-listed}
-use Rattle.hwp_law_served.proofs.SightOrder.{run-rises}
+use Rattle.hwp_law_served.proofs.turns.SightOrder.{run-rises}
 use Rattle.hwp_top_report.specs.Loads.{AreGoodLoads, Inspects}
 use Rattle.hwp_law_served.specs.Runs.{IsRunOf}
 use Rattle.hwp_top_report.proofs.AllowedThere.{allowed-there, had-so}

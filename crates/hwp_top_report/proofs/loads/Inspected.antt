@@ -36,10 +36,10 @@ use Rattle.hwp_law_served.proofs.of_hwp_core_rule.MoreEntries.{each-append}
 use Rattle.hwp_law_served.proofs.of_hwp_core_rule.ListDrops.{find-is}
 use Rattle.hwp_law_served.specs.hwp_core_rule.Boards.{Played}
 use Rattle.hwp_law_served.specs.Turns.{Leads}
-use Rattle.hwp_law_served.proofs.StepEntries.{Adds, AddsMade, adds}
-use Rattle.hwp_law_served.proofs.TurnLeads.{leads-on}
-use Rattle.hwp_law_served.proofs.SeatKnows.{under-lock}
-use Rattle.hwp_law_served.proofs.SeatTells.{later, now}
+use Rattle.hwp_law_served.proofs.turns.StepEntries.{Adds, AddsMade, adds}
+use Rattle.hwp_law_served.proofs.turns.TurnLeads.{leads-on}
+use Rattle.hwp_law_served.proofs.turns.SeatKnows.{under-lock}
+use Rattle.hwp_law_served.proofs.turns.SeatTells.{later, now}
 use Rattle.hwp_top_report.specs.Loads.{HasPageIn, Inspects}
 use Rattle.hwp_law_served.proofs.StepAdds.{OneMore, adds-by}
 use Rattle.hwp_top_report.proofs.loads.BodiesBy.{bodies-so}

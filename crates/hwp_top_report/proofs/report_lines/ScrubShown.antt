@@ -27,8 +27,8 @@ use Rattle.hwp_law_served.specs.hwp_cpu_check.declared.EventOutcome.{EventOutcom
 use Rattle.hwp_law_served.specs.Scrubs.{AreFoundShown, AreLookedAt, HasFound, IsFoundAt}
 use Rattle.hwp_law_served.specs.Turns.{Finds}
 use Rattle.hwp_law_served.proofs.Homes.{there-is}
-use Rattle.hwp_law_served.proofs.SeatKnows.{Said}
-use Rattle.hwp_law_served.proofs.SeatTells.{told}
+use Rattle.hwp_law_served.proofs.turns.SeatKnows.{Said}
+use Rattle.hwp_law_served.proofs.turns.SeatTells.{told}
 use Rattle.hwp_law_served.specs.hwp_scrub.Visits as scrubs
 use Rattle.hwp_law_served.specs.hwp_scrub.Visits.{AreBanks, IsLowest, SawLowest, Visit}
 use Rattle.hwp_law_served.proofs.of_hwp_scrub.VisitLaws.{left-banks}

@@ -1,6 +1,6 @@
 use Rattle.std.proofs.Common.{◌∙◌, sym, subst}
 use Rattle.hwp_core_rule.proofs.driver.advance.Goals as goal
-use Rattle.hwp_core_rule.proofs.DriverSteps.{can-of, shown, settled}
+use Rattle.hwp_core_rule.proofs.tasks.DriverSteps.{can-of, shown, settled}
 
 pub step-met-requires-clause-can : goal.step-met-requires-clause-can
 step-met-requires-clause-can g c = can-of c.who-who.ensures.who c.give-body.ensures.given (c.who-who.ensures.law.can _ _ _ c.in-Some.step c.requires.fits (sym c.plan.ensures ∙ c.in-Some.is))

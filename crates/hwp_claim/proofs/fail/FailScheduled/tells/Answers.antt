@@ -1,5 +1,5 @@
 use Rattle.hwp_claim.proofs.fail.FailScheduled.tells.Goals as goal
-use Rattle.hwp_claim_frame.proofs.of_hwp_core_rule.Revivals.{lasting-pays}
+use Rattle.hwp_claim_frame.proofs.of_hwp_core_rule.tasks.Revivals.{lasting-pays}
 use Rattle.hwp_claim.proofs.FailRank.{fail-lasting}
 use Rattle.hwp_claim.proofs.FailTells.{fail-tells-class}
 use Rattle.hwp_claim.specs.Fails.{task as fail-task}

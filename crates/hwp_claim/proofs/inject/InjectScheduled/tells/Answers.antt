@@ -1,5 +1,5 @@
 use Rattle.hwp_claim.proofs.inject.InjectScheduled.tells.Goals as goal
-use Rattle.hwp_claim_frame.proofs.of_hwp_core_rule.Revivals.{lasting-pays}
+use Rattle.hwp_claim_frame.proofs.of_hwp_core_rule.tasks.Revivals.{lasting-pays}
 use Rattle.hwp_claim.proofs.InjectRank.{inject-lasting, inject-tells}
 use Rattle.hwp_claim.specs.Injects.{task as inject-task}
 

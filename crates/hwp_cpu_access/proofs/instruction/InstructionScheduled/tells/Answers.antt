@@ -1,5 +1,5 @@
 use Rattle.hwp_cpu_access.proofs.instruction.InstructionScheduled.tells.Goals as goal
-use Rattle.hwp_fault.proofs.of_hwp_core_rule.Revivals.{lasting-pays}
+use Rattle.hwp_fault.proofs.of_hwp_core_rule.tasks.Revivals.{lasting-pays}
 use Rattle.hwp_cpu_access.proofs.InstructionRank.{instruction-lasting, instruction-tells}
 use Rattle.hwp_cpu_access.specs.Fits.{task as instruction-task}
 

@@ -1,5 +1,5 @@
 use Rattle.hwp_cpu_check.proofs.handler.HandlerScheduled.tells.Goals as goal
-use Rattle.hwp_claim.proofs.of_hwp_claim_frame.of_hwp_core_rule.Revivals.{lasting-pays}
+use Rattle.hwp_claim.proofs.of_hwp_claim_frame.of_hwp_core_rule.tasks.Revivals.{lasting-pays}
 use Rattle.hwp_cpu_check.proofs.HandlerRank.{handler-lasting, handler-tells}
 use Rattle.hwp_cpu_check.specs.Fits.{task as handler-task}
 

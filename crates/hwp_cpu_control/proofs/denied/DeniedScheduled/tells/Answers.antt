@@ -1,5 +1,5 @@
 use Rattle.hwp_cpu_control.proofs.denied.DeniedScheduled.tells.Goals as goal
-use Rattle.hwp_core_rule.proofs.Revivals.{mild-pays}
+use Rattle.hwp_core_rule.proofs.tasks.Revivals.{mild-pays}
 use Rattle.hwp_cpu_control.proofs.DeniedLaws.{mild, tells}
 use Rattle.hwp_cpu_control.specs.Denieds.{task}
 

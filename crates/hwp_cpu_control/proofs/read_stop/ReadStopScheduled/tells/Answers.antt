@@ -1,5 +1,5 @@
 use Rattle.hwp_cpu_control.proofs.read_stop.ReadStopScheduled.tells.Goals as goal
-use Rattle.hwp_core_rule.proofs.Revivals.{mild-pays}
+use Rattle.hwp_core_rule.proofs.tasks.Revivals.{mild-pays}
 use Rattle.hwp_cpu_control.proofs.ReadStopLaws.{mild, tells}
 use Rattle.hwp_cpu_control.specs.ReadStops.{task}
 

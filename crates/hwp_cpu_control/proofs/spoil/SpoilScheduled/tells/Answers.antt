@@ -1,5 +1,5 @@
 use Rattle.hwp_cpu_control.proofs.spoil.SpoilScheduled.tells.Goals as goal
-use Rattle.hwp_core_rule.proofs.Revivals.{mild-pays}
+use Rattle.hwp_core_rule.proofs.tasks.Revivals.{mild-pays}
 use Rattle.hwp_cpu_control.proofs.SpoilLaws.{mild, tells}
 use Rattle.hwp_cpu_control.specs.Spoils.{task}
 

@@ -1,5 +1,5 @@
 use Rattle.hwp_evict.proofs.evict.EvictScheduled.tells.Goals as goal
-use Rattle.hwp_core.proofs.of_hwp_core_rule.Revivals.{mild-pays}
+use Rattle.hwp_core.proofs.of_hwp_core_rule.tasks.Revivals.{mild-pays}
 use Rattle.hwp_evict.proofs.EvictCosts.{evict-mild, evict-tells}
 use Rattle.hwp_evict.specs.Evicts.{task as evict-task}
 

@@ -1,5 +1,5 @@
 use Rattle.hwp_evict.proofs.fsync.FsyncScheduled.tells.Goals as goal
-use Rattle.hwp_core.proofs.of_hwp_core_rule.Revivals.{mild-pays}
+use Rattle.hwp_core.proofs.of_hwp_core_rule.tasks.Revivals.{mild-pays}
 use Rattle.hwp_evict.proofs.FsyncLaws.{fsync-mild, fsync-tells}
 use Rattle.hwp_evict.specs.Fsyncs.{task as fsync-task}
 

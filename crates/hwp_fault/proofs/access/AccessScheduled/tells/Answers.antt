@@ -1,5 +1,5 @@
 use Rattle.hwp_fault.proofs.access.AccessScheduled.tells.Goals as goal
-use Rattle.hwp_core.proofs.of_hwp_core_rule.Revivals.{mild-pays}
+use Rattle.hwp_core.proofs.of_hwp_core_rule.tasks.Revivals.{mild-pays}
 use Rattle.hwp_fault.proofs.AccessCosts.{access-mild, access-tells}
 use Rattle.hwp_fault.specs.Accesses.{task as access-task}
 

@@ -1,5 +1,5 @@
 use Rattle.hwp_scrub.proofs.log.LogScheduled.tells.Goals as goal
-use Rattle.hwp_cpu_control.proofs.of_hwp_core_rule.Revivals.{mild-pays}
+use Rattle.hwp_cpu_control.proofs.of_hwp_core_rule.tasks.Revivals.{mild-pays}
 use Rattle.hwp_scrub.proofs.LogLaws.{mild, tells}
 use Rattle.hwp_scrub.specs.Logs.{task}
 

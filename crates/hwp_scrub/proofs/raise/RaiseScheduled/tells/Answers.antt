@@ -1,5 +1,5 @@
 use Rattle.hwp_scrub.proofs.raise.RaiseScheduled.tells.Goals as goal
-use Rattle.hwp_cpu_control.proofs.of_hwp_core_rule.Revivals.{lasting-pays}
+use Rattle.hwp_cpu_control.proofs.of_hwp_core_rule.tasks.Revivals.{lasting-pays}
 use Rattle.hwp_scrub.proofs.RaiseRank.{raise-lasting, raise-tells}
 use Rattle.hwp_scrub.specs.RaiseFits.{task as raise-task}
 

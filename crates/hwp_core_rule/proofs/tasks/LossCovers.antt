@@ -36,7 +36,7 @@ use Rattle.hwp_core_rule.proofs.WordsByKind.{word-there, words-read}
 use Rattle.hwp_core_rule.proofs.bounds.LossBounds.{own-losses}
 use Rattle.hwp_core_rule.specs.Calls.{CanMake, Steps, logs}
 use Rattle.hwp_core_rule.specs.Known.{Covers, HasSeenLoss, earlier_losses}
-use Rattle.hwp_core_rule.proofs.MadeEntries.{Lists, frame-lists, kill-lists, loss-lists, made-kept, made-same, page-lists}
+use Rattle.hwp_core_rule.proofs.tasks.MadeEntries.{Lists, frame-lists, kill-lists, loss-lists, made-kept, made-same, page-lists}
 
 -- what an entry counts for
 abbrev loss_before : Layout → FileNo → Who → Made → ℕ

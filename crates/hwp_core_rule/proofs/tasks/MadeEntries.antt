@@ -34,7 +34,7 @@ use Rattle.hwp_core_rule.specs.parts.Holdings.{IsPast}
 use Rattle.hwp_core_rule.proofs.Lists.{each-push, same-number}
 use Rattle.hwp_core_rule.proofs.MoreEntries.{each-append, made-each}
 use Rattle.hwp_core_rule.specs.Calls.{CanMake, IsLater, Steps, logs}
-use Rattle.hwp_core_rule.proofs.StepLeaves.{content_of}
+use Rattle.hwp_core_rule.proofs.tasks.StepLeaves.{content_of}
 use Rattle.hwp_core_rule.specs.Known.{IsAt, HasMade, HasMadeBeside, HasMadeNone, HasMadeNoneBeside, HasOnly, HasOnlyBeside, deeds, is_by, such_deeds}
 
 -- ---- a step that puts no body

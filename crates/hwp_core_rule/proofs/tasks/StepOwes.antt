@@ -23,8 +23,8 @@ use Rattle.hwp_core_rule.specs.Logs.{file_of, log_of}
 use Rattle.hwp_core_rule.specs.Steps.{goes}
 use Rattle.hwp_core_rule.specs.Views.{body_of, killed_by, listed, listed_of, loaded, loss_made, losses_made, more_of, noted, owing_count, paying_count, sighted, taken, view_by}
 use Rattle.hwp_core_rule.specs.Calls.{Steps}
-use Rattle.hwp_core_rule.proofs.StepLeaves.{content_of}
-use Rattle.hwp_core_rule.proofs.MadeEntries.{ListsNone, PutsNone}
+use Rattle.hwp_core_rule.proofs.tasks.StepLeaves.{content_of}
+use Rattle.hwp_core_rule.proofs.tasks.MadeEntries.{ListsNone, PutsNone}
 
 -- ---- a step that lists no entry
 

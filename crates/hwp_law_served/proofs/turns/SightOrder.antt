@@ -40,7 +40,7 @@ use Rattle.hwp_plain.proofs.of_hwp_core_rule.NotLater.{not-later}
 use Rattle.hwp_plain.proofs.of_hwp_core_rule.ListDrops.{find-is}
 use Rattle.hwp_plain.specs.hwp_core_rule.Boards.{Played}
 use Rattle.hwp_law_served.specs.Turns.{Leads}
-use Rattle.hwp_law_served.proofs.StepEntries.{AddsLength, AddsMade, AddsNothing, adds}
+use Rattle.hwp_law_served.proofs.turns.StepEntries.{AddsLength, AddsMade, AddsNothing, adds}
 use Rattle.hwp_law_served.proofs.Homes.{home-within}
 
 -- the history that a command saw lies above the entry of an earlier command, not above that of a later one

@@ -33,7 +33,7 @@ use Rattle.hwp_core_rule.specs.Words.{words_of}
 use Rattle.hwp_core_rule.proofs.Lists.{at_map, some-push, some-last}
 use Rattle.hwp_core_rule.proofs.MetWords.{free-word, on-shelf}
 use Rattle.hwp_core_rule.specs.Calls.{Steps}
-use Rattle.hwp_core_rule.proofs.StepLeaves.{brought, content_of, was-home}
+use Rattle.hwp_core_rule.proofs.tasks.StepLeaves.{brought, content_of, was-home}
 use Rattle.hwp_core_rule.specs.Known.{HasSeenLoss, IsAdoption, IsLook, IsMet, IsShown, Saw, SawAdopted, SawBadOf, SawLog, SawStop}
 use Rattle.hwp_core_rule.specs.Pages.{SawState}
 

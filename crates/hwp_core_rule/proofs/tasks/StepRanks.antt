@@ -25,7 +25,7 @@ use Rattle.hwp_core_rule.specs.Boards.{view_of}
 use Rattle.hwp_core_rule.specs.Calls.{Steps, logs, rec_of}
 use Rattle.hwp_core_rule.specs.Turns.{Member}
 use Rattle.hwp_core_rule.specs.Ranks.{Made, CostFalls, HasFailed, IsRanked, Pending, PlansMild, Quiet, failure_weight, failures_left, is_waits, top, words_at}
-use Rattle.hwp_core_rule.proofs.Failures.{read-moved, words-moved, pending-moved, failures-moved, poison-lowers, retire-lowers}
+use Rattle.hwp_core_rule.proofs.tasks.Failures.{read-moved, words-moved, pending-moved, failures-moved, poison-lowers, retire-lowers}
 
 module _ {S : Type 0} {m : Member S} {layout : Layout} {seat : ℕ} {a b : State} {s t : S} {turn : Turn} (made : Made m layout seat a b s t turn) where
   -- what the seat knows

@@ -36,8 +36,8 @@ use Rattle.hwp_plain.proofs.of_hwp_core_rule.MetWords.{frame-word}
 use Rattle.hwp_plain.proofs.of_hwp_core_rule.MoveKeeps.{shaped}
 use Rattle.hwp_plain.specs.hwp_core_rule.Boards.{Played}
 use Rattle.hwp_law_served.specs.Turns.{Leads, SawPage, TurnBy}
-use Rattle.hwp_law_served.proofs.SeatKnows.{IsStamped, IsUnder, Marks, Said, SaidOfStep, Sayings, Spoils, said-by}
-use Rattle.hwp_law_served.proofs.TurnLeads.{leads-on}
+use Rattle.hwp_law_served.proofs.turns.SeatKnows.{IsStamped, IsUnder, Marks, Said, SaidOfStep, Sayings, Spoils, said-by}
+use Rattle.hwp_law_served.proofs.turns.TurnLeads.{leads-on}
 
 -- an unlocked word of a frame by a stamp that names the frame's lock: the step adopted the frame
 pub record ShowsAdopted (s : Sight) (step : Step) : Type 0 where

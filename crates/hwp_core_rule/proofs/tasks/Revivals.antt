@@ -23,8 +23,8 @@ use Rattle.hwp_core_rule.specs.declared.turn.Turn.{Turn}
 use Rattle.hwp_core_rule.specs.Calls.{logs, rec_of}
 use Rattle.hwp_core_rule.specs.Turns.{Member}
 use Rattle.hwp_core_rule.specs.Ranks.{Made, PaysRevival, Pending, PlansLasting, PlansMild, failures_left, words_at}
-use Rattle.hwp_core_rule.proofs.Failures.{left_of, mild-leaves}
-use Rattle.hwp_core_rule.proofs.StepRanks.{failures-kept, met, words-after, words-kept}
+use Rattle.hwp_core_rule.proofs.tasks.Failures.{left_of, mild-leaves}
+use Rattle.hwp_core_rule.proofs.tasks.StepRanks.{failures-kept, met, words-after, words-kept}
 
 -- a task that plans no revival pays for all that it makes
 pub lasting-pays : {S : Type 0} (m : Member S) → PlansLasting m → PaysRevival m

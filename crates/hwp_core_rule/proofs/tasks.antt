@@ -1,0 +1,9 @@
+pub mod DriverSteps
+pub mod StepLeaves
+pub mod Failures
+pub mod StepRanks
+pub mod Revivals
+pub mod SightKeeps
+pub mod MadeEntries
+pub mod StepOwes
+pub mod LossCovers

@@ -1,0 +1,6 @@
+pub mod TurnLeads
+pub mod SeatKnows
+pub mod SeatTells
+pub mod StepEntries
+pub mod SightOrder
+pub mod TurnKeeps
