@@ -3,7 +3,7 @@ ghost use Rattle.hwp_top.specs.hwp_geom.Layout.{IsSound};
 ghost use Rattle.hwp_top.specs.hwp_core_rule.Opening.{opening};
 ghost use Rattle.hwp_trace.specs.Traced.{AreTold};
 
-use crate::TraceLine;
+use crate::line::TraceLine;
 use crate::notes::{line_of, look, noted};
 use hwp_top::{Board, Cpu, Kind, Layout, List, OutOfMemory, PlainBoard, Task, Turn};
 use std::alloc::{AllocError, Global};

@@ -4,7 +4,7 @@ ghost use Rattle.hwp_top.specs.hwp_core_rule.Boards.{view_of};
 ghost use Rattle.hwp_trace.specs.Notes.{Notes, Sees, line_seen};
 ghost use Rattle.hwp_top.specs.hwp_core_rule.Words.{IsPlace, read, size, words_of};
 
-use crate::TraceLine;
+use crate::line::TraceLine;
 use hwp_top::{Kind, Layout, List, Ops, PlainBoard, SharedWord, Task, Turn, Who, index};
 
 /// What a task is about to touch, and the word that stands there.

@@ -2,8 +2,8 @@ ghost use Rattle.std.specs.Prelude.{IfOk};
 ghost use Rattle.hwp_top.specs.hwp_script_read.Valid.{IsValid};
 ghost use Rattle.hwp_trace.specs.Traces.{IsTrace};
 
-use crate::TraceLine;
 use crate::board::TracedBoard;
+use crate::line::TraceLine;
 use hwp_top::{List, OutOfMemory, Report, Script, play, report_of};
 use std::alloc::Global;
 
