@@ -5,6 +5,7 @@ ghost use Rattle.hwp_report_text.specs.ReportText.{verb_words};
 ghost use Rattle.hwp_report_text.specs.Sayings.{line_end, word_text};
 
 use hwp_page::{OutOfMemory, Who};
+use itoa::Buffer;
 
 /// A word of a line.
 #[derive(Clone, Copy)]
@@ -73,7 +74,10 @@ pub(crate) fn put_word(out: &mut String, word: Word) -> Result<(), OutOfMemory>
             out.push_str(text)?;
             Ok(())
         }
-        Word::Number(number) => write!(out, "{number}"),
+        Word::Number(number) => {
+            out.push_str(Buffer::new().format(number))?;
+            Ok(())
+        }
         Word::Hex(number) => write!(out, "{number:x}"),
         Word::Row(row) => write!(out, "S{row}"),
     }
