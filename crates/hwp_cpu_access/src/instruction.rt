@@ -262,7 +262,7 @@ impl Instruction {
         let signalled = handler.signalled();
         let kept = handler.has_kept();
         let pause = left_to_do(signalled, frame, handler.was_poisoned(frame));
-        drop(handler);
+        handler.dismiss();
         self.end_check(stopped, kept, pause);
     }
 

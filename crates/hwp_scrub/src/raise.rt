@@ -183,7 +183,7 @@ impl Raise {
             return;
         };
         self.lines.append(handler.told());
-        drop(handler);
+        handler.dismiss();
         self.after_check(stopped);
     }
 
@@ -210,7 +210,7 @@ impl Raise {
         ensures { self.new ≡ record self.old { at = at } }
     {
         match mem::replace(&mut self.at, at) {
-            RaiseAt::Handle { handler } => drop(handler),
+            RaiseAt::Handle { handler } => handler.dismiss(),
             RaiseAt::LoadStop
             | RaiseAt::LoadProcess { .. }
             | RaiseAt::GiveUp

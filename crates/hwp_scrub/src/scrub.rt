@@ -201,7 +201,7 @@ impl Scrub {
             return;
         };
         self.lines.append(handler.told());
-        drop(handler);
+        handler.dismiss();
         self.after_check(frame, stopped);
     }
 
