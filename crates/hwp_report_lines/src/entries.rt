@@ -116,12 +116,14 @@ fn read_plain(verb: Verb, words: &[&[u8]]) -> Option<What>
             Some(What::Store { slot, line, met })
         }
         Verb::In => bare(words, What::FaultIn),
-        Verb::Map => Some(What::Map {
-            slot: read_slot(words)?,
-        }),
-        Verb::Free => Some(What::Free {
-            slot: read_slot(words)?,
-        }),
+        Verb::Map => match read_slot(words) {
+            Some(slot) => Some(What::Map { slot }),
+            None => None,
+        },
+        Verb::Free => match read_slot(words) {
+            Some(slot) => Some(What::Free { slot }),
+            None => None,
+        },
         Verb::Drop => bare(words, What::Drop),
         Verb::Sync => bare(words, What::Sync),
         Verb::Out => bare(words, What::Out),

@@ -6,5 +6,5 @@ pub mod WordsPut
 pub mod LinesPut
 pub mod SameLines
 mod NoLines
-mod WordLists
+pub mod WordLists
 mod AnswerWords

@@ -1,5 +1,5 @@
 -- Words that are no line of a kind below frames and pages, by what is missing.
-use Rattle.std.proofs.Common.{◌≡◌, ℕ, ◌<◌, ◌^◌, List, [], ◌∷◌, ◌++◌, get_or, drop, Option, Some, None, codes, decimal, ap, arith}
+use Rattle.std.proofs.Common.{◌≡◌, ℕ, ◌<◌, ◌≤◌, ◌^◌, List, [], ◌∷◌, ◌++◌, length, get_or, take, drop, Option, Some, None, codes, decimal, refl, ap, arith}
 use Rattle.hwp_report_text.specs.hwp_geom.declared.Mask.{Mask}
 use Rattle.hwp_report_text.specs.hwp_geom.declared.Thread.{Thread}
 use Rattle.hwp_report_text.specs.hwp_geom.declared.VSlot.{VSlot}
@@ -11,6 +11,7 @@ use Rattle.hwp_report_text.specs.hwp_page.declared.What.TheVariants as whats
 use Rattle.hwp_report_text.specs.declared.Whereabouts.{Whereabouts}
 use Rattle.hwp_report_text.specs.declared.Whereabouts.TheVariants as places
 use Rattle.hwp_report_text.specs.ReportText.{entry_words, met_words, place_words, required_words, verb_words}
+use Rattle.hwp_report_words.specs.Words.{who_words}
 use Rattle.hwp_report_words.proofs.SameWords.{tag_at, word_at}
 use Rattle.hwp_report_lines.specs.declared.verbs.Verb.TheVariants as verbs
 use Rattle.hwp_report_lines.specs.Fits.{AccessFits, MetFits, PlainFits}
@@ -75,3 +76,12 @@ no_masks first ws other none s fits e = by s.0 (s.1, s.2) (fits.1, fits.2) e
 pub need_rest : (ws : List (List ℕ)) (thread : Option Thread) (vs : List (List ℕ)) → ws ≡ required_words thread ++ vs → drop 2 ws ≡ vs
 need_rest ws None vs e = ap (drop 2) e
 need_rest ws (Some thread) vs e = ap (drop 2) e
+
+-- an entry has three words or more, and the second and the third say who
+pub entry_long : (who : Who) (what : What) → 2 ≤ length (drop 1 (entry_words who what))
+entry_long who whats.Soft = omega arith
+entry_long who what = omega arith
+
+pub entry_who : (who : Who) (what : What) → take 2 (drop 1 (entry_words who what)) ≡ who_words who
+entry_who who whats.Soft = refl
+entry_who who what = refl
