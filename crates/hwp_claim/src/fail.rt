@@ -260,13 +260,5 @@ impl Ranked for Fail {
 }
 
 impl Scheduled for Fail {
-    fn is_over(&self) -> bool {
-        match &self.at {
-            FailAt::Claim { claim } => claim.is_over(),
-            FailAt::Act { act, .. } => act.plan().is_none(),
-            FailAt::Over { .. } => true,
-        }
-    }
-
     fn tells() {}
 }

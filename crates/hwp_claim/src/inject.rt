@@ -135,13 +135,5 @@ impl Ranked for Inject {
 }
 
 impl Scheduled for Inject {
-    fn is_over(&self) -> bool {
-        match &self.at {
-            InjectAt::LoadStop => false,
-            InjectAt::Fail { fail } => fail.is_over(),
-            InjectAt::Stopped => true,
-        }
-    }
-
     fn tells() {}
 }

@@ -1,7 +1,7 @@
-ghost use Rattle.std.specs.Prelude.{◌≡◌, ◌==◌, Option, true, is_none};
+ghost use Rattle.std.specs.Prelude.{◌≡◌, ◌==◌, Option, true};
 ghost use Rattle.std.specs.Option.{unwrap_or};
 ghost use Rattle.hwp_claim_frame.specs.declared.claim.ClaimAt.TheVariants as states;
-ghost use Rattle.hwp_claim_frame.specs.Claims.{start, begin, plan, answer, is_owned, IsBody, stopped, stop_turn, poisoned, is_done, looked, grabbed, after_grab, after_meet, after_unlock};
+ghost use Rattle.hwp_claim_frame.specs.Claims.{start, begin, answer, is_owned, IsBody, stopped, stop_turn, poisoned, is_done, looked, grabbed, after_grab, after_meet, after_unlock};
 
 use crate::grab::{Grab, GrabAnswer};
 use crate::meet::{Meet, MeetAnswer, is_ended};
@@ -88,28 +88,6 @@ impl Claim {
             | ClaimAt::Unlock { .. }
             | ClaimAt::Retire { .. }
             | ClaimAt::GaveUp => None,
-        }
-    }
-
-    /// Whether the task has come to its end.
-    pub fn is_over(&self) -> bool
-        ensures { result ≡ is_none (plan self.now) }
-    {
-        match &self.at {
-            ClaimAt::Grab { grab, .. } => grab.answer().is_some(),
-            ClaimAt::Meet { meet, .. } => meet.answer().is_some(),
-            ClaimAt::Unlock { unlock, .. } => unlock.is_over(),
-            ClaimAt::Stop
-            | ClaimAt::Poison
-            | ClaimAt::Count { .. }
-            | ClaimAt::Look { .. }
-            | ClaimAt::Retire { .. } => false,
-            ClaimAt::GaveUp
-            | ClaimAt::Stopped
-            | ClaimAt::Already
-            | ClaimAt::Free { .. }
-            | ClaimAt::Kernel { .. }
-            | ClaimAt::Owned { .. } => true,
         }
     }
 

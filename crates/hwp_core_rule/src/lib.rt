@@ -40,7 +40,7 @@ pub use scheduled::Scheduled;
 pub use shared_word::SharedWord;
 pub use slot_move::SlotMove;
 pub use step::Step;
-pub use task::Task;
+pub use task::{Task, is_over};
 pub use turn::Turn;
 pub use view::{
     Debts, FrameInHand, FrameLock, InHand, Length, Made, Mark, MarkKind, PageLock, Part, Ref,

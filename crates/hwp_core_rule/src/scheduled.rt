@@ -1,4 +1,3 @@
-ghost use Rattle.std.specs.Prelude.{◌≡◌, ◌↔◌, IsTrue, Option, Some, None};
 ghost use Rattle.hwp_core_rule.specs.Ranks.{PaysRevival};
 ghost use Rattle.hwp_core_rule.specs.Classes.{TellsClass};
 
@@ -6,10 +5,6 @@ use crate::ranked::Ranked;
 
 /// A task that a scheduler may run: its class tells what it holds, and where it takes poison back its cost pays for that.
 pub trait Scheduled: Ranked {
-    /// Whether no step is left.
-    fn is_over(&self) -> bool
-        ensures { IsTrue result ↔ (Self.task.plan self.now ≡ None) };
-
     /// Its clauses are of all tasks of this type: the class tells what a task holds, and each turn pays for the frames that
     /// may fail again after it. Proof only: a call tells its clauses.
     fn tells()

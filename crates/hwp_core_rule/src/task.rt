@@ -1,4 +1,4 @@
-ghost use Rattle.std.specs.Prelude.{◌≡◌};
+ghost use Rattle.std.specs.Prelude.{◌≡◌, ◌↔◌, IsTrue, None};
 ghost use Rattle.hwp_core_rule.specs.Turns.{IsTask, Member};
 
 use crate::step::Step;
@@ -29,4 +29,11 @@ pub trait Task {
     fn settle(&mut self, layout: &Layout, found: u64, body: Option<Body>) -> Turn
         requires shows { task.shows self.old found body }
         ensures { task.next layout.now self.old found body self.new result };
+}
+
+/// Whether no step is left.
+pub fn is_over<T: Task>(task: &T) -> bool
+    ensures { IsTrue result ↔ (T.task.plan task.now ≡ None) }
+{
+    task.plan().is_none()
 }

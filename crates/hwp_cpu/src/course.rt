@@ -328,13 +328,5 @@ impl Ranked for Course {
 }
 
 impl Scheduled for Course {
-    #[inline(always)]
-    fn is_over(&self) -> bool {
-        match &self.beside {
-            Some(soft) => soft.is_over(),
-            None => self.own.is_over(),
-        }
-    }
-
     fn tells() {}
 }

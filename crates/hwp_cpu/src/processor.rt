@@ -246,13 +246,5 @@ impl Ranked for Processor {
 }
 
 impl Scheduled for Processor {
-    #[inline(always)]
-    fn is_over(&self) -> bool {
-        match &self.course {
-            Some(course) => course.is_over(),
-            None => true,
-        }
-    }
-
     fn tells() {}
 }

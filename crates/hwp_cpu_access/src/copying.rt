@@ -322,14 +322,5 @@ impl Ranked for Copying {
 }
 
 impl Scheduled for Copying {
-    #[inline(never)]
-    fn is_over(&self) -> bool {
-        match &self.at {
-            CopyingAt::Access => self.instruction.is_over(),
-            CopyingAt::Free { evict, .. } => evict.is_over(),
-            CopyingAt::Over { .. } => true,
-        }
-    }
-
     fn tells() {}
 }

@@ -497,16 +497,5 @@ impl Ranked for Instruction {
 }
 
 impl Scheduled for Instruction {
-    fn is_over(&self) -> bool {
-        match &self.at {
-            InstructionAt::Access { access } => access.is_over(),
-            InstructionAt::Handle { handler, .. } => handler.is_over(),
-            InstructionAt::LoadFrame { .. }
-            | InstructionAt::LoadStop { .. }
-            | InstructionAt::GiveUp => false,
-            InstructionAt::Paused { .. } | InstructionAt::Over { .. } => true,
-        }
-    }
-
     fn tells() {}
 }

@@ -438,13 +438,5 @@ impl Ranked for Handler {
 }
 
 impl Scheduled for Handler {
-    fn is_over(&self) -> bool {
-        match &self.at {
-            HandlerAt::Stop => false,
-            HandlerAt::Fail { fail } => fail.is_over(),
-            HandlerAt::GaveUp | HandlerAt::Over { .. } => true,
-        }
-    }
-
     fn tells() {}
 }

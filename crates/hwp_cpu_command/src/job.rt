@@ -643,10 +643,5 @@ impl Ranked for Job {
 }
 
 impl Scheduled for Job {
-    #[inline(always)]
-    fn is_over(&self) -> bool {
-        of_kind!(self, task => task.is_over())
-    }
-
     fn tells() {}
 }

@@ -143,9 +143,5 @@ impl Ranked for Denied {
 }
 
 impl Scheduled for Denied {
-    fn is_over(&self) -> bool {
-        matches!(self.at, DeniedAt::Over { .. })
-    }
-
     fn tells() {}
 }

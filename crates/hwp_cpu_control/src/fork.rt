@@ -229,9 +229,5 @@ impl Ranked for Fork {
 }
 
 impl Scheduled for Fork {
-    fn is_over(&self) -> bool {
-        matches!(self.at, ForkAt::Over { .. })
-    }
-
     fn tells() {}
 }

@@ -136,9 +136,5 @@ impl Ranked for Nested {
 }
 
 impl Scheduled for Nested {
-    fn is_over(&self) -> bool {
-        matches!(self.at, NestedAt::Over { .. })
-    }
-
     fn tells() {}
 }

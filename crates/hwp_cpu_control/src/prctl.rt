@@ -162,9 +162,5 @@ impl Ranked for Prctl {
 }
 
 impl Scheduled for Prctl {
-    fn is_over(&self) -> bool {
-        matches!(self.at, PrctlAt::Over { .. })
-    }
-
     fn tells() {}
 }

@@ -102,9 +102,5 @@ impl Ranked for ReadStop {
 }
 
 impl Scheduled for ReadStop {
-    fn is_over(&self) -> bool {
-        matches!(self.at, ReadStopAt::Over { .. })
-    }
-
     fn tells() {}
 }

@@ -120,9 +120,5 @@ impl Ranked for Spoil {
 }
 
 impl Scheduled for Spoil {
-    fn is_over(&self) -> bool {
-        matches!(self.at, SpoilAt::Over { .. })
-    }
-
     fn tells() {}
 }

@@ -591,17 +591,5 @@ impl Ranked for Evict {
 }
 
 impl Scheduled for Evict {
-    fn is_over(&self) -> bool {
-        match &self.at {
-            EvictAt::LoadStop | EvictAt::LoadBad { .. } | EvictAt::SetPte { .. } => false,
-            EvictAt::Hold { hold } => hold.plan().is_none(),
-            EvictAt::Clear { clear, .. } => clear.is_over(),
-            EvictAt::Vacate { vacate, .. } => vacate.is_over(),
-            EvictAt::Unhold { unhold, .. } => unhold.is_over(),
-            EvictAt::GiveUp { give_up } => give_up.is_over(),
-            EvictAt::Over { .. } => true,
-        }
-    }
-
     fn tells() {}
 }

@@ -169,9 +169,5 @@ impl Ranked for Fsync {
 }
 
 impl Scheduled for Fsync {
-    fn is_over(&self) -> bool {
-        matches!(self.at, FsyncAt::Over { .. })
-    }
-
     fn tells() {}
 }

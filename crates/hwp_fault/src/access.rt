@@ -606,21 +606,5 @@ impl Ranked for Access {
 }
 
 impl Scheduled for Access {
-    fn is_over(&self) -> bool {
-        match &self.at {
-            AccessAt::Pin { pin } => pin.answer().is_some(),
-            AccessAt::Unlock { unlock, .. } => unlock.is_over(),
-            AccessAt::Fault { fault } => fault.is_over(),
-            AccessAt::GiveUp { give_up } => give_up.is_over(),
-            AccessAt::LoadStop
-            | AccessAt::LoadProcess
-            | AccessAt::LoadTranslation
-            | AccessAt::LockFrame { .. }
-            | AccessAt::LoadAgain { .. }
-            | AccessAt::LoadBad { .. } => false,
-            AccessAt::Over { .. } => true,
-        }
-    }
-
     fn tells() {}
 }

@@ -1,4 +1,4 @@
-ghost use Rattle.std.specs.Prelude.{◌≡◌, is_none};
+ghost use Rattle.std.specs.Prelude.{◌≡◌};
 ghost use Rattle.hwp_fault.specs.declared.fault.FaultAt.TheVariants as states;
 
 use crate::access::moved;
@@ -70,7 +70,7 @@ impl Fault {
     ghost use Rattle.hwp_core.specs.hwp_core_rule.declared.Turn.TheVariants.{Moved};
     ghost use Rattle.hwp_page.specs.Step.{IsRefused};
     ghost use Rattle.hwp_fault.specs.Touches.{refused};
-    ghost use Rattle.hwp_fault.specs.Faults.{begin, plan, answer, let_go, CanGoOn, CanRefuse, FollowsAt, GoesOn, IsRoomed, ShowsAt, after_hold, after_map_in, after_refusal, after_unhold, after_give_up, is_refused, IsLoaded, IsRefusal, IsFilled};
+    ghost use Rattle.hwp_fault.specs.Faults.{begin, answer, let_go, CanGoOn, CanRefuse, FollowsAt, GoesOn, IsRoomed, ShowsAt, after_hold, after_map_in, after_refusal, after_unhold, after_give_up, is_refused, IsLoaded, IsRefusal, IsFilled};
 
     /// The command brings the page in, and the translation, which is one of the page, into use; or else the touch, by a
     /// process of the translation, is refused.
@@ -85,21 +85,6 @@ impl Fault {
             at: FaultAt::Hold {
                 hold: Hold::new(who, page),
             },
-        }
-    }
-
-    /// Whether the task is over.
-    pub fn is_over(&self) -> bool
-        ensures { result ≡ is_none (plan self.now) }
-    {
-        match &self.at {
-            FaultAt::Hold { hold } => hold.plan().is_none(),
-            FaultAt::LoadPte { .. } | FaultAt::Kill { .. } => false,
-            FaultAt::Fill { fill } => fill.plan().is_none(),
-            FaultAt::MapIn { map_in } => map_in.plan().is_none(),
-            FaultAt::Unhold { unhold, .. } => unhold.is_over(),
-            FaultAt::GiveUp { give_up } => give_up.is_over(),
-            FaultAt::Over { .. } => true,
         }
     }
 

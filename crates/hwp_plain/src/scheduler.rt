@@ -5,7 +5,7 @@ ghost use Rattle.hwp_core_rule.specs.Classes.{IsScheduled};
 ghost use Rattle.hwp_plain.specs.Order.{running, IsNoMemory, EndsCommand, EndsWord, Word, Finishing, InOrder, Grows, IsRefused, AreOver};
 ghost use Rattle.hwp_plain.specs.Ready.{IsCrew, InPlay, Ready, TurnOrNone, TurnOrOver, IsFinished, IsNext};
 
-use hwp_core_rule::{Board, Scheduled, Turn};
+use hwp_core_rule::{Board, Scheduled, Turn, is_over};
 use hwp_script_read::{Cpu, Go, Kind, MAX_CPUS, OutOfMemory, Until};
 use std::alloc::AllocError;
 
@@ -82,7 +82,7 @@ fn is_none<T: Scheduled>(turn: Turn, task: &T) -> bool
     ensures over { IsTrue result → T.task.plan task.now ≡ None }
     ensures on { IsFinished turn → T.task.plan task.now ≡ None → IsTrue result }
 {
-    is_finished(turn) && task.is_over()
+    is_finished(turn) && is_over(task)
 }
 
 /// The level of a task after its turn: its class, or `OVER` where there was no turn. A task that came to its end by the turn

@@ -110,9 +110,5 @@ impl Ranked for Log {
 }
 
 impl Scheduled for Log {
-    fn is_over(&self) -> bool {
-        self.read.is_over()
-    }
-
     fn tells() {}
 }

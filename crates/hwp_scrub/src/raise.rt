@@ -318,13 +318,5 @@ impl Ranked for Raise {
 }
 
 impl Scheduled for Raise {
-    fn is_over(&self) -> bool {
-        match &self.at {
-            RaiseAt::LoadStop | RaiseAt::LoadProcess { .. } | RaiseAt::GiveUp => false,
-            RaiseAt::Handle { handler } => handler.is_over(),
-            RaiseAt::Over { .. } => true,
-        }
-    }
-
     fn tells() {}
 }

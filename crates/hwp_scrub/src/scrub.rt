@@ -388,16 +388,5 @@ impl Ranked for Scrub {
 }
 
 impl Scheduled for Scrub {
-    fn is_over(&self) -> bool {
-        match &self.at {
-            ScrubAt::LoadStop
-            | ScrubAt::LoadBad { .. }
-            | ScrubAt::LoadWeak { .. }
-            | ScrubAt::GiveUp => false,
-            ScrubAt::Handle { handler, .. } => handler.is_over(),
-            ScrubAt::Over { .. } => true,
-        }
-    }
-
     fn tells() {}
 }

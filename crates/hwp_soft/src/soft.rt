@@ -550,22 +550,5 @@ impl Ranked for Soft {
 }
 
 impl Scheduled for Soft {
-    fn is_over(&self) -> bool {
-        match &self.at {
-            SoftAt::LoadStop
-            | SoftAt::LoadBad { .. }
-            | SoftAt::Poison { .. }
-            | SoftAt::UnlockSpare { .. } => false,
-            SoftAt::Seize { seize } => seize.is_over(),
-            SoftAt::Discard { discard } => discard.is_over(),
-            SoftAt::Take { take, .. } => take.answer().is_some(),
-            SoftAt::ReleaseSpare { release, .. } => release.is_over(),
-            SoftAt::Relocate { relocate, .. } => relocate.is_over(),
-            SoftAt::Unhold { unhold, .. } => unhold.is_over(),
-            SoftAt::GiveUp { give_up } => give_up.is_over(),
-            SoftAt::Over { .. } => true,
-        }
-    }
-
     fn tells() {}
 }

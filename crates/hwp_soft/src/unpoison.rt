@@ -248,9 +248,5 @@ impl Ranked for Unpoison {
 }
 
 impl Scheduled for Unpoison {
-    fn is_over(&self) -> bool {
-        matches!(self.at, UnpoisonAt::Over { .. })
-    }
-
     fn tells() {}
 }

@@ -1,5 +1,5 @@
-ghost use Rattle.std.specs.Prelude.{◌≡◌, Option, is_none};
-ghost use Rattle.hwp_soft_move.specs.Discards.{begin, plan, answer, poisoned};
+ghost use Rattle.std.specs.Prelude.{◌≡◌, Option};
+ghost use Rattle.hwp_soft_move.specs.Discards.{begin, answer, poisoned};
 
 use hwp_claim_frame::{
     Body, Frame, FrameWord, Layout, Ranked, Step, Task, Turn, Unlock, Who, let_go_of,
@@ -46,17 +46,6 @@ impl Discard {
             | DiscardAt::Count { .. }
             | DiscardAt::Retire { .. }
             | DiscardAt::Unlock { .. } => None,
-        }
-    }
-
-    /// Whether the frame is let go.
-    pub fn is_over(&self) -> bool
-        ensures { result ≡ is_none (plan self.now) }
-    {
-        match &self.at {
-            DiscardAt::Poison { .. } | DiscardAt::Count { .. } | DiscardAt::Retire { .. } => false,
-            DiscardAt::Unlock { unlock } => unlock.is_over(),
-            DiscardAt::Over { .. } => true,
         }
     }
 

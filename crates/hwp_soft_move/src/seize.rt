@@ -1,5 +1,5 @@
-ghost use Rattle.std.specs.Prelude.{◌≡◌, true, is_none};
-ghost use Rattle.hwp_soft_move.specs.Seizes.{begin, plan, answer, is_owned, IsBody, looked};
+ghost use Rattle.std.specs.Prelude.{◌≡◌, true};
+ghost use Rattle.hwp_soft_move.specs.Seizes.{begin, answer, is_owned, IsBody, looked};
 
 use hwp_claim_frame::{
     Body, Frame, FrameWord, Grab, GrabAnswer, Layout, Meet, MeetAnswer, Page, Ranked, SharedWord,
@@ -66,22 +66,6 @@ impl Seize {
             SeizeAt::Grabbed => Some(SeizeAnswer::Grabbed),
             SeizeAt::Free => Some(SeizeAnswer::Free),
             SeizeAt::Owned { page, .. } => Some(SeizeAnswer::Owned(*page)),
-        }
-    }
-
-    /// Whether it came to something.
-    pub fn is_over(&self) -> bool
-        ensures { result ≡ is_none (plan self.now) }
-    {
-        match &self.at {
-            SeizeAt::Look => false,
-            SeizeAt::Grab { grab } => grab.answer().is_some(),
-            SeizeAt::Meet { meet } => meet.answer().is_some(),
-            SeizeAt::Kernel
-            | SeizeAt::Already
-            | SeizeAt::Grabbed
-            | SeizeAt::Free
-            | SeizeAt::Owned { .. } => true,
         }
     }
 

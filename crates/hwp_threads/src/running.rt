@@ -5,7 +5,7 @@ ghost use Rattle.hwp_threads.specs.Workers.{AllRan, CanRun, RanToEnd, StaysReady
 use crate::gate::{Gate, Point};
 use crate::worker::Worker;
 use crossbeam_utils::{Backoff, CachePadded};
-use hwp_core_rule::{Ops, Scheduled, Turn, Who};
+use hwp_core_rule::{Ops, Scheduled, Turn, Who, is_over};
 use std::sync::Wait;
 use std::thread;
 use std::thread::Threads;
@@ -41,7 +41,7 @@ fn run<R: Wait, O: Ops, T: Scheduled, G: Gate>(rt: &R, worker: &mut Worker<O, T>
     let backoff = Backoff::new();
     let mut begun = None;
     for _ in rt.forever() {
-        if worker.task.is_over() {
+        if is_over(&worker.task) {
             return;
         }
         let who = worker.task.who();
