@@ -26,7 +26,7 @@ pub use hwp_page::{
     At, Body, Code, Cpu, Damage, Entry, FileNo, Frame, HeldSlots, Kind, Layout, Line, List, Mask,
     Mode, OutOfMemory, Outcome, Page, PageKind, PageState, Policy, Proc, Reply, Seen, Signal,
     SignalList, SignalRoom, Situation, SlotRoom, Slots, Text, Thread, VSlot, Version, What, Who,
-    lowest_bit, next_to_read, prctl, signals,
+    lowest_bit, next_to_read, policy_word, prctl, signals,
 };
 pub use hwp_words::{
     CacheWord, CounterWord, FrameWord, FreeWord, HANDLED, LOCK, POISON, PageWord, PolicyWord,

@@ -1,5 +1,5 @@
 -- What prctl(2) does with its arguments. The numbers are those of Linux's include/uapi/linux/prctl.h.
-use Rattle.std.specs.Prelude.{ℕ, Bool, ◌==◌, ◌&&◌, if◌then◌else◌, Option, Some, None, List, slice_index}
+use Rattle.std.specs.Prelude.{ℕ, Bool, ◌==◌, ◌&&◌, if◌then◌else◌, Option, Some, None, List, codes, slice_index}
 use Rattle.hwp_kill.specs.declared.types.Policy.{Policy}
 use Rattle.hwp_kill.specs.declared.types.Policy.TheVariants.{Late, Early, Default}
 use Rattle.hwp_kill.specs.declared.types.Reply.{Reply}
@@ -24,6 +24,12 @@ abbrev pub policy_number : Policy → ℕ
 policy_number Late = 0
 policy_number Early = 1
 policy_number Default = 2
+
+-- the word of a policy in a report and in a trace
+abbrev pub policy_word : Policy → List ℕ
+policy_word Late = codes "late"
+policy_word Early = codes "early"
+policy_word Default = codes "default"
 
 -- the five arguments are an operation, how, which policy, and two zeros
 abbrev pub are : List ℕ → ℕ → ℕ → ℕ → Bool

@@ -18,7 +18,7 @@ pub use kill::signals;
 pub use next::next_to_read;
 pub use policies::{
     PR_MCE_KILL, PR_MCE_KILL_CLEAR, PR_MCE_KILL_DEFAULT, PR_MCE_KILL_EARLY, PR_MCE_KILL_GET,
-    PR_MCE_KILL_LATE, PR_MCE_KILL_SET, prctl,
+    PR_MCE_KILL_LATE, PR_MCE_KILL_SET, policy_word, prctl,
 };
 pub use reading::are_policies_read;
 pub use signal_list::{MAX_SIGNALS, SignalList, SignalRoom};

@@ -1,5 +1,5 @@
 ghost use Rattle.std.specs.Prelude.{◌≡◌};
-ghost use Rattle.hwp_kill.specs.Prctl.{policy_number, reply};
+ghost use Rattle.hwp_kill.specs.Prctl.{policy_number, policy_word, reply};
 
 use crate::types::{Policy, Reply};
 
@@ -28,6 +28,17 @@ impl Policy {
             Policy::Early => PR_MCE_KILL_EARLY,
             Policy::Default => PR_MCE_KILL_DEFAULT,
         }
+    }
+}
+
+/// The word of a policy.
+pub fn policy_word(policy: Policy) -> &'static str
+    ensures { result.now ≡ policy_word policy }
+{
+    match policy {
+        Policy::Late => "late",
+        Policy::Early => "early",
+        Policy::Default => "default",
     }
 }
 

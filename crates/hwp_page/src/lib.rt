@@ -16,7 +16,7 @@ pub use hwp_kill::{
     Code, Cpu, Damage, FileNo, Frame, HeldSlots, Kind, Layout, Line, List, MAX_SIGNALS, Mask, Mode,
     OutOfMemory, Page, PageKind, Policy, Proc, Reply, Seen, Signal, SignalList, SignalRoom,
     SlotRoom, Slots, Text, Thread, VSlot, Version, Who, are_policies_read, lowest_bit,
-    next_to_read, prctl, signals,
+    next_to_read, policy_word, prctl, signals,
 };
 pub use situation::{Outcome, Situation};
 pub use state::PageState;

@@ -33,7 +33,8 @@ use Rattle.hwp_report_text.specs.declared.lines.EventLine.{EventLine}
 use Rattle.hwp_report_text.specs.declared.lines.GuestLine.{GuestLine}
 use Rattle.hwp_report_text.specs.declared.lines.OfflinedLine.{OfflinedLine}
 use Rattle.hwp_report_text.specs.Offlines.{offline_answer}
-use Rattle.hwp_report_text.specs.Terms.{acted_word, code_word, flag_number, guest_word, mode_word, origin_word, outcome_word, policy_word, situation_word, version_word}
+use Rattle.hwp_page.specs.hwp_kill.Prctl.{policy_word}
+use Rattle.hwp_report_text.specs.Terms.{acted_word, code_word, flag_number, guest_word, mode_word, origin_word, outcome_word, situation_word, version_word}
 
 -- the lines of each item of a list, with its number, counted from n
 abbrev pub numbered : {A : Type 0} → (ℕ → A → List (List (List ℕ))) → ℕ → List A → List (List (List ℕ))

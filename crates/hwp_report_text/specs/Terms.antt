@@ -4,8 +4,6 @@ use Rattle.hwp_page.specs.hwp_geom.declared.Mode.{Mode}
 use Rattle.hwp_page.specs.hwp_geom.declared.Mode.TheVariants as modes
 use Rattle.hwp_page.specs.hwp_geom.declared.Version.{Version}
 use Rattle.hwp_page.specs.hwp_geom.declared.Version.TheVariants as versions
-use Rattle.hwp_page.specs.hwp_kill.declared.Policy.{Policy}
-use Rattle.hwp_page.specs.hwp_kill.declared.Policy.TheVariants as policies
 use Rattle.hwp_page.specs.hwp_kill.declared.Code.{Code}
 use Rattle.hwp_page.specs.hwp_kill.declared.Code.TheVariants as kinds
 use Rattle.hwp_page.specs.declared.Situation.{Situation}
@@ -29,12 +27,6 @@ flag_number false = 0
 abbrev pub mode_word : Mode → List ℕ
 mode_word modes.User = codes "user"
 mode_word modes.Kernel = codes "kernel"
-
--- a policy
-abbrev pub policy_word : Policy → List ℕ
-policy_word policies.Late = codes "late"
-policy_word policies.Early = codes "early"
-policy_word policies.Default = codes "default"
 
 -- the code of a signal
 abbrev pub code_word : Code → List ℕ

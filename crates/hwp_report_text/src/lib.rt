@@ -14,9 +14,9 @@ pub use hwp_guest::{
 pub use hwp_page::{
     At, Code, Cpu, Entry, Frame, Line, List, MAX_SIGNALS, Mask, Met, Mode, OutOfMemory, Outcome,
     Page, PageState, Policy, Proc, Reply, Seen, Signal, Situation, Slots, Text, Thread, VSlot,
-    Version, What, Who, prctl,
+    Version, What, Who, policy_word, prctl,
 };
 pub use lines::{Acted, Answer, CpuLine, EventLine, GuestLine, OfflineResult, OfflinedLine};
 pub use printing::print;
 pub use report::{Report, Stop, StopCause};
-pub use terms::{acted_word, guest_word, outcome_word, policy_word, situation_word};
+pub use terms::{acted_word, guest_word, outcome_word, situation_word};

@@ -2,7 +2,7 @@ ghost use Rattle.std.specs.Prelude.{◌≡◌};
 ghost use Rattle.hwp_report_text.specs.Terms as terms;
 
 use crate::lines::Acted;
-use hwp_page::{Code, Mode, Outcome, Policy, Situation, Version};
+use hwp_page::{Code, Mode, Outcome, Situation, Version};
 
 /// The word of a version.
 pub(crate) fn version_word(version: Version) -> &'static str
@@ -28,17 +28,6 @@ pub(crate) fn mode_word(mode: Mode) -> &'static str
     match mode {
         Mode::User => "user",
         Mode::Kernel => "kernel",
-    }
-}
-
-/// The word of a policy.
-pub fn policy_word(policy: Policy) -> &'static str
-    ensures { result.now ≡ terms.policy_word policy }
-{
-    match policy {
-        Policy::Late => "late",
-        Policy::Early => "early",
-        Policy::Default => "default",
     }
 }
 

@@ -19,7 +19,8 @@ use Rattle.hwp_report_text.specs.hwp_page.declared.Outcome.{Outcome}
 use Rattle.hwp_report_text.specs.hwp_page.declared.Outcome.TheVariants as outcomes
 use Rattle.hwp_report_text.specs.declared.Acted.{Acted}
 use Rattle.hwp_report_text.specs.declared.Acted.TheVariants as acts
-use Rattle.hwp_report_text.specs.Terms.{flag_number, mode_word, policy_word, code_word, situation_word, outcome_word, origin_word, acted_word, guest_word, version_word}
+use Rattle.hwp_report_text.specs.hwp_kill.Prctl.{policy_word}
+use Rattle.hwp_report_text.specs.Terms.{flag_number, mode_word, code_word, situation_word, outcome_word, origin_word, acted_word, guest_word, version_word}
 use Rattle.hwp_report_words.specs.Words.{AtFits}
 
 -- a word as a number

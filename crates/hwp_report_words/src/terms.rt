@@ -1,4 +1,5 @@
 ghost use Rattle.std.specs.Prelude.{decimal};
+ghost use Rattle.hwp_report_text.specs.hwp_kill.Prctl as prctl;
 ghost use Rattle.hwp_report_text.specs.Terms as terms;
 ghost use Rattle.hwp_report_words.specs.Reads.{IsNamedBy};
 
@@ -13,7 +14,7 @@ use hwp_report_text::{
 const POLICIES: [Policy; 3] = [Policy::Late, Policy::Early, Policy::Default];
 
 impl HasWord for Policy {
-    ghost text = { terms.policy_word };
+    ghost text = { prctl.policy_word };
 
     fn word(self) -> &'static str {
         policy_word(self)
@@ -115,7 +116,7 @@ pub fn read_mode(word: &[u8]) -> Option<Mode>
 
 /// The policy that a word names.
 pub fn read_policy(word: &[u8]) -> Option<Policy>
-    ensures { IsNamedBy terms.policy_word word.now result }
+    ensures { IsNamedBy prctl.policy_word word.now result }
 {
     named(word, &POLICIES)
 }

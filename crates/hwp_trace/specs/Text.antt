@@ -23,7 +23,7 @@ use Rattle.hwp_top.specs.hwp_core_rule.declared.SharedWord.TheVariants as places
 use Rattle.hwp_top.specs.hwp_core_rule.declared.Turn.{Turn}
 use Rattle.hwp_top.specs.hwp_core_rule.declared.Turn.TheVariants as turns
 use Rattle.hwp_top.specs.hwp_script_lines.Kinds.{kind_text}
-use Rattle.hwp_top.specs.hwp_report_text.Terms.{policy_word}
+use Rattle.hwp_top.specs.hwp_kill.Prctl.{policy_word}
 use Rattle.hwp_trace.specs.declared.line.TraceLine.{TraceLine}
 
 -- words, each with a space behind it: the beginning of a line
