@@ -33,7 +33,7 @@ use Rattle.hwp_claim.specs.declared.fail.FailAt.{FailAt}
 use Rattle.hwp_claim.specs.declared.fail.FailAt.TheVariants as at
 use Rattle.hwp_claim.specs.Done.{Adds, failed_at, marked_at, owed_at}
 use Rattle.hwp_claim.specs.Fails.{ActsOn, AfterClaim, AfterClaimBy, Fits, FitsAt, Follows, FollowsAt, IsActing, IsClaiming, after_act, after_act_by, bare, bare_at, plan, plan_at, put, put_at}
-use Rattle.hwp_claim.proofs.Quiet.{act-leaves}
+use Rattle.hwp_claim.proofs.ActQuiet.{act-leaves}
 
 -- ---- what follows a claim, and an action
 

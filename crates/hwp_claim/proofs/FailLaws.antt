@@ -38,7 +38,7 @@ use Rattle.hwp_claim.specs.declared.fail.Fail.{Fail}
 use Rattle.hwp_claim.specs.declared.fail.FailAt.{FailAt}
 use Rattle.hwp_claim.specs.declared.fail.FailAt.TheVariants as at
 use Rattle.hwp_claim.specs.Fails.{plan, plan_at, put, put_at, bare, bare_at, after_act, after_act_by, Acts, AfterClaim, AfterClaimBy, IsCached, Shows, ShowsAt, Follows, FollowsAt, Fits, FitsAt, class, class_at}
-use Rattle.hwp_claim.proofs.Quiet.{act-leaves}
+use Rattle.hwp_claim.proofs.ActQuiet.{act-leaves}
 
 pub can : (layout : Layout) (view : View) (f : Fail) (step : Step) → Fits layout view f → plan f ≡ Some step → CanMake layout f.who step (put f) view
 can layout view f step fits is = which f.at fits.at is

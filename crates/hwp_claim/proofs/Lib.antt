@@ -1,4 +1,4 @@
-pub mod Quiet
+pub mod ActQuiet
 pub mod FailLaws
 pub mod FailAdds
 pub mod FailLeaves

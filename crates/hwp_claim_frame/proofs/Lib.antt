@@ -11,5 +11,6 @@ pub mod ClaimLaws
 pub mod ClaimAdds
 pub mod ClaimCosts
 pub mod ClaimOwns
+pub mod Quiet
 pub use Rattle.hwp_core.proofs as of_hwp_core
 pub use Rattle.hwp_core.proofs.of_hwp_core_rule as of_hwp_core_rule

@@ -41,7 +41,7 @@ use Rattle.hwp_fault.specs.Accesses as accesses
 use Rattle.hwp_fault.specs.Accesses.{check_of}
 use Rattle.hwp_fault.specs.Adds as adds
 use Rattle.hwp_fault.specs.Adds.{Skips}
-use Rattle.hwp_cpu_check.proofs.of_hwp_claim.Quiet.{Alike, PlansQuiet, leaves}
+use Rattle.hwp_cpu_check.proofs.of_hwp_claim.of_hwp_claim_frame.Quiet.{Alike, PlansQuiet, leaves}
 use Rattle.hwp_cpu_check.specs.hwp_banks.Banks.{Banks, empty_banks}
 use Rattle.hwp_cpu_check.specs.hwp_severity.Handling.{has_stop}
 use Rattle.hwp_cpu_check.specs.hwp_law.Commands.{is_check}

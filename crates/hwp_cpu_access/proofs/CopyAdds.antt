@@ -28,7 +28,7 @@ use Rattle.hwp_cpu_access.specs.declared.instruction.Instruction.{Instruction}
 use Rattle.hwp_cpu_access.specs.declared.instruction.InstructionAnswer.{InstructionAnswer}
 use Rattle.hwp_cpu_access.specs.declared.instruction.InstructionAnswer.TheVariants as answers
 use Rattle.hwp_cpu_access.specs.declared.instruction.InstructionAt.TheVariants as instruction_at
-use Rattle.hwp_cpu_check.proofs.of_hwp_claim.Quiet.{Alike}
+use Rattle.hwp_cpu_check.proofs.of_hwp_claim.of_hwp_claim_frame.Quiet.{Alike}
 use Rattle.hwp_cpu_access.specs.Done as instruction_done
 use Rattle.hwp_cpu_access.specs.Done.{FailuresGrow, failures_by}
 use Rattle.hwp_cpu_access.specs.Instructions as instructions

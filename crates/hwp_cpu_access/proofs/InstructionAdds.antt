@@ -23,7 +23,7 @@ use Rattle.hwp_fault.proofs.of_hwp_core_rule.tasks.MadeEntries.{deeds-same}
 use Rattle.hwp_cpu_check.specs.hwp_claim_act.declared.Failed.{Failed}
 use Rattle.hwp_cpu_check.specs.hwp_claim_act.Abandoned.{failed_in as failed_of_entry}
 use Rattle.hwp_cpu_check.specs.hwp_claim_frame.Done.{Grows, Marking, counts_owed, marking_of}
-use Rattle.hwp_cpu_check.proofs.of_hwp_claim.Quiet.{Alike}
+use Rattle.hwp_cpu_check.proofs.of_hwp_claim.of_hwp_claim_frame.Quiet.{Alike}
 use Rattle.hwp_fault.specs.declared.Access.{Access}
 use Rattle.hwp_fault.specs.declared.AccessAnswer.{AccessAnswer}
 use Rattle.hwp_fault.specs.declared.AccessAnswer.TheVariants as access_answers

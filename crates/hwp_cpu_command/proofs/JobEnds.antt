@@ -48,17 +48,17 @@ use Rattle.hwp_evict.specs.declared.FsyncAnswer.{FsyncAnswer}
 use Rattle.hwp_evict.specs.Evictions.{IsCaused}
 use Rattle.hwp_evict.specs.Evicts as evicts
 use Rattle.hwp_evict.specs.Fsyncs as fsyncs
-use Rattle.hwp_soft.specs.hwp_claim.declared.fail.FailAt.{FailAt}
-use Rattle.hwp_soft.specs.hwp_claim.declared.fail.FailAt.TheVariants as fail_at
-use Rattle.hwp_soft.specs.hwp_claim.declared.FailAnswer.{FailAnswer}
-use Rattle.hwp_soft.specs.hwp_claim.declared.FailAnswer.TheVariants as fail_answers
-use Rattle.hwp_soft.specs.hwp_claim.declared.inject.Inject.{Inject}
-use Rattle.hwp_soft.specs.hwp_claim.declared.inject.InjectAt.{InjectAt}
-use Rattle.hwp_soft.specs.hwp_claim.declared.inject.InjectAt.TheVariants as inject_at
-use Rattle.hwp_soft.specs.hwp_claim.Done as failures
-use Rattle.hwp_soft.specs.hwp_claim.Fails as fails
-use Rattle.hwp_soft.specs.hwp_claim.Injects as injects
-use Rattle.hwp_soft.proofs.of_hwp_claim.InjectEnds as inject_ends
+use Rattle.hwp_cpu_row.specs.hwp_claim.declared.fail.FailAt.{FailAt}
+use Rattle.hwp_cpu_row.specs.hwp_claim.declared.fail.FailAt.TheVariants as fail_at
+use Rattle.hwp_cpu_row.specs.hwp_claim.declared.FailAnswer.{FailAnswer}
+use Rattle.hwp_cpu_row.specs.hwp_claim.declared.FailAnswer.TheVariants as fail_answers
+use Rattle.hwp_cpu_row.specs.hwp_claim.declared.inject.Inject.{Inject}
+use Rattle.hwp_cpu_row.specs.hwp_claim.declared.inject.InjectAt.{InjectAt}
+use Rattle.hwp_cpu_row.specs.hwp_claim.declared.inject.InjectAt.TheVariants as inject_at
+use Rattle.hwp_cpu_row.specs.hwp_claim.Done as failures
+use Rattle.hwp_cpu_row.specs.hwp_claim.Fails as fails
+use Rattle.hwp_cpu_row.specs.hwp_claim.Injects as injects
+use Rattle.hwp_cpu_access.proofs.of_hwp_cpu_check.of_hwp_claim.InjectEnds as inject_ends
 use Rattle.hwp_cpu_row.specs.hwp_cpu_check.Fits.{IsAtRest}
 use Rattle.hwp_cpu_access.specs.declared.Instruction.{Instruction}
 use Rattle.hwp_cpu_access.specs.declared.InstructionAnswer.{InstructionAnswer}

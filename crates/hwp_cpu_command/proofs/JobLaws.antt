@@ -47,16 +47,16 @@ use Rattle.hwp_evict.proofs.EvictCosts.{evict-mild, evict-ranked, evict-tells}
 use Rattle.hwp_evict.proofs.FsyncLaws as fsyncing
 use Rattle.hwp_evict.proofs.FsyncLaws.{fsync-mild, fsync-ranked, fsync-tells}
 use Rattle.hwp_cpu_access.proofs.of_hwp_fault.AccessCosts.{access-mild}
-use Rattle.hwp_soft.specs.hwp_claim.declared.fail.FailAt.{FailAt}
-use Rattle.hwp_soft.specs.hwp_claim.declared.fail.FailAt.TheVariants as fail_at
-use Rattle.hwp_soft.specs.hwp_claim.declared.FailAnswer.{FailAnswer}
-use Rattle.hwp_soft.specs.hwp_claim.declared.inject.Inject.{Inject}
-use Rattle.hwp_soft.specs.hwp_claim.declared.inject.InjectAt.{InjectAt}
-use Rattle.hwp_soft.specs.hwp_claim.declared.inject.InjectAt.TheVariants as inject_at
-use Rattle.hwp_soft.specs.hwp_claim.Fails as fails
-use Rattle.hwp_soft.specs.hwp_claim.Injects as injects
-use Rattle.hwp_soft.proofs.of_hwp_claim.InjectLaws as injecting
-use Rattle.hwp_soft.proofs.of_hwp_claim.InjectRank.{inject-lasting, inject-ranked, inject-tells}
+use Rattle.hwp_cpu_row.specs.hwp_claim.declared.fail.FailAt.{FailAt}
+use Rattle.hwp_cpu_row.specs.hwp_claim.declared.fail.FailAt.TheVariants as fail_at
+use Rattle.hwp_cpu_row.specs.hwp_claim.declared.FailAnswer.{FailAnswer}
+use Rattle.hwp_cpu_row.specs.hwp_claim.declared.inject.Inject.{Inject}
+use Rattle.hwp_cpu_row.specs.hwp_claim.declared.inject.InjectAt.{InjectAt}
+use Rattle.hwp_cpu_row.specs.hwp_claim.declared.inject.InjectAt.TheVariants as inject_at
+use Rattle.hwp_cpu_row.specs.hwp_claim.Fails as fails
+use Rattle.hwp_cpu_row.specs.hwp_claim.Injects as injects
+use Rattle.hwp_cpu_access.proofs.of_hwp_cpu_check.of_hwp_claim.InjectLaws as injecting
+use Rattle.hwp_cpu_access.proofs.of_hwp_cpu_check.of_hwp_claim.InjectRank.{inject-lasting, inject-ranked, inject-tells}
 use Rattle.hwp_cpu_row.specs.hwp_cpu_check.declared.Handler.{Handler}
 use Rattle.hwp_cpu_row.specs.hwp_cpu_check.Handlers as handlers
 use Rattle.hwp_cpu_access.specs.declared.Instruction.{Instruction}

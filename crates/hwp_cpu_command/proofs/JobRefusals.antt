@@ -10,31 +10,31 @@ use Rattle.hwp_cpu_control.specs.hwp_core_rule.declared.Turn.TheVariants as turn
 use Rattle.hwp_cpu_control.specs.hwp_core_rule.Ranks.{is_refused}
 use Rattle.hwp_evict.specs.hwp_core.declared.give_up.GiveUp.{GiveUp}
 use Rattle.hwp_evict.specs.hwp_core.Holds.{is_free}
-use Rattle.hwp_soft.specs.hwp_claim_act.declared.abandon.Failed.{Failed}
-use Rattle.hwp_soft.specs.hwp_claim_act.declared.act.Act.{Act}
-use Rattle.hwp_soft.specs.hwp_claim_act.declared.act.ActAt.{ActAt}
-use Rattle.hwp_soft.specs.hwp_claim_act.declared.act.ActAt.TheVariants as act_at
-use Rattle.hwp_soft.specs.hwp_claim_act.Acts as acts
-use Rattle.hwp_soft.specs.hwp_claim_frame.declared.claim.Claim.{Claim}
-use Rattle.hwp_soft.specs.hwp_claim_frame.declared.claim.ClaimAt.{ClaimAt}
-use Rattle.hwp_soft.specs.hwp_claim_frame.declared.claim.ClaimAt.TheVariants as claim_at
-use Rattle.hwp_soft.specs.hwp_claim_frame.declared.ClaimAnswer.{ClaimAnswer}
-use Rattle.hwp_soft.specs.hwp_claim_frame.declared.grab.GrabAt.{GrabAt}
-use Rattle.hwp_soft.specs.hwp_claim_frame.declared.grab.GrabAt.TheVariants as grab_at
-use Rattle.hwp_soft.specs.hwp_claim_frame.declared.meet.MeetAt.{MeetAt}
-use Rattle.hwp_soft.specs.hwp_claim_frame.declared.meet.MeetAt.TheVariants as meet_at
-use Rattle.hwp_soft.specs.hwp_claim_frame.Claims as claims
-use Rattle.hwp_soft.specs.hwp_claim_frame.Grabs as grabs
-use Rattle.hwp_soft.specs.hwp_claim_frame.Meets as meets
-use Rattle.hwp_soft.specs.hwp_claim.declared.fail.Fail.{Fail}
-use Rattle.hwp_soft.specs.hwp_claim.declared.fail.FailAt.{FailAt}
-use Rattle.hwp_soft.specs.hwp_claim.declared.fail.FailAt.TheVariants as fail_at
-use Rattle.hwp_soft.specs.hwp_claim.declared.FailAnswer.{FailAnswer}
-use Rattle.hwp_soft.specs.hwp_claim.declared.inject.Inject.{Inject}
-use Rattle.hwp_soft.specs.hwp_claim.declared.inject.InjectAt.{InjectAt}
-use Rattle.hwp_soft.specs.hwp_claim.declared.inject.InjectAt.TheVariants as inject_at
-use Rattle.hwp_soft.specs.hwp_claim.Fails as fails
-use Rattle.hwp_soft.specs.hwp_claim.Injects as injects
+use Rattle.hwp_cpu_row.specs.hwp_claim_act.declared.abandon.Failed.{Failed}
+use Rattle.hwp_cpu_row.specs.hwp_claim_act.declared.act.Act.{Act}
+use Rattle.hwp_cpu_row.specs.hwp_claim_act.declared.act.ActAt.{ActAt}
+use Rattle.hwp_cpu_row.specs.hwp_claim_act.declared.act.ActAt.TheVariants as act_at
+use Rattle.hwp_cpu_row.specs.hwp_claim_act.Acts as acts
+use Rattle.hwp_cpu_row.specs.hwp_claim_frame.declared.claim.Claim.{Claim}
+use Rattle.hwp_cpu_row.specs.hwp_claim_frame.declared.claim.ClaimAt.{ClaimAt}
+use Rattle.hwp_cpu_row.specs.hwp_claim_frame.declared.claim.ClaimAt.TheVariants as claim_at
+use Rattle.hwp_cpu_row.specs.hwp_claim_frame.declared.ClaimAnswer.{ClaimAnswer}
+use Rattle.hwp_cpu_row.specs.hwp_claim_frame.declared.grab.GrabAt.{GrabAt}
+use Rattle.hwp_cpu_row.specs.hwp_claim_frame.declared.grab.GrabAt.TheVariants as grab_at
+use Rattle.hwp_cpu_row.specs.hwp_claim_frame.declared.meet.MeetAt.{MeetAt}
+use Rattle.hwp_cpu_row.specs.hwp_claim_frame.declared.meet.MeetAt.TheVariants as meet_at
+use Rattle.hwp_cpu_row.specs.hwp_claim_frame.Claims as claims
+use Rattle.hwp_cpu_row.specs.hwp_claim_frame.Grabs as grabs
+use Rattle.hwp_cpu_row.specs.hwp_claim_frame.Meets as meets
+use Rattle.hwp_cpu_row.specs.hwp_claim.declared.fail.Fail.{Fail}
+use Rattle.hwp_cpu_row.specs.hwp_claim.declared.fail.FailAt.{FailAt}
+use Rattle.hwp_cpu_row.specs.hwp_claim.declared.fail.FailAt.TheVariants as fail_at
+use Rattle.hwp_cpu_row.specs.hwp_claim.declared.FailAnswer.{FailAnswer}
+use Rattle.hwp_cpu_row.specs.hwp_claim.declared.inject.Inject.{Inject}
+use Rattle.hwp_cpu_row.specs.hwp_claim.declared.inject.InjectAt.{InjectAt}
+use Rattle.hwp_cpu_row.specs.hwp_claim.declared.inject.InjectAt.TheVariants as inject_at
+use Rattle.hwp_cpu_row.specs.hwp_claim.Fails as fails
+use Rattle.hwp_cpu_row.specs.hwp_claim.Injects as injects
 use Rattle.hwp_cpu_row.specs.hwp_cpu_check.declared.Handler.{Handler}
 use Rattle.hwp_cpu_row.specs.hwp_cpu_check.declared.handler.HandlerAt.{HandlerAt}
 use Rattle.hwp_cpu_row.specs.hwp_cpu_check.declared.handler.HandlerAt.TheVariants as handler_at

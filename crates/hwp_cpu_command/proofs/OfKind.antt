@@ -8,7 +8,7 @@ use Rattle.hwp_cpu_control.specs.declared.Prctl.{Prctl}
 use Rattle.hwp_cpu_control.specs.declared.Spoil.{Spoil}
 use Rattle.hwp_evict.specs.declared.Evict.{Evict}
 use Rattle.hwp_evict.specs.declared.Fsync.{Fsync}
-use Rattle.hwp_soft.specs.hwp_claim.declared.Inject.{Inject}
+use Rattle.hwp_cpu_row.specs.hwp_claim.declared.Inject.{Inject}
 use Rattle.hwp_cpu_access.specs.declared.Instruction.{Instruction}
 use Rattle.hwp_cpu_access.specs.declared.Copying.{Copying}
 use Rattle.hwp_cpu_access.specs.Copyings as copyings
@@ -24,7 +24,7 @@ use Rattle.hwp_cpu_control.specs.Prctls as prctls
 use Rattle.hwp_cpu_control.specs.Spoils as spoils
 use Rattle.hwp_evict.specs.Evicts as evicts
 use Rattle.hwp_evict.specs.Fsyncs as fsyncs
-use Rattle.hwp_soft.specs.hwp_claim.Injects as injects
+use Rattle.hwp_cpu_row.specs.hwp_claim.Injects as injects
 use Rattle.hwp_cpu_access.specs.Instructions as instructions
 use Rattle.hwp_scrub.specs.Logs as logs
 use Rattle.hwp_scrub.specs.Raises as raises

@@ -25,8 +25,8 @@ use Rattle.hwp_evict.specs.declared.FsyncAnswer.{FsyncAnswer}
 use Rattle.hwp_evict.specs.declared.FsyncAnswer.TheVariants as fsync
 use Rattle.hwp_evict.specs.declared.Refusal.{Refusal}
 use Rattle.hwp_evict.specs.declared.Refusal.TheVariants as refusals
-use Rattle.hwp_soft.specs.hwp_claim.declared.FailAnswer.{FailAnswer}
-use Rattle.hwp_soft.specs.hwp_claim.declared.FailAnswer.TheVariants as fail
+use Rattle.hwp_cpu_row.specs.hwp_claim.declared.FailAnswer.{FailAnswer}
+use Rattle.hwp_cpu_row.specs.hwp_claim.declared.FailAnswer.TheVariants as fail
 use Rattle.hwp_cpu_access.specs.declared.InstructionAnswer.{InstructionAnswer}
 use Rattle.hwp_cpu_access.specs.declared.InstructionAnswer.TheVariants as instruction
 use Rattle.hwp_scrub.specs.declared.RaiseAnswer.{RaiseAnswer}

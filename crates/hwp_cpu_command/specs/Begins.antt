@@ -46,7 +46,7 @@ use Rattle.hwp_cpu_access.specs.hwp_fault.declared.AccessKind.{AccessKind}
 use Rattle.hwp_cpu_access.specs.hwp_fault.declared.AccessKind.TheVariants as kinds
 use Rattle.hwp_cpu_access.specs.hwp_fault.declared.Request.{Request}
 use Rattle.hwp_cpu_access.specs.hwp_fault.Accesses as accesses
-use Rattle.hwp_soft.specs.hwp_claim.Injects as injects
+use Rattle.hwp_cpu_row.specs.hwp_claim.Injects as injects
 use Rattle.hwp_cpu_access.specs.Instructions as instructions
 use Rattle.hwp_cpu_access.specs.Copyings as copyings
 use Rattle.hwp_scrub.specs.declared.LocalChange.{LocalChange}

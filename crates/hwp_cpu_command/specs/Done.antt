@@ -6,11 +6,11 @@ use Rattle.hwp_cpu_control.specs.hwp_geom.declared.Who.{Who}
 use Rattle.hwp_cpu_control.specs.hwp_core_rule.declared.Mark.{Mark}
 use Rattle.hwp_cpu_control.specs.hwp_core_rule.declared.Setting.{Setting}
 use Rattle.hwp_cpu_control.specs.hwp_core_rule.declared.View.{View}
-use Rattle.hwp_soft.specs.hwp_claim_act.declared.Failed.{Failed}
-use Rattle.hwp_soft.specs.hwp_claim_frame.Done.{Grows, Marking, counts_owed, marking_of}
-use Rattle.hwp_soft.specs.hwp_claim.declared.inject.InjectAt.{InjectAt}
-use Rattle.hwp_soft.specs.hwp_claim.declared.inject.InjectAt.TheVariants as inject_at
-use Rattle.hwp_soft.specs.hwp_claim.Done as fail_done
+use Rattle.hwp_cpu_row.specs.hwp_claim_act.declared.Failed.{Failed}
+use Rattle.hwp_cpu_row.specs.hwp_claim_frame.Done.{Grows, Marking, counts_owed, marking_of}
+use Rattle.hwp_cpu_row.specs.hwp_claim.declared.inject.InjectAt.{InjectAt}
+use Rattle.hwp_cpu_row.specs.hwp_claim.declared.inject.InjectAt.TheVariants as inject_at
+use Rattle.hwp_cpu_row.specs.hwp_claim.Done as fail_done
 use Rattle.hwp_cpu_access.specs.Done as instruction_done
 use Rattle.hwp_cpu_access.specs.Done.{FailuresGrow, failures_by}
 use Rattle.hwp_cpu_access.specs.CopyDone as copying_done

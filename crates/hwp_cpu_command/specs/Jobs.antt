@@ -20,10 +20,10 @@ use Rattle.hwp_cpu_control.specs.Spoils as spoils
 use Rattle.hwp_evict.specs.declared.Evict.{Evict}
 use Rattle.hwp_evict.specs.Evicts as evicts
 use Rattle.hwp_evict.specs.Fsyncs as fsyncs
-use Rattle.hwp_soft.specs.hwp_claim.declared.FailAnswer.{FailAnswer}
-use Rattle.hwp_soft.specs.hwp_claim.declared.FailAnswer.TheVariants as fail_answers
-use Rattle.hwp_soft.specs.hwp_claim.declared.Inject.{Inject}
-use Rattle.hwp_soft.specs.hwp_claim.Injects as injects
+use Rattle.hwp_cpu_row.specs.hwp_claim.declared.FailAnswer.{FailAnswer}
+use Rattle.hwp_cpu_row.specs.hwp_claim.declared.FailAnswer.TheVariants as fail_answers
+use Rattle.hwp_cpu_row.specs.hwp_claim.declared.Inject.{Inject}
+use Rattle.hwp_cpu_row.specs.hwp_claim.Injects as injects
 use Rattle.hwp_cpu_row.specs.hwp_banks.Banks.{Banks, empty_banks}
 use Rattle.hwp_cpu_row.specs.hwp_cpu_check.declared.EventOutcome.{EventOutcome}
 use Rattle.hwp_cpu_access.specs.declared.Instruction.{Instruction}

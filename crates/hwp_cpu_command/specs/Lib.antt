@@ -7,9 +7,9 @@ pub mod Settings
 pub mod Stays
 pub mod Done
 pub use Rattle.hwp_cpu_row.specs.hwp_banks as hwp_banks
-pub use Rattle.hwp_soft.specs.hwp_claim as hwp_claim
-pub use Rattle.hwp_soft.specs.hwp_claim_act as hwp_claim_act
-pub use Rattle.hwp_soft.specs.hwp_claim_frame as hwp_claim_frame
+pub use Rattle.hwp_cpu_row.specs.hwp_claim as hwp_claim
+pub use Rattle.hwp_cpu_row.specs.hwp_claim_act as hwp_claim_act
+pub use Rattle.hwp_cpu_row.specs.hwp_claim_frame as hwp_claim_frame
 pub use Rattle.hwp_evict.specs.hwp_core as hwp_core
 pub use Rattle.hwp_cpu_control.specs.hwp_core_rule as hwp_core_rule
 pub use Rattle.hwp_cpu_access.specs as hwp_cpu_access

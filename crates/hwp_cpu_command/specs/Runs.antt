@@ -13,7 +13,7 @@ use Rattle.hwp_cpu_control.specs.hwp_core_rule.parts.Policies.{settings_of}
 use Rattle.hwp_cpu_control.specs.hwp_core_rule.Calls.{IsOnTurn}
 use Rattle.hwp_cpu_control.specs.hwp_core_rule.Hands.{hand_of, empty}
 use Rattle.hwp_cpu_control.specs.hwp_core_rule.Known.{HasMadeNone}
-use Rattle.hwp_soft.specs.hwp_claim_frame.Claims.{HasMarkedNone}
+use Rattle.hwp_cpu_row.specs.hwp_claim_frame.Claims.{HasMarkedNone}
 use Rattle.hwp_cpu_control.specs.declared.Denial.{Denial}
 use Rattle.hwp_cpu_control.specs.Denieds as denieds
 use Rattle.hwp_cpu_control.specs.Nesteds as nesteds
@@ -23,7 +23,7 @@ use Rattle.hwp_cpu_control.specs.Prctls.{HasSettingLeft}
 use Rattle.hwp_cpu_control.specs.Spoils as spoils
 use Rattle.hwp_evict.specs.Evicts as evicts
 use Rattle.hwp_evict.specs.Fsyncs as fsyncs
-use Rattle.hwp_soft.specs.hwp_claim.Injects as injects
+use Rattle.hwp_cpu_row.specs.hwp_claim.Injects as injects
 use Rattle.hwp_cpu_access.specs.Instructions as instructions
 use Rattle.hwp_cpu_access.specs.Copyings as copyings
 use Rattle.hwp_scrub.specs.Logs as logs

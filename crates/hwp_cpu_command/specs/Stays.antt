@@ -27,12 +27,12 @@ use Rattle.hwp_evict.specs.declared.evict.EvictAt.TheVariants as evict_at
 use Rattle.hwp_evict.specs.declared.fsync.FsyncAt.TheVariants as fsync_at
 use Rattle.hwp_cpu_access.specs.hwp_fault.declared.Access.{Access}
 use Rattle.hwp_cpu_access.specs.hwp_fault.declared.access.AccessAt.TheVariants as access_at
-use Rattle.hwp_soft.specs.hwp_claim_frame.declared.claim.Claim.{Claim}
-use Rattle.hwp_soft.specs.hwp_claim_frame.declared.claim.ClaimAt.TheVariants as claim_at
-use Rattle.hwp_soft.specs.hwp_claim.declared.fail.Fail.{Fail}
-use Rattle.hwp_soft.specs.hwp_claim.declared.fail.FailAt.TheVariants as fail_at
-use Rattle.hwp_soft.specs.hwp_claim.declared.FailAnswer.TheVariants as fail_answers
-use Rattle.hwp_soft.specs.hwp_claim.declared.inject.InjectAt.TheVariants as inject_at
+use Rattle.hwp_cpu_row.specs.hwp_claim_frame.declared.claim.Claim.{Claim}
+use Rattle.hwp_cpu_row.specs.hwp_claim_frame.declared.claim.ClaimAt.TheVariants as claim_at
+use Rattle.hwp_cpu_row.specs.hwp_claim.declared.fail.Fail.{Fail}
+use Rattle.hwp_cpu_row.specs.hwp_claim.declared.fail.FailAt.TheVariants as fail_at
+use Rattle.hwp_cpu_row.specs.hwp_claim.declared.FailAnswer.TheVariants as fail_answers
+use Rattle.hwp_cpu_row.specs.hwp_claim.declared.inject.InjectAt.TheVariants as inject_at
 use Rattle.hwp_cpu_row.specs.hwp_cpu_check.declared.Handler.{Handler}
 use Rattle.hwp_cpu_row.specs.hwp_cpu_check.declared.handler.HandlerAt.TheVariants as handler_at
 use Rattle.hwp_cpu_row.specs.hwp_cpu_check.Told.{halts}

@@ -14,8 +14,8 @@ use Rattle.hwp_plain.proofs.of_hwp_core_rule.Lists.{each-push}
 use Rattle.hwp_plain.specs.hwp_core_rule.Calls.{Steps}
 use Rattle.hwp_plain.proofs.of_hwp_core_rule.tasks.StepLeaves.{content_of}
 use Rattle.hwp_plain.specs.hwp_core_rule.Known.{deeds}
-use Rattle.hwp_soft.specs.hwp_claim_act.Abandoned.{failed_in}
-use Rattle.hwp_soft.specs.hwp_claim_frame.Done.{marking_of}
+use Rattle.hwp_cpu_row.specs.hwp_claim_act.Abandoned.{failed_in}
+use Rattle.hwp_cpu_row.specs.hwp_claim_frame.Done.{marking_of}
 use Rattle.hwp_law.specs.hwp_script_read.declared.Command.{Command}
 use Rattle.hwp_law.specs.hwp_report_text.declared.Answer.{Answer}
 use Rattle.hwp_cpu_row.specs.declared.Row.{Row}

@@ -27,7 +27,7 @@ use Rattle.hwp_law.specs.hwp_banks.Banks.{Banks, empty_banks}
 use Rattle.hwp_law.specs.hwp_severity.Handling.{has_stop}
 use Rattle.hwp_law.specs.Commands.{arrival_of, is_check}
 use Rattle.hwp_law.specs.hwp_severity.declared.Arrival.{Arrival}
-use Rattle.hwp_soft.specs.hwp_claim.declared.Found.{Found}
+use Rattle.hwp_cpu_row.specs.hwp_claim.declared.Found.{Found}
 use Rattle.hwp_cpu_row.specs.hwp_cpu_check.declared.EventOutcome.{EventOutcome}
 use Rattle.hwp_cpu_row.specs.hwp_cpu_check.Checks.{AreChecks, Check, IsActedOn, IsCheck}
 use Rattle.hwp_cpu_row.specs.hwp_cpu_check.Fits.{IsEntered}

@@ -42,7 +42,7 @@ use Rattle.hwp_law.specs.hwp_report_text.declared.OfflineResult.{OfflineResult}
 use Rattle.hwp_law.specs.hwp_report_text.declared.OfflineResult.TheVariants as results
 use Rattle.hwp_law.specs.hwp_banks.Banks.{Banks}
 use Rattle.hwp_law.specs.Commands.{Access, access_of}
-use Rattle.hwp_soft.specs.hwp_claim.declared.Found.{Found}
+use Rattle.hwp_cpu_row.specs.hwp_claim.declared.Found.{Found}
 use Rattle.hwp_cpu_row.specs.declared.FrameChange.{FrameChange}
 use Rattle.hwp_cpu_row.specs.declared.Offlining.{Offlining}
 use Rattle.hwp_cpu_row.specs.declared.Row.{Row}

@@ -7,7 +7,7 @@ use Rattle.hwp_law.specs.hwp_geom.Pairs.{Pairs}
 use Rattle.hwp_plain.specs.hwp_core_rule.declared.Mark.{Mark}
 use Rattle.hwp_plain.specs.hwp_core_rule.declared.View.{View}
 use Rattle.hwp_plain.proofs.of_hwp_core_rule.Lists.{map-was}
-use Rattle.hwp_soft.specs.hwp_claim_frame.Done.{Marking, marking_of}
+use Rattle.hwp_cpu_row.specs.hwp_claim_frame.Done.{Marking, marking_of}
 use Rattle.hwp_law_served.specs.Accounts.{is_same, markings}
 use Rattle.hwp_law_served.proofs.Seen.{filter-is}
 

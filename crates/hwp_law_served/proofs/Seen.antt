@@ -24,9 +24,9 @@ use Rattle.hwp_plain.specs.hwp_core_rule.declared.View.{View}
 use Rattle.hwp_plain.proofs.of_hwp_core_rule.Lists.{at_last, at_longer}
 use Rattle.hwp_plain.specs.hwp_core_rule.Known.{HasMade, SawLog, deeds, is_by}
 use Rattle.hwp_plain.specs.hwp_core_rule.Pages.{SawState}
-use Rattle.hwp_soft.specs.hwp_claim_act.declared.Failed.{Failed}
-use Rattle.hwp_soft.specs.hwp_claim_act.Abandoned.{failed_in, failed_of}
-use Rattle.hwp_soft.specs.hwp_claim_act.Abandons.{signals_now}
+use Rattle.hwp_cpu_row.specs.hwp_claim_act.declared.Failed.{Failed}
+use Rattle.hwp_cpu_row.specs.hwp_claim_act.Abandoned.{failed_in, failed_of}
+use Rattle.hwp_cpu_row.specs.hwp_claim_act.Abandons.{signals_now}
 use Rattle.hwp_law.specs.hwp_script_read.declared.Command.{Command}
 use Rattle.hwp_law.specs.hwp_script_read.declared.Command.TheVariants as commands
 use Rattle.hwp_law.specs.hwp_report_text.declared.Answer.{Answer}
@@ -35,11 +35,11 @@ use Rattle.hwp_law.specs.Outcomes.{reply_answer}
 use Rattle.hwp_law.specs.Commands.{Access, access_of, current_thread}
 use Rattle.hwp_law.specs.Settings.{arguments, last_policy, settings}
 use Rattle.hwp_law.specs.States.{place_named, state_named}
-use Rattle.hwp_soft.specs.hwp_claim.declared.Found.{Found}
+use Rattle.hwp_cpu_row.specs.hwp_claim.declared.Found.{Found}
 use Rattle.hwp_cpu_row.specs.declared.FrameChange.{FrameChange}
 use Rattle.hwp_cpu_row.specs.declared.Row.{Row}
 use Rattle.hwp_cpu_row.specs.hwp_cpu_check.declared.EventOutcome.{EventOutcome}
-use Rattle.hwp_soft.specs.hwp_claim.Done.{entered_by}
+use Rattle.hwp_cpu_row.specs.hwp_claim.Done.{entered_by}
 use Rattle.hwp_cpu_row.specs.hwp_cpu_check.Done.{failed_by}
 use Rattle.hwp_cpu_row.specs.hwp_cpu_check.Done as done
 use Rattle.hwp_cpu_row.specs.hwp_cpu_check.Told.{first_signal, required_by, signal_of}

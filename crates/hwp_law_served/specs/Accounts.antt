@@ -14,9 +14,9 @@ use Rattle.hwp_plain.specs.hwp_core_rule.declared.MarkKind.TheVariants as mark_k
 use Rattle.hwp_plain.specs.hwp_core_rule.declared.Setting.{Setting}
 use Rattle.hwp_plain.specs.hwp_core_rule.declared.View.{View}
 use Rattle.hwp_plain.specs.hwp_core_rule.Known.{deeds}
-use Rattle.hwp_soft.specs.hwp_claim_act.declared.Failed.{Failed}
-use Rattle.hwp_soft.specs.hwp_claim_act.Abandoned as abandoned
-use Rattle.hwp_soft.specs.hwp_claim_frame.Done.{Marking, marking_of, poisoning}
+use Rattle.hwp_cpu_row.specs.hwp_claim_act.declared.Failed.{Failed}
+use Rattle.hwp_cpu_row.specs.hwp_claim_act.Abandoned as abandoned
+use Rattle.hwp_cpu_row.specs.hwp_claim_frame.Done.{Marking, marking_of, poisoning}
 use Rattle.hwp_law.specs.hwp_script_read.declared.Command.{Command}
 use Rattle.hwp_law.specs.hwp_script_read.declared.Command.TheVariants as commands
 use Rattle.hwp_law.specs.hwp_report_text.declared.Answer.{Answer}
@@ -30,7 +30,7 @@ use Rattle.hwp_law.specs.Settings.{arguments, last_policy, settings}
 use Rattle.hwp_cpu_control.specs.Forks.{threads_of}
 use Rattle.hwp_law.specs.Outcomes.{outcome_answer}
 use Rattle.hwp_law.specs.Records.{is_moved}
-use Rattle.hwp_soft.specs.hwp_claim.declared.Found.{Found}
+use Rattle.hwp_cpu_row.specs.hwp_claim.declared.Found.{Found}
 use Rattle.hwp_cpu_row.specs.declared.FrameChange.{FrameChange}
 use Rattle.hwp_cpu_row.specs.declared.FrameChange.TheVariants as owns
 use Rattle.hwp_cpu_row.specs.declared.Row.{Row}

@@ -42,8 +42,8 @@ use Rattle.hwp_law.specs.Commands.{Access, access_of, can_fail, process_of_threa
 use Rattle.hwp_law.specs.Settings.{arguments, last_policy, settings}
 use Rattle.hwp_law.specs.Pairings.{is_soft}
 use Rattle.hwp_law_served.specs.Shown.{IsRevivable}
-use Rattle.hwp_soft.specs.hwp_claim.declared.Found.{Found}
-use Rattle.hwp_soft.specs.hwp_claim_frame.Grabs.{WasFree}
+use Rattle.hwp_cpu_row.specs.hwp_claim.declared.Found.{Found}
+use Rattle.hwp_cpu_row.specs.hwp_claim_frame.Grabs.{WasFree}
 use Rattle.hwp_soft.specs.hwp_soft_move.Seizes.{IsUsers, SawKernel}
 use Rattle.hwp_cpu_row.specs.declared.FrameChange.{FrameChange}
 use Rattle.hwp_cpu_row.specs.declared.FrameChange.TheVariants as owns

@@ -15,9 +15,9 @@ pub mod Served
 pub mod Runs
 pub mod Owed
 pub use Rattle.hwp_law.specs.hwp_banks as hwp_banks
-pub use Rattle.hwp_soft.specs.hwp_claim as hwp_claim
-pub use Rattle.hwp_soft.specs.hwp_claim_act as hwp_claim_act
-pub use Rattle.hwp_soft.specs.hwp_claim_frame as hwp_claim_frame
+pub use Rattle.hwp_cpu_row.specs.hwp_claim as hwp_claim
+pub use Rattle.hwp_cpu_row.specs.hwp_claim_act as hwp_claim_act
+pub use Rattle.hwp_cpu_row.specs.hwp_claim_frame as hwp_claim_frame
 pub use Rattle.hwp_plain.specs.hwp_core_rule as hwp_core_rule
 pub use Rattle.hwp_cpu_access.specs as hwp_cpu_access
 pub use Rattle.hwp_cpu_row.specs.hwp_cpu_check as hwp_cpu_check

@@ -19,8 +19,8 @@ use Rattle.hwp_law.specs.hwp_report_text.declared.OfflineResult.TheVariants as r
 use Rattle.hwp_law.specs.Watched.{Watched, due, watched_after}
 use Rattle.hwp_law.specs.Pairings.{is_soft}
 use Rattle.hwp_soft.specs.Offline.{SawLines}
-use Rattle.hwp_soft.specs.hwp_claim_frame.Claims.{SawPoison}
-use Rattle.hwp_soft.specs.hwp_claim_frame.Grabs.{WasFree}
+use Rattle.hwp_cpu_row.specs.hwp_claim_frame.Claims.{SawPoison}
+use Rattle.hwp_cpu_row.specs.hwp_claim_frame.Grabs.{WasFree}
 use Rattle.hwp_soft.specs.hwp_soft_move.Seizes.{IsUsers}
 use Rattle.hwp_cpu_row.specs.declared.FrameChange.{FrameChange}
 use Rattle.hwp_cpu_row.specs.declared.FrameChange.TheVariants as owns

@@ -14,7 +14,7 @@ use Rattle.hwp_law.specs.hwp_report_text.declared.How.TheVariants as hows
 use Rattle.hwp_law.specs.hwp_report_text.declared.MarkLine.{MarkLine}
 use Rattle.hwp_law.specs.hwp_report_text.declared.MarkLine.TheVariants as marks
 use Rattle.hwp_law.specs.hwp_report_text.declared.OfflinedLine.{OfflinedLine}
-use Rattle.hwp_soft.specs.hwp_claim.declared.Found.{Found}
+use Rattle.hwp_cpu_row.specs.hwp_claim.declared.Found.{Found}
 use Rattle.hwp_cpu_row.specs.declared.FrameChange.{FrameChange}
 use Rattle.hwp_cpu_row.specs.declared.FrameChange.TheVariants as owns
 use Rattle.hwp_cpu_row.specs.declared.Offlining.{Offlining}

@@ -11,4 +11,3 @@ pub mod SoftTells
 pub mod UnpoisonLaws
 pub mod UnpoisonCosts
 pub mod UnpoisonAdds
-pub use Rattle.hwp_claim.proofs as of_hwp_claim

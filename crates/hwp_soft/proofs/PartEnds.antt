@@ -1,11 +1,11 @@
 -- What follows where a part of the command was settled: another frame taken, and the page moved.
 use Rattle.std.proofs.Common.{◌≡◌, ℕ, Bool, true, false, cond, Some, is_none}
-use Rattle.hwp_core.specs.hwp_geom.declared.Frame.{Frame}
-use Rattle.hwp_core.specs.hwp_geom.declared.Page.{Page}
-use Rattle.hwp_core.specs.hwp_geom.declared.Who.{Who}
-use Rattle.hwp_core.specs.hwp_page.History.{BodyValue}
-use Rattle.hwp_core.specs.hwp_core_rule.declared.Turn.{Turn}
-use Rattle.hwp_core.specs.hwp_core_rule.declared.Turn.TheVariants.{Answered}
+use Rattle.hwp_claim_frame.specs.hwp_geom.declared.Frame.{Frame}
+use Rattle.hwp_claim_frame.specs.hwp_geom.declared.Page.{Page}
+use Rattle.hwp_claim_frame.specs.hwp_geom.declared.Who.{Who}
+use Rattle.hwp_claim_frame.specs.hwp_page.History.{BodyValue}
+use Rattle.hwp_claim_frame.specs.hwp_core_rule.declared.Turn.{Turn}
+use Rattle.hwp_claim_frame.specs.hwp_core_rule.declared.Turn.TheVariants.{Answered}
 use Rattle.hwp_fault_fill.specs.declared.take.Take.{Take}
 use Rattle.hwp_fault_fill.specs.declared.take.TakeAnswer.{TakeAnswer}
 use Rattle.hwp_fault_fill.specs.Takes as takes

@@ -3,39 +3,39 @@ use Rattle.std.proofs.Common.{◌≡◌, ◌⊎◌, inl, inr, ℕ, ◌+◌, ◌<
 use Rattle.std.proofs.lemmas.Bool.{eqb-false, eqb-true}
 use Rattle.std.proofs.lemmas.List.{drop-append-le, length-append}
 use Rattle.std.proofs.lemmas.Option.{none-some, same_Some}
-use Rattle.hwp_core.specs.hwp_geom.declared.Frame.{Frame}
-use Rattle.hwp_core.specs.hwp_geom.declared.Layout.{Layout}
-use Rattle.hwp_core.specs.hwp_geom.declared.Page.{Page}
-use Rattle.hwp_core.specs.hwp_geom.declared.Who.{Who}
-use Rattle.hwp_core.specs.hwp_page.declared.PageState.{PageState}
-use Rattle.hwp_core.specs.hwp_page.History.{BodyValue}
-use Rattle.hwp_core.specs.hwp_words.Stops.{is_stopped}
-use Rattle.hwp_core.specs.hwp_core_rule.declared.FrameLock.{FrameLock}
-use Rattle.hwp_core.specs.hwp_core_rule.declared.Made.{Made}
-use Rattle.hwp_core.specs.hwp_core_rule.declared.SharedWord.TheVariants as places
-use Rattle.hwp_core.specs.hwp_core_rule.declared.Sight.{Sight}
-use Rattle.hwp_core.specs.hwp_core_rule.declared.Step.{Step}
-use Rattle.hwp_core.specs.hwp_core_rule.declared.Step.TheVariants as steps
-use Rattle.hwp_core.specs.hwp_core_rule.declared.View.{View}
-use Rattle.hwp_core.specs.hwp_core_rule.Lists.{SomeMember}
-use Rattle.hwp_core.specs.hwp_core_rule.Logs.{log_of}
-use Rattle.hwp_core.specs.hwp_core_rule.Views.{noted, stamp_of}
-use Rattle.hwp_core.specs.hwp_core_rule.parts.Entries.{Shows}
-use Rattle.hwp_core.proofs.of_hwp_core_rule.Lists.{some-last}
-use Rattle.hwp_core.specs.hwp_core_rule.Calls.{IsOnTurn, Steps, logs}
-use Rattle.hwp_core.specs.hwp_core_rule.Hands.{Hand, empty, hand_of}
-use Rattle.hwp_core.proofs.of_hwp_core_rule.tasks.StepLeaves.{hand-planned}
-use Rattle.hwp_core.specs.hwp_core_rule.Known.{HasMadeNoneBeside, is_by}
-use Rattle.hwp_core.proofs.of_hwp_core_rule.tasks.MadeEntries.{deeds-same, made-kept}
-use Rattle.hwp_core.proofs.of_hwp_core_rule.tasks.SightKeeps.{saw-bad-of-load, saw-load}
-use Rattle.hwp_core.specs.Holds.{HoldsPage, held}
-use Rattle.hwp_core.specs.Unlocks as unlocks
-use Rattle.hwp_core.proofs.GiveUpLaws.{page-given-up}
-use Rattle.hwp_core.proofs.HoldEnds.{held-unholds}
-use Rattle.hwp_core.proofs.PageStates.{is-cached, state-is}
-use Rattle.hwp_claim.specs.hwp_claim_frame.Meets.{HoldsMet}
-use Rattle.hwp_claim.proofs.of_hwp_claim_frame.ViewKeeps.{Account, OnlyHolds, grab-only, kept, meet-only, planned, unlock-only}
-use Rattle.hwp_claim.proofs.of_hwp_claim_frame.FrameUnlocks.{one-taken}
+use Rattle.hwp_claim_frame.specs.hwp_geom.declared.Frame.{Frame}
+use Rattle.hwp_claim_frame.specs.hwp_geom.declared.Layout.{Layout}
+use Rattle.hwp_claim_frame.specs.hwp_geom.declared.Page.{Page}
+use Rattle.hwp_claim_frame.specs.hwp_geom.declared.Who.{Who}
+use Rattle.hwp_claim_frame.specs.hwp_page.declared.PageState.{PageState}
+use Rattle.hwp_claim_frame.specs.hwp_page.History.{BodyValue}
+use Rattle.hwp_claim_frame.specs.hwp_words.Stops.{is_stopped}
+use Rattle.hwp_claim_frame.specs.hwp_core_rule.declared.FrameLock.{FrameLock}
+use Rattle.hwp_claim_frame.specs.hwp_core_rule.declared.Made.{Made}
+use Rattle.hwp_claim_frame.specs.hwp_core_rule.declared.SharedWord.TheVariants as places
+use Rattle.hwp_claim_frame.specs.hwp_core_rule.declared.Sight.{Sight}
+use Rattle.hwp_claim_frame.specs.hwp_core_rule.declared.Step.{Step}
+use Rattle.hwp_claim_frame.specs.hwp_core_rule.declared.Step.TheVariants as steps
+use Rattle.hwp_claim_frame.specs.hwp_core_rule.declared.View.{View}
+use Rattle.hwp_claim_frame.specs.hwp_core_rule.Lists.{SomeMember}
+use Rattle.hwp_claim_frame.specs.hwp_core_rule.Logs.{log_of}
+use Rattle.hwp_claim_frame.specs.hwp_core_rule.Views.{noted, stamp_of}
+use Rattle.hwp_claim_frame.specs.hwp_core_rule.parts.Entries.{Shows}
+use Rattle.hwp_claim_frame.proofs.of_hwp_core_rule.Lists.{some-last}
+use Rattle.hwp_claim_frame.specs.hwp_core_rule.Calls.{IsOnTurn, Steps, logs}
+use Rattle.hwp_claim_frame.specs.hwp_core_rule.Hands.{Hand, empty, hand_of}
+use Rattle.hwp_claim_frame.proofs.of_hwp_core_rule.tasks.StepLeaves.{hand-planned}
+use Rattle.hwp_claim_frame.specs.hwp_core_rule.Known.{HasMadeNoneBeside, is_by}
+use Rattle.hwp_claim_frame.proofs.of_hwp_core_rule.tasks.MadeEntries.{deeds-same, made-kept}
+use Rattle.hwp_claim_frame.proofs.of_hwp_core_rule.tasks.SightKeeps.{saw-bad-of-load, saw-load}
+use Rattle.hwp_claim_frame.specs.hwp_core.Holds.{HoldsPage, held}
+use Rattle.hwp_claim_frame.specs.hwp_core.Unlocks as unlocks
+use Rattle.hwp_claim_frame.proofs.of_hwp_core.GiveUpLaws.{page-given-up}
+use Rattle.hwp_claim_frame.proofs.of_hwp_core.HoldEnds.{held-unholds}
+use Rattle.hwp_claim_frame.proofs.of_hwp_core.PageStates.{is-cached, state-is}
+use Rattle.hwp_claim_frame.specs.Meets.{HoldsMet}
+use Rattle.hwp_claim_frame.proofs.ViewKeeps.{Account, OnlyHolds, grab-only, kept, meet-only, planned, unlock-only}
+use Rattle.hwp_claim_frame.proofs.FrameUnlocks.{one-taken}
 use Rattle.hwp_soft_move.specs.declared.discard.Discard.{Discard}
 use Rattle.hwp_soft_move.specs.declared.discard.DiscardAt.{DiscardAt}
 use Rattle.hwp_soft_move.specs.declared.discard.DiscardAt.TheVariants as discard_at

@@ -1,25 +1,25 @@
 -- The laws of `Soft`: its steps can be made.
 use Rattle.std.proofs.Common.{◌≡◌, Some, None, refl, ap, subst, arith, List}
 use Rattle.std.proofs.lemmas.Option.{none-some}
-use Rattle.hwp_core.specs.hwp_geom.declared.Frame.{Frame}
-use Rattle.hwp_core.specs.hwp_geom.declared.Layout.{Layout}
-use Rattle.hwp_core.specs.hwp_geom.declared.Page.{Page}
-use Rattle.hwp_core.specs.hwp_geom.declared.Who.{Who}
-use Rattle.hwp_core.specs.hwp_page.History.{BodyValue}
-use Rattle.hwp_core.specs.hwp_core_rule.declared.Made.{Made}
-use Rattle.hwp_core.specs.hwp_core_rule.declared.Step.{Step}
-use Rattle.hwp_core.specs.hwp_core_rule.declared.View.{View}
-use Rattle.hwp_core.specs.hwp_core_rule.Asks.{CanUnlockFrame}
-use Rattle.hwp_core.specs.hwp_core_rule.Calls.{CanMake}
-use Rattle.hwp_core.specs.hwp_core_rule.Hands.{Hand}
-use Rattle.hwp_core.proofs.of_hwp_core_rule.tasks.StepLeaves.{can-make}
-use Rattle.hwp_core.specs.Releases.{new_lock}
-use Rattle.hwp_core.specs.GiveUps as give_ups
-use Rattle.hwp_core.specs.Unholds as unholds
-use Rattle.hwp_core.proofs.GiveUpLaws as giving_up
-use Rattle.hwp_core.proofs.ReleaseLaws as releasing_laws
+use Rattle.hwp_claim_frame.specs.hwp_geom.declared.Frame.{Frame}
+use Rattle.hwp_claim_frame.specs.hwp_geom.declared.Layout.{Layout}
+use Rattle.hwp_claim_frame.specs.hwp_geom.declared.Page.{Page}
+use Rattle.hwp_claim_frame.specs.hwp_geom.declared.Who.{Who}
+use Rattle.hwp_claim_frame.specs.hwp_page.History.{BodyValue}
+use Rattle.hwp_claim_frame.specs.hwp_core_rule.declared.Made.{Made}
+use Rattle.hwp_claim_frame.specs.hwp_core_rule.declared.Step.{Step}
+use Rattle.hwp_claim_frame.specs.hwp_core_rule.declared.View.{View}
+use Rattle.hwp_claim_frame.specs.hwp_core_rule.Asks.{CanUnlockFrame}
+use Rattle.hwp_claim_frame.specs.hwp_core_rule.Calls.{CanMake}
+use Rattle.hwp_claim_frame.specs.hwp_core_rule.Hands.{Hand}
+use Rattle.hwp_claim_frame.proofs.of_hwp_core_rule.tasks.StepLeaves.{can-make}
+use Rattle.hwp_claim_frame.specs.hwp_core.Releases.{new_lock}
+use Rattle.hwp_claim_frame.specs.hwp_core.GiveUps as give_ups
+use Rattle.hwp_claim_frame.specs.hwp_core.Unholds as unholds
+use Rattle.hwp_claim_frame.proofs.of_hwp_core.GiveUpLaws as giving_up
+use Rattle.hwp_claim_frame.proofs.of_hwp_core.ReleaseLaws as releasing_laws
 use Rattle.hwp_fault_fill.proofs.TakeLaws as taking
-use Rattle.hwp_core.proofs.UnholdLaws as unholding
+use Rattle.hwp_claim_frame.proofs.of_hwp_core.UnholdLaws as unholding
 use Rattle.hwp_soft.specs.declared.soft.Soft.{Soft}
 use Rattle.hwp_soft.specs.declared.soft.SoftAt.{SoftAt}
 use Rattle.hwp_soft.specs.declared.soft.SoftAt.TheVariants as at

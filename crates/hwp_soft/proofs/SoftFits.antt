@@ -1,43 +1,43 @@
 -- The laws of `Soft`: what follows a step fits again.
 use Rattle.std.proofs.Common.{◌≡◌, ℕ, Bool, true, false, cond, Option, Some, None, filter, is_none, refl, sym, ap, ◌∙◌, subst, List}
 use Rattle.std.proofs.lemmas.Option.{none-some}
-use Rattle.hwp_core.specs.hwp_geom.declared.Frame.{Frame}
-use Rattle.hwp_core.specs.hwp_geom.declared.Layout.{Layout}
-use Rattle.hwp_core.specs.hwp_geom.declared.Who.{Who}
-use Rattle.hwp_core.specs.hwp_page.History.{BodyValue}
-use Rattle.hwp_core.specs.hwp_core_rule.declared.Made.{Made}
-use Rattle.hwp_core.specs.hwp_core_rule.declared.Step.{Step}
-use Rattle.hwp_core.specs.hwp_core_rule.declared.View.{View}
-use Rattle.hwp_core.specs.hwp_core_rule.declared.Turn.{Turn}
-use Rattle.hwp_core.specs.hwp_core_rule.Calls.{IsOnTurn, Steps, logs}
-use Rattle.hwp_core.specs.hwp_core_rule.Hands.{empty, hand_of}
-use Rattle.hwp_core.proofs.of_hwp_core_rule.tasks.StepLeaves.{hand-planned, on-turn-after, steps-planned}
-use Rattle.hwp_core.specs.hwp_core_rule.Known.{HasMadeNoneBeside, is_by}
-use Rattle.hwp_core.specs.hwp_core_rule.Turns.{IsTask}
-use Rattle.hwp_core.proofs.of_hwp_core_rule.tasks.MadeEntries.{deeds-same, has-made-stays}
-use Rattle.hwp_core.proofs.of_hwp_core_rule.tasks.SightKeeps.{saw-adopted-stays, saw-bad-of-stays, saw-stays}
-use Rattle.hwp_core.specs.declared.give_up.GiveUp.{GiveUp}
-use Rattle.hwp_core.specs.declared.give_up.GiveUpAt.{GiveUpAt}
-use Rattle.hwp_core.specs.declared.give_up.GiveUpAt.TheVariants as give_up_at
-use Rattle.hwp_core.specs.declared.release.Release.{Release}
-use Rattle.hwp_core.specs.declared.release.ReleaseAt.{ReleaseAt}
-use Rattle.hwp_core.specs.declared.release.ReleaseAt.TheVariants as release_at
-use Rattle.hwp_core.specs.declared.unhold.Unhold.{Unhold}
-use Rattle.hwp_core.specs.declared.unhold.UnholdAt.{UnholdAt}
-use Rattle.hwp_core.specs.declared.unhold.UnholdAt.TheVariants as unhold_at
-use Rattle.hwp_core.specs.declared.unlock.Unlock.{Unlock}
-use Rattle.hwp_core.specs.GiveUps as give_ups
-use Rattle.hwp_core.specs.Releases as releases
-use Rattle.hwp_core.specs.Unholds as unholds
-use Rattle.hwp_core.specs.Unlocks as unlocks
-use Rattle.hwp_core.proofs.GiveUpLaws as giving_up
-use Rattle.hwp_core.proofs.HoldEnds.{nothing-left}
-use Rattle.hwp_core.proofs.UnholdLaws as unholding
-use Rattle.hwp_claim.specs.hwp_claim_frame.Claims.{HasMarked, SawPoison}
-use Rattle.hwp_claim.specs.hwp_claim_frame.Grabs.{WasFree}
-use Rattle.hwp_claim.specs.hwp_claim_frame.Meets.{AsTaken}
-use Rattle.hwp_claim.proofs.of_hwp_claim_frame.ClaimLaws.{mark-stays}
-use Rattle.hwp_claim.proofs.of_hwp_claim_frame.ViewKeeps.{Account, OnlyHolds, account_of, kept, planned, release-only}
+use Rattle.hwp_claim_frame.specs.hwp_geom.declared.Frame.{Frame}
+use Rattle.hwp_claim_frame.specs.hwp_geom.declared.Layout.{Layout}
+use Rattle.hwp_claim_frame.specs.hwp_geom.declared.Who.{Who}
+use Rattle.hwp_claim_frame.specs.hwp_page.History.{BodyValue}
+use Rattle.hwp_claim_frame.specs.hwp_core_rule.declared.Made.{Made}
+use Rattle.hwp_claim_frame.specs.hwp_core_rule.declared.Step.{Step}
+use Rattle.hwp_claim_frame.specs.hwp_core_rule.declared.View.{View}
+use Rattle.hwp_claim_frame.specs.hwp_core_rule.declared.Turn.{Turn}
+use Rattle.hwp_claim_frame.specs.hwp_core_rule.Calls.{IsOnTurn, Steps, logs}
+use Rattle.hwp_claim_frame.specs.hwp_core_rule.Hands.{empty, hand_of}
+use Rattle.hwp_claim_frame.proofs.of_hwp_core_rule.tasks.StepLeaves.{hand-planned, on-turn-after, steps-planned}
+use Rattle.hwp_claim_frame.specs.hwp_core_rule.Known.{HasMadeNoneBeside, is_by}
+use Rattle.hwp_claim_frame.specs.hwp_core_rule.Turns.{IsTask}
+use Rattle.hwp_claim_frame.proofs.of_hwp_core_rule.tasks.MadeEntries.{deeds-same, has-made-stays}
+use Rattle.hwp_claim_frame.proofs.of_hwp_core_rule.tasks.SightKeeps.{saw-adopted-stays, saw-bad-of-stays, saw-stays}
+use Rattle.hwp_claim_frame.specs.hwp_core.declared.give_up.GiveUp.{GiveUp}
+use Rattle.hwp_claim_frame.specs.hwp_core.declared.give_up.GiveUpAt.{GiveUpAt}
+use Rattle.hwp_claim_frame.specs.hwp_core.declared.give_up.GiveUpAt.TheVariants as give_up_at
+use Rattle.hwp_claim_frame.specs.hwp_core.declared.release.Release.{Release}
+use Rattle.hwp_claim_frame.specs.hwp_core.declared.release.ReleaseAt.{ReleaseAt}
+use Rattle.hwp_claim_frame.specs.hwp_core.declared.release.ReleaseAt.TheVariants as release_at
+use Rattle.hwp_claim_frame.specs.hwp_core.declared.unhold.Unhold.{Unhold}
+use Rattle.hwp_claim_frame.specs.hwp_core.declared.unhold.UnholdAt.{UnholdAt}
+use Rattle.hwp_claim_frame.specs.hwp_core.declared.unhold.UnholdAt.TheVariants as unhold_at
+use Rattle.hwp_claim_frame.specs.hwp_core.declared.unlock.Unlock.{Unlock}
+use Rattle.hwp_claim_frame.specs.hwp_core.GiveUps as give_ups
+use Rattle.hwp_claim_frame.specs.hwp_core.Releases as releases
+use Rattle.hwp_claim_frame.specs.hwp_core.Unholds as unholds
+use Rattle.hwp_claim_frame.specs.hwp_core.Unlocks as unlocks
+use Rattle.hwp_claim_frame.proofs.of_hwp_core.GiveUpLaws as giving_up
+use Rattle.hwp_claim_frame.proofs.of_hwp_core.HoldEnds.{nothing-left}
+use Rattle.hwp_claim_frame.proofs.of_hwp_core.UnholdLaws as unholding
+use Rattle.hwp_claim_frame.specs.Claims.{HasMarked, SawPoison}
+use Rattle.hwp_claim_frame.specs.Grabs.{WasFree}
+use Rattle.hwp_claim_frame.specs.Meets.{AsTaken}
+use Rattle.hwp_claim_frame.proofs.ClaimLaws.{mark-stays}
+use Rattle.hwp_claim_frame.proofs.ViewKeeps.{Account, OnlyHolds, account_of, kept, planned, release-only}
 use Rattle.hwp_soft_move.specs.declared.relocate.Relocate.{Relocate}
 use Rattle.hwp_soft_move.specs.declared.relocate.Transfer.{Transfer}
 use Rattle.hwp_soft_move.specs.Discards as discards

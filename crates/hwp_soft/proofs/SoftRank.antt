@@ -2,62 +2,62 @@
 use Rattle.std.proofs.Common.{◌≡◌, ◌≢◌, ◌⊎◌, inl, inr, ℕ, ◌+◌, ◌<◌, ◌≤◌, ◌==◌, Bool, true, false, cond, Option, Some, None, MatchBool, is_none, length, slice_get, refl, sym, ap, ◌∙◌, subst, arith}
 use Rattle.std.proofs.lemmas.Bool.{both_ways}
 use Rattle.std.proofs.lemmas.Option.{none-some, same_Some}
-use Rattle.hwp_core.specs.hwp_geom.declared.Frame.{Frame}
-use Rattle.hwp_core.specs.hwp_geom.declared.Layout.{Layout}
-use Rattle.hwp_core.specs.hwp_geom.declared.Page.{Page}
-use Rattle.hwp_core.specs.hwp_geom.declared.VSlot.{VSlot}
-use Rattle.hwp_core.specs.hwp_geom.declared.Who.{Who}
-use Rattle.hwp_core.specs.hwp_page.declared.At.{At}
-use Rattle.hwp_core.specs.hwp_page.History.{BodyValue}
-use Rattle.hwp_core.specs.hwp_words.Frames.{cycle_of, is_poisoned}
-use Rattle.hwp_core.specs.hwp_words.Stops.{is_stopped}
-use Rattle.hwp_core.specs.hwp_core_rule.declared.State.{State}
-use Rattle.hwp_core.specs.hwp_core_rule.declared.Step.{Step}
-use Rattle.hwp_core.specs.hwp_core_rule.declared.Step.TheVariants as steps
-use Rattle.hwp_core.specs.hwp_core_rule.Moves.{Move}
-use Rattle.hwp_core.specs.hwp_core_rule.Rule.{Holds}
-use Rattle.hwp_core.specs.hwp_core_rule.Lasting.{IsMild}
-use Rattle.hwp_core.specs.hwp_core_rule.Words.{Words, free_words}
-use Rattle.hwp_core.specs.hwp_core_rule.declared.Turn.{Turn}
-use Rattle.hwp_core.specs.hwp_core_rule.declared.Turn.TheVariants.{Moved}
-use Rattle.hwp_core.specs.hwp_core_rule.Boards.{view_of}
-use Rattle.hwp_core.specs.hwp_core_rule.Calls.{logs, rec_of}
-use Rattle.hwp_core.specs.hwp_core_rule.Hands.{Hand}
-use Rattle.hwp_core.specs.hwp_core_rule.Ranks.{IsRanked, Made, OtherHand, Pending, Quiet, failures_left, is_waits, words_at, free_room, take_most}
-use Rattle.hwp_core.proofs.of_hwp_core_rule.tasks.StepRanks.{failed, met, pending-kept, retire-fails, steps-on, words-after, words-kept}
-use Rattle.hwp_core.specs.declared.refer.Refer.{Refer}
-use Rattle.hwp_core.specs.declared.refer.ReferAt.{ReferAt}
-use Rattle.hwp_core.specs.declared.refer.ReferAt.TheVariants as refer_at
-use Rattle.hwp_core.specs.declared.release.Release.{Release}
-use Rattle.hwp_core.specs.declared.release.ReleaseAt.{ReleaseAt}
-use Rattle.hwp_core.specs.declared.release.ReleaseAt.TheVariants as release_at
+use Rattle.hwp_claim_frame.specs.hwp_geom.declared.Frame.{Frame}
+use Rattle.hwp_claim_frame.specs.hwp_geom.declared.Layout.{Layout}
+use Rattle.hwp_claim_frame.specs.hwp_geom.declared.Page.{Page}
+use Rattle.hwp_claim_frame.specs.hwp_geom.declared.VSlot.{VSlot}
+use Rattle.hwp_claim_frame.specs.hwp_geom.declared.Who.{Who}
+use Rattle.hwp_claim_frame.specs.hwp_page.declared.At.{At}
+use Rattle.hwp_claim_frame.specs.hwp_page.History.{BodyValue}
+use Rattle.hwp_claim_frame.specs.hwp_words.Frames.{cycle_of, is_poisoned}
+use Rattle.hwp_claim_frame.specs.hwp_words.Stops.{is_stopped}
+use Rattle.hwp_claim_frame.specs.hwp_core_rule.declared.State.{State}
+use Rattle.hwp_claim_frame.specs.hwp_core_rule.declared.Step.{Step}
+use Rattle.hwp_claim_frame.specs.hwp_core_rule.declared.Step.TheVariants as steps
+use Rattle.hwp_claim_frame.specs.hwp_core_rule.Moves.{Move}
+use Rattle.hwp_claim_frame.specs.hwp_core_rule.Rule.{Holds}
+use Rattle.hwp_claim_frame.specs.hwp_core_rule.Lasting.{IsMild}
+use Rattle.hwp_claim_frame.specs.hwp_core_rule.Words.{Words, free_words}
+use Rattle.hwp_claim_frame.specs.hwp_core_rule.declared.Turn.{Turn}
+use Rattle.hwp_claim_frame.specs.hwp_core_rule.declared.Turn.TheVariants.{Moved}
+use Rattle.hwp_claim_frame.specs.hwp_core_rule.Boards.{view_of}
+use Rattle.hwp_claim_frame.specs.hwp_core_rule.Calls.{logs, rec_of}
+use Rattle.hwp_claim_frame.specs.hwp_core_rule.Hands.{Hand}
+use Rattle.hwp_claim_frame.specs.hwp_core_rule.Ranks.{IsRanked, Made, OtherHand, Pending, Quiet, failures_left, is_waits, words_at, free_room, take_most}
+use Rattle.hwp_claim_frame.proofs.of_hwp_core_rule.tasks.StepRanks.{failed, met, pending-kept, retire-fails, steps-on, words-after, words-kept}
+use Rattle.hwp_claim_frame.specs.hwp_core.declared.refer.Refer.{Refer}
+use Rattle.hwp_claim_frame.specs.hwp_core.declared.refer.ReferAt.{ReferAt}
+use Rattle.hwp_claim_frame.specs.hwp_core.declared.refer.ReferAt.TheVariants as refer_at
+use Rattle.hwp_claim_frame.specs.hwp_core.declared.release.Release.{Release}
+use Rattle.hwp_claim_frame.specs.hwp_core.declared.release.ReleaseAt.{ReleaseAt}
+use Rattle.hwp_claim_frame.specs.hwp_core.declared.release.ReleaseAt.TheVariants as release_at
 use Rattle.hwp_fault_fill.specs.declared.take.Take.{Take}
 use Rattle.hwp_fault_fill.specs.declared.take.TakeAt.{TakeAt}
 use Rattle.hwp_fault_fill.specs.declared.take.TakeAt.TheVariants as take_at
-use Rattle.hwp_core.specs.declared.unhold.Unhold.{Unhold}
-use Rattle.hwp_core.specs.GiveUps as give_ups
-use Rattle.hwp_core.specs.Refers as refers
-use Rattle.hwp_core.specs.Releases as releases
+use Rattle.hwp_claim_frame.specs.hwp_core.declared.unhold.Unhold.{Unhold}
+use Rattle.hwp_claim_frame.specs.hwp_core.GiveUps as give_ups
+use Rattle.hwp_claim_frame.specs.hwp_core.Refers as refers
+use Rattle.hwp_claim_frame.specs.hwp_core.Releases as releases
 use Rattle.hwp_fault_fill.specs.Takes as takes
-use Rattle.hwp_core.specs.Unholds as unholds
-use Rattle.hwp_core.specs.hwp_geom.Limits.{frame_limit}
-use Rattle.hwp_core.proofs.GiveUpCosts.{give-up-falls, give-up-goes, give-up-mild, give-up-ranked, give-up-small}
-use Rattle.hwp_core.proofs.FreeWords.{frees-length}
+use Rattle.hwp_claim_frame.specs.hwp_core.Unholds as unholds
+use Rattle.hwp_claim_frame.specs.hwp_geom.Limits.{frame_limit}
+use Rattle.hwp_claim_frame.proofs.of_hwp_core.GiveUpCosts.{give-up-falls, give-up-goes, give-up-mild, give-up-ranked, give-up-small}
+use Rattle.hwp_claim_frame.proofs.of_hwp_core.FreeWords.{frees-length}
 use Rattle.hwp_fault_fill.proofs.StepWords.{is-met, words_then}
-use Rattle.hwp_core.proofs.TaskCosts.{release-falls, release-mild, release-small, unhold-class, unhold-falls, unhold-mild, unhold-small}
+use Rattle.hwp_claim_frame.proofs.of_hwp_core.TaskCosts.{release-falls, release-mild, release-small, unhold-class, unhold-falls, unhold-mild, unhold-small}
 use Rattle.hwp_fault_fill.proofs.TakeCosts as taking
-use Rattle.hwp_claim.specs.hwp_claim_frame.declared.grab.Grab.{Grab}
-use Rattle.hwp_claim.specs.hwp_claim_frame.declared.grab.GrabAnswer.{GrabAnswer}
-use Rattle.hwp_claim.specs.hwp_claim_frame.declared.grab.GrabAnswer.TheVariants as grab_answers
-use Rattle.hwp_claim.specs.hwp_claim_frame.declared.meet.Meet.{Meet}
-use Rattle.hwp_claim.specs.hwp_claim_frame.declared.meet.MeetAt.{MeetAt}
-use Rattle.hwp_claim.specs.hwp_claim_frame.declared.meet.MeetAt.TheVariants as meet_at
-use Rattle.hwp_claim.specs.hwp_claim_frame.declared.meet.MeetAnswer.{MeetAnswer}
-use Rattle.hwp_claim.specs.hwp_claim_frame.declared.meet.MeetAnswer.TheVariants as meet_answers
-use Rattle.hwp_claim.specs.hwp_claim_frame.Grabs as grabs
-use Rattle.hwp_claim.specs.hwp_claim_frame.Meets as meets
-use Rattle.hwp_claim.proofs.of_hwp_claim_frame.PoisonLaws.{poison-owns}
-use Rattle.hwp_claim.proofs.of_hwp_claim_frame.ClaimKeeps.{Keeps, drops-now, owned-by, retired}
+use Rattle.hwp_claim_frame.specs.declared.grab.Grab.{Grab}
+use Rattle.hwp_claim_frame.specs.declared.grab.GrabAnswer.{GrabAnswer}
+use Rattle.hwp_claim_frame.specs.declared.grab.GrabAnswer.TheVariants as grab_answers
+use Rattle.hwp_claim_frame.specs.declared.meet.Meet.{Meet}
+use Rattle.hwp_claim_frame.specs.declared.meet.MeetAt.{MeetAt}
+use Rattle.hwp_claim_frame.specs.declared.meet.MeetAt.TheVariants as meet_at
+use Rattle.hwp_claim_frame.specs.declared.meet.MeetAnswer.{MeetAnswer}
+use Rattle.hwp_claim_frame.specs.declared.meet.MeetAnswer.TheVariants as meet_answers
+use Rattle.hwp_claim_frame.specs.Grabs as grabs
+use Rattle.hwp_claim_frame.specs.Meets as meets
+use Rattle.hwp_claim_frame.proofs.PoisonLaws.{poison-owns}
+use Rattle.hwp_claim_frame.proofs.ClaimKeeps.{Keeps, drops-now, owned-by, retired}
 use Rattle.hwp_soft_move.specs.declared.discard.Discard.{Discard}
 use Rattle.hwp_soft_move.specs.declared.discard.DiscardAt.{DiscardAt}
 use Rattle.hwp_soft_move.specs.declared.discard.DiscardAt.TheVariants as discard_at

@@ -2,25 +2,25 @@
 use Rattle.std.proofs.Common.{◌≡◌, ◌≢◌, ℕ, ◌≤◌, Bool, true, false, Option, Some, None, is_none, refl, sym, ap, ◌∙◌, subst, arith, List}
 use Rattle.std.proofs.lemmas.Bool.{both_ways}
 use Rattle.std.proofs.lemmas.Option.{none-some, same_Some}
-use Rattle.hwp_core.specs.hwp_geom.declared.Frame.{Frame}
-use Rattle.hwp_core.specs.hwp_geom.declared.Layout.{Layout}
-use Rattle.hwp_core.specs.hwp_core_rule.declared.Made.{Made}
-use Rattle.hwp_core.specs.hwp_core_rule.declared.SharedWord.TheVariants as places
-use Rattle.hwp_core.specs.hwp_core_rule.declared.Step.{Step}
-use Rattle.hwp_core.specs.hwp_core_rule.declared.Step.TheVariants as steps
-use Rattle.hwp_core.specs.hwp_core_rule.declared.View.{View}
-use Rattle.hwp_core.specs.hwp_core_rule.Lasting.{LeavesPoison}
-use Rattle.hwp_core.specs.hwp_core_rule.Classes.{TellsClass}
-use Rattle.hwp_core.specs.hwp_core_rule.Hands.{empty, hand_of}
-use Rattle.hwp_core.proofs.of_hwp_core_rule.tasks.Failures.{mild-leaves}
-use Rattle.hwp_core.specs.declared.give_up.GiveUp.{GiveUp}
-use Rattle.hwp_core.specs.declared.give_up.GiveUpAt.{GiveUpAt}
-use Rattle.hwp_core.specs.declared.give_up.GiveUpAt.TheVariants as give_up_at
-use Rattle.hwp_core.specs.GiveUps as give_ups
-use Rattle.hwp_core.proofs.GiveUpCosts.{give-up-mild}
-use Rattle.hwp_core.proofs.TaskCosts.{release-mild, unhold-mild}
+use Rattle.hwp_claim_frame.specs.hwp_geom.declared.Frame.{Frame}
+use Rattle.hwp_claim_frame.specs.hwp_geom.declared.Layout.{Layout}
+use Rattle.hwp_claim_frame.specs.hwp_core_rule.declared.Made.{Made}
+use Rattle.hwp_claim_frame.specs.hwp_core_rule.declared.SharedWord.TheVariants as places
+use Rattle.hwp_claim_frame.specs.hwp_core_rule.declared.Step.{Step}
+use Rattle.hwp_claim_frame.specs.hwp_core_rule.declared.Step.TheVariants as steps
+use Rattle.hwp_claim_frame.specs.hwp_core_rule.declared.View.{View}
+use Rattle.hwp_claim_frame.specs.hwp_core_rule.Lasting.{LeavesPoison}
+use Rattle.hwp_claim_frame.specs.hwp_core_rule.Classes.{TellsClass}
+use Rattle.hwp_claim_frame.specs.hwp_core_rule.Hands.{empty, hand_of}
+use Rattle.hwp_claim_frame.proofs.of_hwp_core_rule.tasks.Failures.{mild-leaves}
+use Rattle.hwp_claim_frame.specs.hwp_core.declared.give_up.GiveUp.{GiveUp}
+use Rattle.hwp_claim_frame.specs.hwp_core.declared.give_up.GiveUpAt.{GiveUpAt}
+use Rattle.hwp_claim_frame.specs.hwp_core.declared.give_up.GiveUpAt.TheVariants as give_up_at
+use Rattle.hwp_claim_frame.specs.hwp_core.GiveUps as give_ups
+use Rattle.hwp_claim_frame.proofs.of_hwp_core.GiveUpCosts.{give-up-mild}
+use Rattle.hwp_claim_frame.proofs.of_hwp_core.TaskCosts.{release-mild, unhold-mild}
 use Rattle.hwp_fault_fill.proofs.TakeCosts as taking
-use Rattle.hwp_core.proofs.TaskTells.{Tells, empty-tells, frame-tells, give-up-tells, no-frame, no-page, unhold-tells}
+use Rattle.hwp_claim_frame.proofs.of_hwp_core.TaskTells.{Tells, empty-tells, frame-tells, give-up-tells, no-frame, no-page, unhold-tells}
 use Rattle.hwp_soft_move.specs.declared.discard.Discard.{Discard}
 use Rattle.hwp_soft_move.specs.declared.discard.DiscardAt.{DiscardAt}
 use Rattle.hwp_soft_move.specs.declared.discard.DiscardAt.TheVariants as discard_at

@@ -2,52 +2,52 @@
 use Rattle.std.proofs.Common.{◌≡◌, ◌≢◌, inl, inr, ℕ, ◌+◌, ◌-◌, ◌/◌, ◌<◌, ◌≤◌, ◌==◌, Bool, true, false, cond, List, [], ◌∷◌, ◌++◌, Option, Some, None, is_none, length, map, refl, sym, ap, ◌∙◌, subst, arith}
 use Rattle.std.proofs.lemmas.Bool.{both_ways}
 use Rattle.std.proofs.lemmas.Option.{none-some, same_Some}
-use Rattle.hwp_core.specs.hwp_geom.declared.Frame.{Frame}
-use Rattle.hwp_core.specs.hwp_geom.declared.Layout.{Layout}
-use Rattle.hwp_core.specs.hwp_geom.declared.Page.{Page}
-use Rattle.hwp_core.specs.hwp_geom.declared.Who.{Who}
-use Rattle.hwp_core.specs.hwp_page.History.{BodyValue}
-use Rattle.hwp_core.specs.hwp_words.Frames.{count_of, is_kernel, is_poisoned}
-use Rattle.hwp_core.specs.hwp_core_rule.declared.Made.{Made}
-use Rattle.hwp_core.specs.hwp_core_rule.declared.SharedWord.{SharedWord}
-use Rattle.hwp_core.specs.hwp_core_rule.declared.SharedWord.TheVariants as places
-use Rattle.hwp_core.specs.hwp_core_rule.declared.Ref.{Ref}
-use Rattle.hwp_core.specs.hwp_core_rule.declared.Sight.{Sight}
-use Rattle.hwp_core.specs.hwp_core_rule.declared.Step.{Step}
-use Rattle.hwp_core.specs.hwp_core_rule.declared.Step.TheVariants as steps
-use Rattle.hwp_core.specs.hwp_core_rule.declared.View.{View}
-use Rattle.hwp_core.specs.hwp_core_rule.Asks.{HasInHand}
-use Rattle.hwp_core.specs.hwp_core_rule.Logs.{log_of}
-use Rattle.hwp_core.specs.hwp_core_rule.Steps.{goes, is_last, place_of}
-use Rattle.hwp_core.specs.hwp_core_rule.Views.{adopting, less_refs, noted, refs_on, sighted, stamp_of, unpoisoned, with_refs}
-use Rattle.hwp_core.specs.hwp_core_rule.Words.{words_of}
-use Rattle.hwp_core.specs.hwp_core_rule.parts.Places.{IsBare, in_hand}
-use Rattle.hwp_core.proofs.of_hwp_core_rule.FramesInHand.{in_hand-mine}
-use Rattle.hwp_core.proofs.of_hwp_core_rule.Lists.{at_map, same-number}
-use Rattle.hwp_core.proofs.of_hwp_core_rule.MetWords.{frame-word, hand-bare}
-use Rattle.hwp_core.proofs.of_hwp_core_rule.MoveKeeps.{shaped}
-use Rattle.hwp_core.proofs.of_hwp_core_rule.kinds.Adopt.{unreferenced}
-use Rattle.hwp_core.specs.hwp_core_rule.Calls.{IsOnTurn, Steps}
-use Rattle.hwp_core.specs.hwp_core_rule.Hands.{Hand, hand_of}
-use Rattle.hwp_core.proofs.of_hwp_core_rule.tasks.StepLeaves.{steps-planned}
-use Rattle.hwp_core.specs.hwp_core_rule.Known.{deeds}
-use Rattle.hwp_core.proofs.of_hwp_core_rule.tasks.SightKeeps.{saw-adopt}
-use Rattle.hwp_core.specs.declared.release.Release.{Release}
-use Rattle.hwp_core.specs.declared.release.ReleaseAt.{ReleaseAt}
-use Rattle.hwp_core.specs.declared.release.ReleaseAt.TheVariants as release_at
+use Rattle.hwp_claim_frame.specs.hwp_geom.declared.Frame.{Frame}
+use Rattle.hwp_claim_frame.specs.hwp_geom.declared.Layout.{Layout}
+use Rattle.hwp_claim_frame.specs.hwp_geom.declared.Page.{Page}
+use Rattle.hwp_claim_frame.specs.hwp_geom.declared.Who.{Who}
+use Rattle.hwp_claim_frame.specs.hwp_page.History.{BodyValue}
+use Rattle.hwp_claim_frame.specs.hwp_words.Frames.{count_of, is_kernel, is_poisoned}
+use Rattle.hwp_claim_frame.specs.hwp_core_rule.declared.Made.{Made}
+use Rattle.hwp_claim_frame.specs.hwp_core_rule.declared.SharedWord.{SharedWord}
+use Rattle.hwp_claim_frame.specs.hwp_core_rule.declared.SharedWord.TheVariants as places
+use Rattle.hwp_claim_frame.specs.hwp_core_rule.declared.Ref.{Ref}
+use Rattle.hwp_claim_frame.specs.hwp_core_rule.declared.Sight.{Sight}
+use Rattle.hwp_claim_frame.specs.hwp_core_rule.declared.Step.{Step}
+use Rattle.hwp_claim_frame.specs.hwp_core_rule.declared.Step.TheVariants as steps
+use Rattle.hwp_claim_frame.specs.hwp_core_rule.declared.View.{View}
+use Rattle.hwp_claim_frame.specs.hwp_core_rule.Asks.{HasInHand}
+use Rattle.hwp_claim_frame.specs.hwp_core_rule.Logs.{log_of}
+use Rattle.hwp_claim_frame.specs.hwp_core_rule.Steps.{goes, is_last, place_of}
+use Rattle.hwp_claim_frame.specs.hwp_core_rule.Views.{adopting, less_refs, noted, refs_on, sighted, stamp_of, unpoisoned, with_refs}
+use Rattle.hwp_claim_frame.specs.hwp_core_rule.Words.{words_of}
+use Rattle.hwp_claim_frame.specs.hwp_core_rule.parts.Places.{IsBare, in_hand}
+use Rattle.hwp_claim_frame.proofs.of_hwp_core_rule.FramesInHand.{in_hand-mine}
+use Rattle.hwp_claim_frame.proofs.of_hwp_core_rule.Lists.{at_map, same-number}
+use Rattle.hwp_claim_frame.proofs.of_hwp_core_rule.MetWords.{frame-word, hand-bare}
+use Rattle.hwp_claim_frame.proofs.of_hwp_core_rule.MoveKeeps.{shaped}
+use Rattle.hwp_claim_frame.proofs.of_hwp_core_rule.kinds.Adopt.{unreferenced}
+use Rattle.hwp_claim_frame.specs.hwp_core_rule.Calls.{IsOnTurn, Steps}
+use Rattle.hwp_claim_frame.specs.hwp_core_rule.Hands.{Hand, hand_of}
+use Rattle.hwp_claim_frame.proofs.of_hwp_core_rule.tasks.StepLeaves.{steps-planned}
+use Rattle.hwp_claim_frame.specs.hwp_core_rule.Known.{deeds}
+use Rattle.hwp_claim_frame.proofs.of_hwp_core_rule.tasks.SightKeeps.{saw-adopt}
+use Rattle.hwp_claim_frame.specs.hwp_core.declared.release.Release.{Release}
+use Rattle.hwp_claim_frame.specs.hwp_core.declared.release.ReleaseAt.{ReleaseAt}
+use Rattle.hwp_claim_frame.specs.hwp_core.declared.release.ReleaseAt.TheVariants as release_at
 use Rattle.hwp_fault_fill.specs.declared.take.Take.{Take}
 use Rattle.hwp_fault_fill.specs.declared.take.TakeAt.{TakeAt}
 use Rattle.hwp_fault_fill.specs.declared.take.TakeAt.TheVariants as take_at
-use Rattle.hwp_core.specs.Holds.{HoldsPage, held, one_ref}
-use Rattle.hwp_core.specs.Releases as releases
+use Rattle.hwp_claim_frame.specs.hwp_core.Holds.{HoldsPage, held, one_ref}
+use Rattle.hwp_claim_frame.specs.hwp_core.Releases as releases
 use Rattle.hwp_fault_fill.specs.Takes as takes
-use Rattle.hwp_core.specs.Releases.{adopted_lock}
-use Rattle.hwp_core.specs.Unholds as unholds
-use Rattle.hwp_core.proofs.HoldEnds.{held-unholds}
-use Rattle.hwp_core.proofs.BodyGrows.{Grown, length-grown}
-use Rattle.hwp_core.proofs.VacateLaws.{refs-are}
-use Rattle.hwp_claim.specs.hwp_claim_frame.Grabs.{WasFree}
-use Rattle.hwp_claim.proofs.of_hwp_claim_frame.FrameUnlocks.{one-taken}
+use Rattle.hwp_claim_frame.specs.hwp_core.Releases.{adopted_lock}
+use Rattle.hwp_claim_frame.specs.hwp_core.Unholds as unholds
+use Rattle.hwp_claim_frame.proofs.of_hwp_core.HoldEnds.{held-unholds}
+use Rattle.hwp_claim_frame.proofs.of_hwp_core.BodyGrows.{Grown, length-grown}
+use Rattle.hwp_claim_frame.proofs.of_hwp_core.VacateLaws.{refs-are}
+use Rattle.hwp_claim_frame.specs.Grabs.{WasFree}
+use Rattle.hwp_claim_frame.proofs.FrameUnlocks.{one-taken}
 use Rattle.hwp_soft.specs.declared.soft.SoftAnswer.{SoftAnswer}
 use Rattle.hwp_soft.specs.Offline.{HoldsGood, IsCaused, IsLettingGo, locked_in, releasing, with_take}
 use Rattle.hwp_soft_move.proofs.RelocateSteps.{apart-from, saw-grown}

@@ -4,54 +4,54 @@ use Rattle.std.proofs.Common.{◌≡◌, ◌≢◌, inl, ℕ, ◌+◌, ◌/◌, 
 use Rattle.std.proofs.lemmas.Bool.{both_ways}
 use Rattle.std.proofs.lemmas.Option.{none-some, same_Some, slice_get_within}
 use Rattle.std.specs.FinSet as set
-use Rattle.hwp_core.specs.hwp_geom.declared.Frame.{Frame}
-use Rattle.hwp_core.specs.hwp_geom.declared.Layout.{Layout}
-use Rattle.hwp_core.specs.hwp_geom.declared.Page.{Page}
-use Rattle.hwp_core.specs.hwp_geom.declared.TransDecl.{TransDecl}
-use Rattle.hwp_core.specs.hwp_geom.declared.Who.{Who}
-use Rattle.hwp_core.specs.hwp_page.declared.PageState.{PageState}
-use Rattle.hwp_core.specs.hwp_page.History.{BodyValue}
-use Rattle.hwp_core.specs.hwp_words.Frames.{cycle_of, is_poisoned}
-use Rattle.hwp_core.specs.hwp_core_rule.declared.FrameLock.{FrameLock}
-use Rattle.hwp_core.specs.hwp_core_rule.declared.Made.{Made}
-use Rattle.hwp_core.specs.hwp_core_rule.declared.Log.{Log}
-use Rattle.hwp_core.specs.hwp_core_rule.declared.MarkKind.TheVariants as mark_kinds
-use Rattle.hwp_core.specs.hwp_core_rule.declared.SharedWord.TheVariants as places
-use Rattle.hwp_core.specs.hwp_core_rule.declared.Ref.{Ref}
-use Rattle.hwp_core.specs.hwp_core_rule.declared.Step.{Step}
-use Rattle.hwp_core.specs.hwp_core_rule.declared.Step.TheVariants as steps
-use Rattle.hwp_core.specs.hwp_core_rule.declared.View.{View}
-use Rattle.hwp_core.specs.hwp_core_rule.Logs.{log_of, state_of, fitting, fitting_word}
-use Rattle.hwp_core.specs.hwp_core_rule.Steps.{goes}
-use Rattle.hwp_core.specs.hwp_core_rule.Views.{is_lock_of, locks_on, marked, noted, owing_count, refs_on, sighted, stamp_of, with_refs, without}
-use Rattle.hwp_core.proofs.of_hwp_core_rule.PageWords.{fitting-at}
-use Rattle.hwp_core.proofs.of_hwp_core_rule.Lists.{same-number}
-use Rattle.hwp_core.proofs.of_hwp_core_rule.Refs.{refs-with}
-use Rattle.hwp_core.specs.hwp_core_rule.Calls.{IsOnTurn, Steps}
-use Rattle.hwp_core.specs.hwp_core_rule.Hands.{Hand, body_in, hand_of}
-use Rattle.hwp_core.proofs.of_hwp_core_rule.tasks.StepLeaves.{hand-planned, steps-planned}
-use Rattle.hwp_core.specs.hwp_core_rule.Known.{Saw, deeds, is_by}
-use Rattle.hwp_core.proofs.of_hwp_core_rule.tasks.MadeEntries.{ListsNone, deeds-same, made-kept}
-use Rattle.hwp_core.proofs.of_hwp_core_rule.tasks.SightKeeps.{saw-adopted-stays, saw-stays}
-use Rattle.hwp_core.specs.declared.release.Release.{Release}
-use Rattle.hwp_core.specs.declared.release.ReleaseAt.{ReleaseAt}
-use Rattle.hwp_core.specs.declared.release.ReleaseAt.TheVariants as release_at
+use Rattle.hwp_claim_frame.specs.hwp_geom.declared.Frame.{Frame}
+use Rattle.hwp_claim_frame.specs.hwp_geom.declared.Layout.{Layout}
+use Rattle.hwp_claim_frame.specs.hwp_geom.declared.Page.{Page}
+use Rattle.hwp_claim_frame.specs.hwp_geom.declared.TransDecl.{TransDecl}
+use Rattle.hwp_claim_frame.specs.hwp_geom.declared.Who.{Who}
+use Rattle.hwp_claim_frame.specs.hwp_page.declared.PageState.{PageState}
+use Rattle.hwp_claim_frame.specs.hwp_page.History.{BodyValue}
+use Rattle.hwp_claim_frame.specs.hwp_words.Frames.{cycle_of, is_poisoned}
+use Rattle.hwp_claim_frame.specs.hwp_core_rule.declared.FrameLock.{FrameLock}
+use Rattle.hwp_claim_frame.specs.hwp_core_rule.declared.Made.{Made}
+use Rattle.hwp_claim_frame.specs.hwp_core_rule.declared.Log.{Log}
+use Rattle.hwp_claim_frame.specs.hwp_core_rule.declared.MarkKind.TheVariants as mark_kinds
+use Rattle.hwp_claim_frame.specs.hwp_core_rule.declared.SharedWord.TheVariants as places
+use Rattle.hwp_claim_frame.specs.hwp_core_rule.declared.Ref.{Ref}
+use Rattle.hwp_claim_frame.specs.hwp_core_rule.declared.Step.{Step}
+use Rattle.hwp_claim_frame.specs.hwp_core_rule.declared.Step.TheVariants as steps
+use Rattle.hwp_claim_frame.specs.hwp_core_rule.declared.View.{View}
+use Rattle.hwp_claim_frame.specs.hwp_core_rule.Logs.{log_of, state_of, fitting, fitting_word}
+use Rattle.hwp_claim_frame.specs.hwp_core_rule.Steps.{goes}
+use Rattle.hwp_claim_frame.specs.hwp_core_rule.Views.{is_lock_of, locks_on, marked, noted, owing_count, refs_on, sighted, stamp_of, with_refs, without}
+use Rattle.hwp_claim_frame.proofs.of_hwp_core_rule.PageWords.{fitting-at}
+use Rattle.hwp_claim_frame.proofs.of_hwp_core_rule.Lists.{same-number}
+use Rattle.hwp_claim_frame.proofs.of_hwp_core_rule.Refs.{refs-with}
+use Rattle.hwp_claim_frame.specs.hwp_core_rule.Calls.{IsOnTurn, Steps}
+use Rattle.hwp_claim_frame.specs.hwp_core_rule.Hands.{Hand, body_in, hand_of}
+use Rattle.hwp_claim_frame.proofs.of_hwp_core_rule.tasks.StepLeaves.{hand-planned, steps-planned}
+use Rattle.hwp_claim_frame.specs.hwp_core_rule.Known.{Saw, deeds, is_by}
+use Rattle.hwp_claim_frame.proofs.of_hwp_core_rule.tasks.MadeEntries.{ListsNone, deeds-same, made-kept}
+use Rattle.hwp_claim_frame.proofs.of_hwp_core_rule.tasks.SightKeeps.{saw-adopted-stays, saw-stays}
+use Rattle.hwp_claim_frame.specs.hwp_core.declared.release.Release.{Release}
+use Rattle.hwp_claim_frame.specs.hwp_core.declared.release.ReleaseAt.{ReleaseAt}
+use Rattle.hwp_claim_frame.specs.hwp_core.declared.release.ReleaseAt.TheVariants as release_at
 use Rattle.hwp_fault_fill.specs.declared.take.Take.{Take}
 use Rattle.hwp_fault_fill.specs.declared.take.TakeAt.{TakeAt}
 use Rattle.hwp_fault_fill.specs.declared.take.TakeAt.TheVariants as take_at
-use Rattle.hwp_core.specs.Holds.{one_ref}
-use Rattle.hwp_core.specs.Releases as releases
+use Rattle.hwp_claim_frame.specs.hwp_core.Holds.{one_ref}
+use Rattle.hwp_claim_frame.specs.hwp_core.Releases as releases
 use Rattle.hwp_fault_fill.specs.Takes as takes
-use Rattle.hwp_core.specs.Releases.{new_lock}
-use Rattle.hwp_core.proofs.TaskCosts.{release-lists}
-use Rattle.hwp_core.proofs.ReleaseLaws as releasing_laws
+use Rattle.hwp_claim_frame.specs.hwp_core.Releases.{new_lock}
+use Rattle.hwp_claim_frame.proofs.of_hwp_core.TaskCosts.{release-lists}
+use Rattle.hwp_claim_frame.proofs.of_hwp_core.ReleaseLaws as releasing_laws
 use Rattle.hwp_fault_fill.proofs.TakeLaws as taking
-use Rattle.hwp_core.proofs.TranslationWrites.{declared-of}
-use Rattle.hwp_core.proofs.BodyGrows.{Grown}
-use Rattle.hwp_core.proofs.PageStates.{is-cached, replay-is, replay-own, state-is}
-use Rattle.hwp_claim.specs.hwp_claim_frame.Claims.{SawPoison}
-use Rattle.hwp_claim.specs.hwp_claim_frame.Grabs.{WasFree}
-use Rattle.hwp_claim.proofs.of_hwp_claim_frame.ClaimLaws.{has-marked, owes-count, saw-poison}
+use Rattle.hwp_claim_frame.proofs.of_hwp_core.TranslationWrites.{declared-of}
+use Rattle.hwp_claim_frame.proofs.of_hwp_core.BodyGrows.{Grown}
+use Rattle.hwp_claim_frame.proofs.of_hwp_core.PageStates.{is-cached, replay-is, replay-own, state-is}
+use Rattle.hwp_claim_frame.specs.Claims.{SawPoison}
+use Rattle.hwp_claim_frame.specs.Grabs.{WasFree}
+use Rattle.hwp_claim_frame.proofs.ClaimLaws.{has-marked, owes-count, saw-poison}
 use Rattle.hwp_soft_move.specs.declared.relocate.Relocate.{Relocate}
 use Rattle.hwp_soft_move.specs.declared.relocate.Transfer.{Transfer}
 use Rattle.hwp_soft_move.specs.declared.relocate.RelocateAt.TheVariants as relocate_at

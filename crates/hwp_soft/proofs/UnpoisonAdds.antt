@@ -1,20 +1,20 @@
 -- What a step of an `Unpoison` adds to what the view lists: the mark of its frame, and the count of that.
 use Rattle.std.proofs.Common.{◌≡◌, inl, inr, ℕ, ◌+◌, ◌-◌, ◌<◌, ◌==◌, Bool, true, false, cond, List, [], Option, Some, None, refl, ap, arith}
 use Rattle.std.proofs.lemmas.Option.{none-some}
-use Rattle.hwp_core.specs.hwp_geom.declared.Frame.{Frame}
-use Rattle.hwp_core.specs.hwp_geom.declared.Layout.{Layout}
-use Rattle.hwp_core.specs.hwp_geom.declared.Who.{Who}
-use Rattle.hwp_core.specs.hwp_page.History.{BodyValue}
-use Rattle.hwp_core.specs.hwp_words.Counters.{hardware_of}
-use Rattle.hwp_core.specs.hwp_words.Frames.{count_of, cycle_of, is_poisoned}
-use Rattle.hwp_core.specs.hwp_words.Stops.{is_stopped}
-use Rattle.hwp_core.specs.hwp_core_rule.declared.Debts.{Debts}
-use Rattle.hwp_core.specs.hwp_core_rule.declared.Step.{Step}
-use Rattle.hwp_core.specs.hwp_core_rule.declared.Step.TheVariants as steps
-use Rattle.hwp_core.specs.hwp_core_rule.declared.View.{View}
-use Rattle.hwp_core.specs.hwp_core_rule.Calls.{Steps}
-use Rattle.hwp_core.proofs.of_hwp_core_rule.tasks.StepLeaves.{steps-planned}
-use Rattle.hwp_claim.specs.hwp_claim_frame.Done.{Marking, counts_owed}
+use Rattle.hwp_claim_frame.specs.hwp_geom.declared.Frame.{Frame}
+use Rattle.hwp_claim_frame.specs.hwp_geom.declared.Layout.{Layout}
+use Rattle.hwp_claim_frame.specs.hwp_geom.declared.Who.{Who}
+use Rattle.hwp_claim_frame.specs.hwp_page.History.{BodyValue}
+use Rattle.hwp_claim_frame.specs.hwp_words.Counters.{hardware_of}
+use Rattle.hwp_claim_frame.specs.hwp_words.Frames.{count_of, cycle_of, is_poisoned}
+use Rattle.hwp_claim_frame.specs.hwp_words.Stops.{is_stopped}
+use Rattle.hwp_claim_frame.specs.hwp_core_rule.declared.Debts.{Debts}
+use Rattle.hwp_claim_frame.specs.hwp_core_rule.declared.Step.{Step}
+use Rattle.hwp_claim_frame.specs.hwp_core_rule.declared.Step.TheVariants as steps
+use Rattle.hwp_claim_frame.specs.hwp_core_rule.declared.View.{View}
+use Rattle.hwp_claim_frame.specs.hwp_core_rule.Calls.{Steps}
+use Rattle.hwp_claim_frame.proofs.of_hwp_core_rule.tasks.StepLeaves.{steps-planned}
+use Rattle.hwp_claim_frame.specs.Done.{Marking, counts_owed}
 use Rattle.hwp_soft.specs.declared.unpoison.Unpoison.{Unpoison}
 use Rattle.hwp_soft.specs.declared.unpoison.UnpoisonAt.{UnpoisonAt}
 use Rattle.hwp_soft.specs.declared.unpoison.UnpoisonAt.TheVariants as at

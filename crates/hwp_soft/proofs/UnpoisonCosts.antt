@@ -2,27 +2,27 @@
 use Rattle.std.proofs.Common.{◌≡◌, ◌≢◌, ℕ, ◌+◌, ◌*◌, ◌<◌, ◌≤◌, ◌⊎◌, ◌==◌, inl, inr, Bool, true, false, cond, [], Some, None, slice_index, refl, sym, ap, ◌∙◌, subst, arith}
 use Rattle.std.proofs.lemmas.Bool.{both_ways}
 use Rattle.std.proofs.lemmas.Option.{none-some, same_Some}
-use Rattle.hwp_core.specs.hwp_geom.declared.Frame.{Frame}
-use Rattle.hwp_core.specs.hwp_geom.declared.Layout.{Layout}
-use Rattle.hwp_core.specs.hwp_words.Counters.{hardware_of}
-use Rattle.hwp_core.specs.hwp_words.Frames.{count_of, cycle_of, is_poisoned}
-use Rattle.hwp_core.specs.hwp_words.Stops.{is_stopped}
-use Rattle.hwp_core.specs.hwp_core_rule.declared.State.{State}
-use Rattle.hwp_core.specs.hwp_core_rule.declared.Step.{Step}
-use Rattle.hwp_core.specs.hwp_core_rule.declared.Step.TheVariants as steps
-use Rattle.hwp_core.specs.hwp_core_rule.declared.View.{View}
-use Rattle.hwp_core.specs.hwp_core_rule.Lasting.{IsMild, LeavesPoison}
-use Rattle.hwp_core.specs.hwp_core_rule.Steps.{place_of, word_after}
-use Rattle.hwp_core.specs.hwp_core_rule.Words.{Words, read}
-use Rattle.hwp_core.proofs.of_hwp_core_rule.Lists.{same-number}
-use Rattle.hwp_core.specs.hwp_core_rule.declared.Turn.{Turn}
-use Rattle.hwp_core.specs.hwp_core_rule.declared.Turn.TheVariants.{Moved, Changed}
-use Rattle.hwp_core.specs.hwp_core_rule.Classes.{TellsClass}
-use Rattle.hwp_core.specs.hwp_core_rule.Hands.{Hand, hand_of, empty}
-use Rattle.hwp_core.specs.hwp_core_rule.Ranks.{Made, CostFalls, HasFrame, IsRanked, PaysRevival, Pending, failure_weight, failures_left, is_waits, stale, words_at, stale_weight}
-use Rattle.hwp_core.proofs.of_hwp_core_rule.tasks.StepRanks.{failures-kept, met, pending-kept, words-kept}
-use Rattle.hwp_core.proofs.of_hwp_core_rule.tasks.Revivals.{revive-misses, revive-pending, revive-rises}
-use Rattle.hwp_core.proofs.TaskCosts.{left-own, met-own, stale-most}
+use Rattle.hwp_claim_frame.specs.hwp_geom.declared.Frame.{Frame}
+use Rattle.hwp_claim_frame.specs.hwp_geom.declared.Layout.{Layout}
+use Rattle.hwp_claim_frame.specs.hwp_words.Counters.{hardware_of}
+use Rattle.hwp_claim_frame.specs.hwp_words.Frames.{count_of, cycle_of, is_poisoned}
+use Rattle.hwp_claim_frame.specs.hwp_words.Stops.{is_stopped}
+use Rattle.hwp_claim_frame.specs.hwp_core_rule.declared.State.{State}
+use Rattle.hwp_claim_frame.specs.hwp_core_rule.declared.Step.{Step}
+use Rattle.hwp_claim_frame.specs.hwp_core_rule.declared.Step.TheVariants as steps
+use Rattle.hwp_claim_frame.specs.hwp_core_rule.declared.View.{View}
+use Rattle.hwp_claim_frame.specs.hwp_core_rule.Lasting.{IsMild, LeavesPoison}
+use Rattle.hwp_claim_frame.specs.hwp_core_rule.Steps.{place_of, word_after}
+use Rattle.hwp_claim_frame.specs.hwp_core_rule.Words.{Words, read}
+use Rattle.hwp_claim_frame.proofs.of_hwp_core_rule.Lists.{same-number}
+use Rattle.hwp_claim_frame.specs.hwp_core_rule.declared.Turn.{Turn}
+use Rattle.hwp_claim_frame.specs.hwp_core_rule.declared.Turn.TheVariants.{Moved, Changed}
+use Rattle.hwp_claim_frame.specs.hwp_core_rule.Classes.{TellsClass}
+use Rattle.hwp_claim_frame.specs.hwp_core_rule.Hands.{Hand, hand_of, empty}
+use Rattle.hwp_claim_frame.specs.hwp_core_rule.Ranks.{Made, CostFalls, HasFrame, IsRanked, PaysRevival, Pending, failure_weight, failures_left, is_waits, stale, words_at, stale_weight}
+use Rattle.hwp_claim_frame.proofs.of_hwp_core_rule.tasks.StepRanks.{failures-kept, met, pending-kept, words-kept}
+use Rattle.hwp_claim_frame.proofs.of_hwp_core_rule.tasks.Revivals.{revive-misses, revive-pending, revive-rises}
+use Rattle.hwp_claim_frame.proofs.of_hwp_core.TaskCosts.{left-own, met-own, stale-most}
 use Rattle.hwp_soft.specs.declared.unpoison.Unpoison.{Unpoison}
 use Rattle.hwp_soft.specs.declared.unpoison.UnpoisonAt.{UnpoisonAt}
 use Rattle.hwp_soft.specs.declared.unpoison.UnpoisonAt.TheVariants as at

@@ -2,35 +2,35 @@
 use Rattle.std.proofs.Common.{◌≡◌, ℕ, ◌+◌, ◌<◌, ◌==◌, ◌&&◌, Bool, true, false, not, cond, List, [], ◌∷◌, ◌++◌, Option, Some, None, length, refl, sym, ap, ◌∙◌, subst, arith}
 use Rattle.std.proofs.lemmas.Bool.{and_parts, eqb-false, eqb-true}
 use Rattle.std.proofs.lemmas.Option.{none-some, same_Some}
-use Rattle.hwp_core.specs.hwp_geom.declared.Cpu.{Cpu}
-use Rattle.hwp_core.specs.hwp_geom.declared.Frame.{Frame}
-use Rattle.hwp_core.specs.hwp_geom.declared.Layout.{Layout}
-use Rattle.hwp_core.specs.hwp_geom.declared.Who.{Who}
-use Rattle.hwp_core.specs.hwp_geom.Limits.{command_limit}
-use Rattle.hwp_core.specs.hwp_page.History.{BodyValue}
-use Rattle.hwp_core.specs.hwp_words.Counters.{hardware_of}
-use Rattle.hwp_core.specs.hwp_words.Frames.{count_of, cycle_of, handled_of, is_handled, is_locked, is_poisoned, owner_of}
-use Rattle.hwp_core.specs.hwp_words.Stops.{is_stopped}
-use Rattle.hwp_core.specs.hwp_core_rule.declared.FrameInHand.{FrameInHand}
-use Rattle.hwp_core.specs.hwp_core_rule.declared.Mark.{Mark}
-use Rattle.hwp_core.specs.hwp_core_rule.declared.MarkKind.TheVariants as mark_kinds
-use Rattle.hwp_core.specs.hwp_core_rule.declared.SharedWord.TheVariants as places
-use Rattle.hwp_core.specs.hwp_core_rule.declared.Step.{Step}
-use Rattle.hwp_core.specs.hwp_core_rule.declared.Step.TheVariants as steps
-use Rattle.hwp_core.specs.hwp_core_rule.declared.View.{View}
-use Rattle.hwp_core.specs.hwp_core_rule.Asks.{CanRevive, HasInHand, HasRoom}
-use Rattle.hwp_core.specs.hwp_core_rule.Lists.{SomeMember}
-use Rattle.hwp_core.specs.hwp_core_rule.Views.{noted, revived_by, sighted, stamp_of, unpoisoned}
-use Rattle.hwp_core.specs.hwp_core_rule.parts.Marks.{revivals_by}
-use Rattle.hwp_core.proofs.of_hwp_core_rule.Lists.{same-number, some-last}
-use Rattle.hwp_core.proofs.of_hwp_core_rule.MetWords.{free-word}
-use Rattle.hwp_core.specs.hwp_core_rule.declared.Turn.{Turn}
-use Rattle.hwp_core.specs.hwp_core_rule.Calls.{CanMake, Steps}
-use Rattle.hwp_core.specs.hwp_core_rule.Hands.{Hand, hand_of, empty}
-use Rattle.hwp_core.proofs.of_hwp_core_rule.tasks.StepLeaves.{can-make, hand-planned, on-turn-after, steps-planned}
-use Rattle.hwp_core.specs.hwp_core_rule.Known.{HasMadeNone, Saw}
-use Rattle.hwp_core.proofs.of_hwp_core_rule.tasks.MadeEntries.{ListsNone, deeds-same}
-use Rattle.hwp_core.proofs.of_hwp_core_rule.tasks.SightKeeps.{saw-load, saw-stays}
+use Rattle.hwp_claim_frame.specs.hwp_geom.declared.Cpu.{Cpu}
+use Rattle.hwp_claim_frame.specs.hwp_geom.declared.Frame.{Frame}
+use Rattle.hwp_claim_frame.specs.hwp_geom.declared.Layout.{Layout}
+use Rattle.hwp_claim_frame.specs.hwp_geom.declared.Who.{Who}
+use Rattle.hwp_claim_frame.specs.hwp_geom.Limits.{command_limit}
+use Rattle.hwp_claim_frame.specs.hwp_page.History.{BodyValue}
+use Rattle.hwp_claim_frame.specs.hwp_words.Counters.{hardware_of}
+use Rattle.hwp_claim_frame.specs.hwp_words.Frames.{count_of, cycle_of, handled_of, is_handled, is_locked, is_poisoned, owner_of}
+use Rattle.hwp_claim_frame.specs.hwp_words.Stops.{is_stopped}
+use Rattle.hwp_claim_frame.specs.hwp_core_rule.declared.FrameInHand.{FrameInHand}
+use Rattle.hwp_claim_frame.specs.hwp_core_rule.declared.Mark.{Mark}
+use Rattle.hwp_claim_frame.specs.hwp_core_rule.declared.MarkKind.TheVariants as mark_kinds
+use Rattle.hwp_claim_frame.specs.hwp_core_rule.declared.SharedWord.TheVariants as places
+use Rattle.hwp_claim_frame.specs.hwp_core_rule.declared.Step.{Step}
+use Rattle.hwp_claim_frame.specs.hwp_core_rule.declared.Step.TheVariants as steps
+use Rattle.hwp_claim_frame.specs.hwp_core_rule.declared.View.{View}
+use Rattle.hwp_claim_frame.specs.hwp_core_rule.Asks.{CanRevive, HasInHand, HasRoom}
+use Rattle.hwp_claim_frame.specs.hwp_core_rule.Lists.{SomeMember}
+use Rattle.hwp_claim_frame.specs.hwp_core_rule.Views.{noted, revived_by, sighted, stamp_of, unpoisoned}
+use Rattle.hwp_claim_frame.specs.hwp_core_rule.parts.Marks.{revivals_by}
+use Rattle.hwp_claim_frame.proofs.of_hwp_core_rule.Lists.{same-number, some-last}
+use Rattle.hwp_claim_frame.proofs.of_hwp_core_rule.MetWords.{free-word}
+use Rattle.hwp_claim_frame.specs.hwp_core_rule.declared.Turn.{Turn}
+use Rattle.hwp_claim_frame.specs.hwp_core_rule.Calls.{CanMake, Steps}
+use Rattle.hwp_claim_frame.specs.hwp_core_rule.Hands.{Hand, hand_of, empty}
+use Rattle.hwp_claim_frame.proofs.of_hwp_core_rule.tasks.StepLeaves.{can-make, hand-planned, on-turn-after, steps-planned}
+use Rattle.hwp_claim_frame.specs.hwp_core_rule.Known.{HasMadeNone, Saw}
+use Rattle.hwp_claim_frame.proofs.of_hwp_core_rule.tasks.MadeEntries.{ListsNone, deeds-same}
+use Rattle.hwp_claim_frame.proofs.of_hwp_core_rule.tasks.SightKeeps.{saw-load, saw-stays}
 use Rattle.hwp_soft.specs.declared.unpoison.Unpoison.{Unpoison}
 use Rattle.hwp_soft.specs.declared.unpoison.UnpoisonAt.{UnpoisonAt}
 use Rattle.hwp_soft.specs.declared.unpoison.UnpoisonAt.TheVariants as at

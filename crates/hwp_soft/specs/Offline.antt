@@ -1,38 +1,38 @@
 -- What is held and known while a frame is taken out of use, and why the command answers so.
 use Rattle.std.specs.Prelude.{◌≡◌, ◌≢◌, ℕ, ◌<◌, ◌≤◌, Bool, true, false, [], ◌∷◌, ◌++◌, Option, Some, None, is_none, length, drop, List}
-use Rattle.hwp_core.specs.hwp_geom.declared.Frame.{Frame}
-use Rattle.hwp_core.specs.hwp_geom.declared.Layout.{Layout}
-use Rattle.hwp_core.specs.hwp_geom.declared.Page.{Page}
-use Rattle.hwp_core.specs.hwp_geom.declared.Who.{Who}
-use Rattle.hwp_core.specs.hwp_page.declared.What.TheVariants as entries
-use Rattle.hwp_core.specs.hwp_page.History.{BodyValue}
-use Rattle.hwp_core.specs.hwp_core_rule.declared.Made.{Made}
-use Rattle.hwp_core.specs.hwp_core_rule.declared.SharedWord.TheVariants as places
-use Rattle.hwp_core.specs.hwp_core_rule.declared.View.{View}
-use Rattle.hwp_core.specs.hwp_core_rule.Logs.{log_of}
-use Rattle.hwp_core.specs.hwp_core_rule.Views.{unpoisoned, with_refs}
-use Rattle.hwp_core.specs.hwp_core_rule.parts.Entries.{HasSeen}
-use Rattle.hwp_core.specs.hwp_core_rule.Calls.{IsOnTurn}
-use Rattle.hwp_core.specs.hwp_core_rule.Hands.{Hand, hand_of, empty}
-use Rattle.hwp_core.specs.hwp_core_rule.Known.{HasMadeBeside, HasMadeNoneBeside, Saw, SawBadOf, SawStop}
-use Rattle.hwp_core.specs.hwp_core_rule.Turns.{Member}
-use Rattle.hwp_core.specs.declared.give_up.GiveUp.{GiveUp}
-use Rattle.hwp_core.specs.declared.release.Release.{Release}
-use Rattle.hwp_core.specs.declared.release.ReleaseAt.{ReleaseAt}
-use Rattle.hwp_core.specs.declared.release.ReleaseAt.TheVariants as release_at
+use Rattle.hwp_claim_frame.specs.hwp_geom.declared.Frame.{Frame}
+use Rattle.hwp_claim_frame.specs.hwp_geom.declared.Layout.{Layout}
+use Rattle.hwp_claim_frame.specs.hwp_geom.declared.Page.{Page}
+use Rattle.hwp_claim_frame.specs.hwp_geom.declared.Who.{Who}
+use Rattle.hwp_claim_frame.specs.hwp_page.declared.What.TheVariants as entries
+use Rattle.hwp_claim_frame.specs.hwp_page.History.{BodyValue}
+use Rattle.hwp_claim_frame.specs.hwp_core_rule.declared.Made.{Made}
+use Rattle.hwp_claim_frame.specs.hwp_core_rule.declared.SharedWord.TheVariants as places
+use Rattle.hwp_claim_frame.specs.hwp_core_rule.declared.View.{View}
+use Rattle.hwp_claim_frame.specs.hwp_core_rule.Logs.{log_of}
+use Rattle.hwp_claim_frame.specs.hwp_core_rule.Views.{unpoisoned, with_refs}
+use Rattle.hwp_claim_frame.specs.hwp_core_rule.parts.Entries.{HasSeen}
+use Rattle.hwp_claim_frame.specs.hwp_core_rule.Calls.{IsOnTurn}
+use Rattle.hwp_claim_frame.specs.hwp_core_rule.Hands.{Hand, hand_of, empty}
+use Rattle.hwp_claim_frame.specs.hwp_core_rule.Known.{HasMadeBeside, HasMadeNoneBeside, Saw, SawBadOf, SawStop}
+use Rattle.hwp_claim_frame.specs.hwp_core_rule.Turns.{Member}
+use Rattle.hwp_claim_frame.specs.hwp_core.declared.give_up.GiveUp.{GiveUp}
+use Rattle.hwp_claim_frame.specs.hwp_core.declared.release.Release.{Release}
+use Rattle.hwp_claim_frame.specs.hwp_core.declared.release.ReleaseAt.{ReleaseAt}
+use Rattle.hwp_claim_frame.specs.hwp_core.declared.release.ReleaseAt.TheVariants as release_at
 use Rattle.hwp_fault_fill.specs.declared.take.Take.{Take}
 use Rattle.hwp_fault_fill.specs.declared.take.TakeAt.{TakeAt}
 use Rattle.hwp_fault_fill.specs.declared.take.TakeAt.TheVariants as take_at
-use Rattle.hwp_core.specs.declared.unhold.Unhold.{Unhold}
-use Rattle.hwp_core.specs.GiveUps as give_ups
-use Rattle.hwp_core.specs.Holds.{IsBodyOf, held}
-use Rattle.hwp_core.specs.Releases as releases
+use Rattle.hwp_claim_frame.specs.hwp_core.declared.unhold.Unhold.{Unhold}
+use Rattle.hwp_claim_frame.specs.hwp_core.GiveUps as give_ups
+use Rattle.hwp_claim_frame.specs.hwp_core.Holds.{IsBodyOf, held}
+use Rattle.hwp_claim_frame.specs.hwp_core.Releases as releases
 use Rattle.hwp_fault_fill.specs.Takes as takes
-use Rattle.hwp_core.specs.Releases.{adopted_lock, new_lock}
-use Rattle.hwp_core.specs.Unholds as unholds
-use Rattle.hwp_claim.specs.hwp_claim_frame.Claims.{HasMarked, SawPoison}
-use Rattle.hwp_claim.specs.hwp_claim_frame.Grabs.{WasFree}
-use Rattle.hwp_claim.specs.hwp_claim_frame.Meets.{AsTaken, HoldsMet}
+use Rattle.hwp_claim_frame.specs.hwp_core.Releases.{adopted_lock, new_lock}
+use Rattle.hwp_claim_frame.specs.hwp_core.Unholds as unholds
+use Rattle.hwp_claim_frame.specs.Claims.{HasMarked, SawPoison}
+use Rattle.hwp_claim_frame.specs.Grabs.{WasFree}
+use Rattle.hwp_claim_frame.specs.Meets.{AsTaken, HoldsMet}
 use Rattle.hwp_soft_move.specs.declared.discard.Discard.{Discard}
 use Rattle.hwp_soft_move.specs.declared.relocate.Relocate.{Relocate}
 use Rattle.hwp_soft_move.specs.declared.seize.Seize.{Seize}

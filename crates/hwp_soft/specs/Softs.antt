@@ -1,31 +1,31 @@
 -- A frame taken out of use while its content is good: the task's states, its steps and what they come to.
 use Rattle.std.specs.Prelude.{◌≡◌, ◌⊎◌, ℕ, ◌+◌, ◌*◌, ◌-◌, ◌<◌, ◌==◌, Bool, true, false, cond, [], ◌∷◌, ◌++◌, Option, Some, None, is_none, length, MatchBool}
-use Rattle.hwp_core.specs.hwp_geom.declared.Frame.{Frame}
-use Rattle.hwp_core.specs.hwp_geom.declared.Layout.{Layout}
-use Rattle.hwp_core.specs.hwp_geom.declared.Page.{Page}
-use Rattle.hwp_core.specs.hwp_geom.declared.Who.{Who}
-use Rattle.hwp_core.specs.hwp_page.declared.At.{At}
-use Rattle.hwp_core.specs.hwp_page.declared.What.TheVariants as entries
-use Rattle.hwp_core.specs.hwp_page.History.{BodyValue}
-use Rattle.hwp_core.specs.hwp_page.Step.{Allowed}
-use Rattle.hwp_core.specs.hwp_words.Frames.{cycle_of, is_poisoned}
-use Rattle.hwp_core.specs.hwp_words.Stops.{is_stopped}
-use Rattle.hwp_core.specs.hwp_core_rule.declared.SharedWord.TheVariants as places
-use Rattle.hwp_core.specs.hwp_core_rule.declared.Step.{Step}
-use Rattle.hwp_core.specs.hwp_core_rule.declared.Step.TheVariants as steps
-use Rattle.hwp_core.specs.hwp_core_rule.Words.{Words}
-use Rattle.hwp_core.specs.hwp_core_rule.declared.Turn.{Turn}
-use Rattle.hwp_core.specs.hwp_core_rule.declared.Turn.TheVariants.{Moved, Answered}
-use Rattle.hwp_core.specs.hwp_core_rule.Ranks.{free_room, pass}
-use Rattle.hwp_core.specs.declared.release.Release.{Release}
+use Rattle.hwp_claim_frame.specs.hwp_geom.declared.Frame.{Frame}
+use Rattle.hwp_claim_frame.specs.hwp_geom.declared.Layout.{Layout}
+use Rattle.hwp_claim_frame.specs.hwp_geom.declared.Page.{Page}
+use Rattle.hwp_claim_frame.specs.hwp_geom.declared.Who.{Who}
+use Rattle.hwp_claim_frame.specs.hwp_page.declared.At.{At}
+use Rattle.hwp_claim_frame.specs.hwp_page.declared.What.TheVariants as entries
+use Rattle.hwp_claim_frame.specs.hwp_page.History.{BodyValue}
+use Rattle.hwp_claim_frame.specs.hwp_page.Step.{Allowed}
+use Rattle.hwp_claim_frame.specs.hwp_words.Frames.{cycle_of, is_poisoned}
+use Rattle.hwp_claim_frame.specs.hwp_words.Stops.{is_stopped}
+use Rattle.hwp_claim_frame.specs.hwp_core_rule.declared.SharedWord.TheVariants as places
+use Rattle.hwp_claim_frame.specs.hwp_core_rule.declared.Step.{Step}
+use Rattle.hwp_claim_frame.specs.hwp_core_rule.declared.Step.TheVariants as steps
+use Rattle.hwp_claim_frame.specs.hwp_core_rule.Words.{Words}
+use Rattle.hwp_claim_frame.specs.hwp_core_rule.declared.Turn.{Turn}
+use Rattle.hwp_claim_frame.specs.hwp_core_rule.declared.Turn.TheVariants.{Moved, Answered}
+use Rattle.hwp_claim_frame.specs.hwp_core_rule.Ranks.{free_room, pass}
+use Rattle.hwp_claim_frame.specs.hwp_core.declared.release.Release.{Release}
 use Rattle.hwp_fault_fill.specs.declared.take.Take.{Take}
 use Rattle.hwp_fault_fill.specs.declared.take.TakeAnswer.{TakeAnswer}
 use Rattle.hwp_fault_fill.specs.declared.take.TakeAnswer.TheVariants as take_answers
-use Rattle.hwp_core.specs.declared.unhold.Unhold.{Unhold}
-use Rattle.hwp_core.specs.GiveUps as give_ups
-use Rattle.hwp_core.specs.Releases as releases
+use Rattle.hwp_claim_frame.specs.hwp_core.declared.unhold.Unhold.{Unhold}
+use Rattle.hwp_claim_frame.specs.hwp_core.GiveUps as give_ups
+use Rattle.hwp_claim_frame.specs.hwp_core.Releases as releases
 use Rattle.hwp_fault_fill.specs.Takes as takes
-use Rattle.hwp_core.specs.Unholds as unholds
+use Rattle.hwp_claim_frame.specs.hwp_core.Unholds as unholds
 use Rattle.hwp_soft_move.specs.declared.discard.Discard.{Discard}
 use Rattle.hwp_soft_move.specs.declared.relocate.Relocate.{Relocate}
 use Rattle.hwp_soft_move.specs.declared.relocate.RelocateAt.{RelocateAt}

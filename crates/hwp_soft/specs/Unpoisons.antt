@@ -1,30 +1,30 @@
 -- A frame's poison taken back: the task's states, its steps and what they come to.
 use Rattle.std.specs.Prelude.{◌≡◌, ◌≢◌, ℕ, ◌+◌, ◌*◌, ◌<◌, ◌==◌, ◌&&◌, Bool, true, false, not, cond, [], ◌∷◌, Option, Some, None, slice_index}
-use Rattle.hwp_core.specs.hwp_geom.declared.Cpu.{Cpu}
-use Rattle.hwp_core.specs.hwp_geom.declared.Frame.{Frame}
-use Rattle.hwp_core.specs.hwp_geom.declared.Layout.{Layout}
-use Rattle.hwp_core.specs.hwp_geom.declared.Who.{Who}
-use Rattle.hwp_core.specs.hwp_geom.Limits.{command_limit}
-use Rattle.hwp_core.specs.hwp_words.Counters.{hardware_of}
-use Rattle.hwp_core.specs.hwp_words.Frames.{count_of, cycle_of, is_handled, is_locked, is_poisoned, owner_of}
-use Rattle.hwp_core.specs.hwp_words.Stops.{is_stopped}
-use Rattle.hwp_core.specs.hwp_core_rule.declared.Mark.{Mark}
-use Rattle.hwp_core.specs.hwp_core_rule.declared.MarkKind.TheVariants as mark_kinds
-use Rattle.hwp_core.specs.hwp_core_rule.declared.SharedWord.TheVariants as places
-use Rattle.hwp_core.specs.hwp_core_rule.declared.Step.{Step}
-use Rattle.hwp_core.specs.hwp_core_rule.declared.Step.TheVariants as steps
-use Rattle.hwp_core.specs.hwp_core_rule.declared.View.{View}
-use Rattle.hwp_core.specs.hwp_core_rule.Lists.{SomeMember}
-use Rattle.hwp_core.specs.hwp_core_rule.Views.{unpoisoned}
-use Rattle.hwp_core.specs.hwp_core_rule.Words.{Words}
-use Rattle.hwp_core.specs.hwp_core_rule.parts.Marks.{revivals_by}
-use Rattle.hwp_core.specs.hwp_core_rule.declared.Turn.{Turn}
-use Rattle.hwp_core.specs.hwp_core_rule.declared.Turn.TheVariants.{Moved, Changed}
-use Rattle.hwp_core.specs.hwp_core_rule.Calls.{IsOnTurn}
-use Rattle.hwp_core.specs.hwp_core_rule.Hands.{Hand, hand_of, empty}
-use Rattle.hwp_core.specs.hwp_core_rule.Ranks.{stale, failure_weight, stale_weight}
-use Rattle.hwp_core.specs.hwp_core_rule.Known.{HasMadeNone, Saw, SawStop}
-use Rattle.hwp_core.specs.hwp_core_rule.Turns.{Member}
+use Rattle.hwp_claim_frame.specs.hwp_geom.declared.Cpu.{Cpu}
+use Rattle.hwp_claim_frame.specs.hwp_geom.declared.Frame.{Frame}
+use Rattle.hwp_claim_frame.specs.hwp_geom.declared.Layout.{Layout}
+use Rattle.hwp_claim_frame.specs.hwp_geom.declared.Who.{Who}
+use Rattle.hwp_claim_frame.specs.hwp_geom.Limits.{command_limit}
+use Rattle.hwp_claim_frame.specs.hwp_words.Counters.{hardware_of}
+use Rattle.hwp_claim_frame.specs.hwp_words.Frames.{count_of, cycle_of, is_handled, is_locked, is_poisoned, owner_of}
+use Rattle.hwp_claim_frame.specs.hwp_words.Stops.{is_stopped}
+use Rattle.hwp_claim_frame.specs.hwp_core_rule.declared.Mark.{Mark}
+use Rattle.hwp_claim_frame.specs.hwp_core_rule.declared.MarkKind.TheVariants as mark_kinds
+use Rattle.hwp_claim_frame.specs.hwp_core_rule.declared.SharedWord.TheVariants as places
+use Rattle.hwp_claim_frame.specs.hwp_core_rule.declared.Step.{Step}
+use Rattle.hwp_claim_frame.specs.hwp_core_rule.declared.Step.TheVariants as steps
+use Rattle.hwp_claim_frame.specs.hwp_core_rule.declared.View.{View}
+use Rattle.hwp_claim_frame.specs.hwp_core_rule.Lists.{SomeMember}
+use Rattle.hwp_claim_frame.specs.hwp_core_rule.Views.{unpoisoned}
+use Rattle.hwp_claim_frame.specs.hwp_core_rule.Words.{Words}
+use Rattle.hwp_claim_frame.specs.hwp_core_rule.parts.Marks.{revivals_by}
+use Rattle.hwp_claim_frame.specs.hwp_core_rule.declared.Turn.{Turn}
+use Rattle.hwp_claim_frame.specs.hwp_core_rule.declared.Turn.TheVariants.{Moved, Changed}
+use Rattle.hwp_claim_frame.specs.hwp_core_rule.Calls.{IsOnTurn}
+use Rattle.hwp_claim_frame.specs.hwp_core_rule.Hands.{Hand, hand_of, empty}
+use Rattle.hwp_claim_frame.specs.hwp_core_rule.Ranks.{stale, failure_weight, stale_weight}
+use Rattle.hwp_claim_frame.specs.hwp_core_rule.Known.{HasMadeNone, Saw, SawStop}
+use Rattle.hwp_claim_frame.specs.hwp_core_rule.Turns.{Member}
 use Rattle.hwp_soft.specs.declared.unpoison.Unpoison.{Unpoison}
 use Rattle.hwp_soft.specs.declared.unpoison.UnpoisonAt.{UnpoisonAt}
 use Rattle.hwp_soft.specs.declared.unpoison.UnpoisonAt.TheVariants as at

@@ -1,6 +1,6 @@
 ghost use Rattle.std.specs.Prelude.{◌≡◌};
 
-use hwp_core::{Body, HeldSlots, SlotRoom};
+use hwp_claim_frame::{Body, HeldSlots, SlotRoom};
 use std::marker::Model;
 
 /// The body of a page that is to move, with room for its translations in use. Clauses see it as the body.
@@ -11,8 +11,8 @@ pub(crate) struct Movable {
 }
 
 impl Model for Movable {
-    ghost use Rattle.hwp_core.specs.hwp_page.History.{BodyValue};
-    ghost use Rattle.hwp_core.specs.hwp_kill.contracts.Slots as slots;
+    ghost use Rattle.hwp_claim_frame.specs.hwp_page.History.{BodyValue};
+    ghost use Rattle.hwp_claim_frame.specs.hwp_kill.contracts.Slots as slots;
     ghost use Rattle.std.specs.Coded.{codes};
 
     ghost Value = { BodyValue };

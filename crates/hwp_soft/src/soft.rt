@@ -1,11 +1,11 @@
 ghost use Rattle.std.specs.Prelude.{◌≡◌, false, true, cond, Some};
-ghost use Rattle.hwp_core.specs.Releases as releases;
-ghost use Rattle.hwp_core.specs.hwp_core_rule.declared.Turn.TheVariants.{Answered, Moved};
+ghost use Rattle.hwp_claim_frame.specs.hwp_core.Releases as releases;
+ghost use Rattle.hwp_claim_frame.specs.hwp_core_rule.declared.Turn.TheVariants.{Answered, Moved};
 ghost use Rattle.hwp_soft.specs.declared.soft.SoftAt.TheVariants as states;
 ghost use Rattle.hwp_soft.specs.Softs.{begin, answer, is_held, is_movable, IsHeld, after_stop, after_seize, AfterBad, given_up, after_take_by, AfterPoison, CanMakeEntry, Moves, let_go, ended, Shows, Follows};
 
 use crate::movable::Movable;
-use hwp_core::{
+use hwp_claim_frame::{
     At, Body, Entry, Frame, FrameWord, GiveUp, Layout, Mask, Page, Ranked, Release, Scheduled,
     SharedWord, SlotRoom, Step, Task, Turn, Unhold, What, Who, is_stopped, let_go_of,
 };

@@ -1,8 +1,8 @@
 ghost use Rattle.std.specs.Prelude.{◌≡◌};
-ghost use Rattle.hwp_core.specs.hwp_core_rule.declared.Turn.TheVariants.{Moved};
+ghost use Rattle.hwp_claim_frame.specs.hwp_core_rule.declared.Turn.TheVariants.{Moved};
 ghost use Rattle.hwp_soft.specs.Unpoisons.{after_bad, after_count, after_frame, after_revive, after_stop, answer, begin, is_revivable};
 
-use hwp_claim::{
+use hwp_claim_frame::{
     Body, CounterWord, Frame, FrameWord, Layout, Mask, Ranked, Scheduled, SharedWord, Step, Task,
     Turn, Who, is_stopped,
 };

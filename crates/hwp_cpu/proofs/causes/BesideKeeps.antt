@@ -55,7 +55,7 @@ use Rattle.hwp_cpu_command.specs.hwp_fault.hwp_fault_fill.declared.take.TakeAnsw
 use Rattle.hwp_cpu_command.specs.hwp_fault.hwp_fault_fill.declared.take.TakeAnswer.TheVariants as take_answers
 use Rattle.hwp_cpu_command.specs.hwp_fault.hwp_fault_fill.Takes as takes
 use Rattle.hwp_law_served.specs.hwp_claim_frame.Meets.{AsTaken}
-use Rattle.hwp_cpu_command.proofs.of_hwp_soft.of_hwp_claim.of_hwp_claim_frame.ViewKeeps.{Account, account_of, kept, unlock-only}
+use Rattle.hwp_cpu_command.proofs.of_hwp_claim.of_hwp_claim_frame.ViewKeeps.{Account, account_of, kept, unlock-only}
 use Rattle.hwp_cpu_command.proofs.of_hwp_soft.SoftFits.{unhold-only}
 use Rattle.hwp_cpu_command.proofs.of_hwp_soft.SpareSteps.{free-stays}
 use Rattle.hwp_law_served.specs.hwp_cpu_check.declared.EventOutcome.{EventOutcome}

@@ -53,7 +53,7 @@ use Rattle.hwp_cpu_command.specs.hwp_claim.declared.inject.InjectAt.{InjectAt}
 use Rattle.hwp_cpu_command.specs.hwp_claim.declared.inject.InjectAt.TheVariants as inject_at
 use Rattle.hwp_cpu_command.specs.hwp_claim.Fails as fails
 use Rattle.hwp_cpu_command.specs.hwp_claim.Injects as injects
-use Rattle.hwp_cpu_command.proofs.of_hwp_claim.Quiet.{IsQuiet, PlansQuiet, leaves}
+use Rattle.hwp_cpu_command.proofs.of_hwp_claim.of_hwp_claim_frame.Quiet.{IsQuiet, PlansQuiet, leaves}
 use Rattle.hwp_cpu_command.specs.hwp_fault.Accesses as accesses
 use Rattle.hwp_cpu_command.specs.hwp_cpu_check.Checks.{Check}
 use Rattle.hwp_cpu_command.specs.hwp_cpu_check.declared.Handler.{Handler}

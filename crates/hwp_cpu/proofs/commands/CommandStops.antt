@@ -102,7 +102,7 @@ use Rattle.hwp_cpu_command.specs.hwp_fault.declared.Request.{Request}
 use Rattle.hwp_cpu_command.specs.hwp_fault.declared.access.AccessAt.{AccessAt}
 use Rattle.hwp_cpu_command.specs.hwp_fault.declared.access.AccessAt.TheVariants as access_at
 use Rattle.hwp_cpu_command.specs.hwp_fault.Accesses as accesses
-use Rattle.hwp_cpu_command.proofs.of_hwp_claim.Quiet.{leaves}
+use Rattle.hwp_cpu_command.proofs.of_hwp_claim.of_hwp_claim_frame.Quiet.{leaves}
 use Rattle.hwp_cpu_command.specs.hwp_cpu_access.declared.Instruction.{Instruction}
 use Rattle.hwp_cpu_command.specs.hwp_cpu_access.declared.InstructionAnswer.{InstructionAnswer}
 use Rattle.hwp_cpu_command.specs.hwp_cpu_access.declared.InstructionAnswer.TheVariants as instruction_answers

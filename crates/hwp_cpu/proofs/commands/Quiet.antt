@@ -21,7 +21,7 @@ use Rattle.hwp_cpu_command.specs.hwp_claim_frame.declared.meet.MeetAt.TheVariant
 use Rattle.hwp_cpu_command.specs.hwp_claim_frame.Claims as claims
 use Rattle.hwp_cpu_command.specs.hwp_claim_frame.Grabs as grabs
 use Rattle.hwp_cpu_command.specs.hwp_claim_frame.Meets as meets
-use Rattle.hwp_cpu_command.proofs.of_hwp_claim.Quiet.{PlansQuiet, clear, give-up, release, unhold, unlock}
+use Rattle.hwp_cpu_command.proofs.of_hwp_claim.of_hwp_claim_frame.Quiet.{PlansQuiet, clear, give-up, release, unhold, unlock}
 use Rattle.hwp_cpu_command.proofs.of_hwp_cpu_access.Quiet.{hold}
 use Rattle.hwp_cpu_command.specs.hwp_soft_move.declared.seize.SeizeAt.{SeizeAt}
 use Rattle.hwp_cpu_command.specs.hwp_soft_move.declared.seize.SeizeAt.TheVariants as seize_at

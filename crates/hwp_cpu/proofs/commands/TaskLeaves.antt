@@ -25,7 +25,8 @@ use Rattle.hwp_cpu_command.specs.hwp_claim.declared.fail.FailAt.{FailAt}
 use Rattle.hwp_cpu_command.specs.hwp_claim.declared.fail.FailAt.TheVariants as fail_at
 use Rattle.hwp_cpu_command.specs.hwp_claim.Fails as fails
 use Rattle.hwp_cpu_command.specs.hwp_claim.Injects.{recovers_at, recovers_in}
-use Rattle.hwp_cpu_command.proofs.of_hwp_claim.Quiet.{Alike, IsQuiet, PlansQuiet, act, give-up, leaves, release, unhold, unlock}
+use Rattle.hwp_cpu_command.proofs.of_hwp_claim.ActQuiet.{act}
+use Rattle.hwp_cpu_command.proofs.of_hwp_claim.of_hwp_claim_frame.Quiet.{Alike, IsQuiet, PlansQuiet, give-up, leaves, release, unhold, unlock}
 use Rattle.hwp_cpu_command.specs.hwp_cpu_check.declared.Handler.{Handler}
 use Rattle.hwp_cpu_command.specs.hwp_cpu_check.declared.handler.HandlerAt.{HandlerAt}
 use Rattle.hwp_cpu_command.specs.hwp_cpu_check.declared.handler.HandlerAt.TheVariants as handler_at

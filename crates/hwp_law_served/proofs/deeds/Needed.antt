@@ -13,20 +13,20 @@ use Rattle.hwp_plain.specs.hwp_core_rule.declared.View.{View}
 use Rattle.hwp_plain.specs.hwp_core_rule.Lists.{EachMember}
 use Rattle.hwp_plain.proofs.of_hwp_core_rule.MoreEntries.{each-append}
 use Rattle.hwp_plain.specs.hwp_core_rule.Known.{deeds}
-use Rattle.hwp_soft.specs.hwp_claim_act.declared.Failed.{Failed}
-use Rattle.hwp_soft.specs.hwp_claim_act.Abandoned.{failed_of}
-use Rattle.hwp_soft.specs.hwp_claim_act.Abandoned as abandoned
-use Rattle.hwp_soft.specs.hwp_claim_act.Abandons.{signals_now}
+use Rattle.hwp_cpu_row.specs.hwp_claim_act.declared.Failed.{Failed}
+use Rattle.hwp_cpu_row.specs.hwp_claim_act.Abandoned.{failed_of}
+use Rattle.hwp_cpu_row.specs.hwp_claim_act.Abandoned as abandoned
+use Rattle.hwp_cpu_row.specs.hwp_claim_act.Abandons.{signals_now}
 use Rattle.hwp_law.specs.hwp_severity.declared.Severity.{Severity}
 use Rattle.hwp_law.specs.hwp_severity.declared.Severity.TheVariants as severities
 use Rattle.hwp_law.specs.hwp_script_read.declared.Command.{Command}
 use Rattle.hwp_law.specs.hwp_report_text.declared.Answer.{Answer}
 use Rattle.hwp_law.specs.Commands.{current_thread}
 use Rattle.hwp_law.specs.Entries.{IsRequiredBy}
-use Rattle.hwp_soft.specs.hwp_claim.declared.Found.{Found}
+use Rattle.hwp_cpu_row.specs.hwp_claim.declared.Found.{Found}
 use Rattle.hwp_cpu_row.specs.declared.Row.{Row}
 use Rattle.hwp_cpu_row.specs.hwp_cpu_check.declared.EventOutcome.{EventOutcome}
-use Rattle.hwp_soft.specs.hwp_claim.Done.{entered_by}
+use Rattle.hwp_cpu_row.specs.hwp_claim.Done.{entered_by}
 use Rattle.hwp_cpu_row.specs.hwp_cpu_check.Done.{failed_by, failed_in}
 use Rattle.hwp_cpu_row.specs.hwp_cpu_check.Told.{required_by}
 use Rattle.hwp_law_served.specs.Accounts.{IsAccounted, failures_in, found_in, own_failure}

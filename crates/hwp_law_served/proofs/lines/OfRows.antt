@@ -18,8 +18,8 @@ use Rattle.hwp_plain.specs.hwp_core_rule.declared.State.{State}
 use Rattle.hwp_plain.specs.hwp_core_rule.declared.View.{View}
 use Rattle.hwp_plain.specs.hwp_core_rule.Lists.{EachMember}
 use Rattle.hwp_plain.specs.hwp_core_rule.Boards.{view_of}
-use Rattle.hwp_soft.specs.hwp_claim_act.Abandoned.{IsOfPage}
-use Rattle.hwp_soft.specs.hwp_claim.Fails.{IsPageless}
+use Rattle.hwp_cpu_row.specs.hwp_claim_act.Abandoned.{IsOfPage}
+use Rattle.hwp_cpu_row.specs.hwp_claim.Fails.{IsPageless}
 use Rattle.hwp_law.specs.hwp_script_read.declared.Command.{Command}
 use Rattle.hwp_law.specs.hwp_script_read.declared.Command.TheVariants as commands
 use Rattle.hwp_law.specs.hwp_script_read.declared.Script.{Script}
@@ -33,7 +33,7 @@ use Rattle.hwp_law.specs.Commands.{current_thread}
 use Rattle.hwp_law.specs.Outcomes.{outcome_answer}
 use Rattle.hwp_law.specs.Records.{is_kernel_found, is_moved}
 use Rattle.hwp_law_served.proofs.Homes.{there-is}
-use Rattle.hwp_soft.specs.hwp_claim.declared.Found.{Found}
+use Rattle.hwp_cpu_row.specs.hwp_claim.declared.Found.{Found}
 use Rattle.hwp_cpu_row.specs.declared.FrameChange.{FrameChange}
 use Rattle.hwp_cpu_row.specs.declared.FrameChange.TheVariants as owns
 use Rattle.hwp_cpu_row.specs.declared.Row.{Row}

@@ -31,7 +31,7 @@ use Rattle.hwp_law.specs.Commands.{current_thread}
 use Rattle.hwp_law.specs.hwp_severity.declared.Arrival.{Arrival}
 use Rattle.hwp_law.specs.Outcomes.{outcome_act}
 use Rattle.hwp_law.specs.Records.{result_of}
-use Rattle.hwp_soft.specs.hwp_claim.declared.Found.{Found}
+use Rattle.hwp_cpu_row.specs.hwp_claim.declared.Found.{Found}
 use Rattle.hwp_cpu_row.specs.hwp_cpu_check.declared.Held.{Held}
 use Rattle.hwp_cpu_row.specs.hwp_cpu_check.declared.EventOutcome.{EventOutcome}
 use Rattle.hwp_cpu_row.specs.hwp_cpu_check.Events.{graded_in}

@@ -1,5 +1,5 @@
 use Rattle.std.proofs.Common.{length, ap, ◌∙◌}
-use Rattle.hwp_core.specs.hwp_page.History.{BodyValue}
+use Rattle.hwp_claim_frame.specs.hwp_page.History.{BodyValue}
 use Rattle.hwp_soft.specs.Softs.{with_entry}
 use Rattle.hwp_soft.proofs.MoveBegins.{begins-moving}
 use Rattle.hwp_soft.proofs.soft.relocate.Goals as goal

@@ -1,46 +1,37 @@
 -- Steps that set no policy, neither mark nor count a frame, damage no line and don't stop the machine leave what a view lists of
--- these; and once its frame is claimed a failure makes only such.
-use Rattle.std.proofs.Common.{◌≡◌, ℕ, ◌==◌, Bool, true, false, cond, Option, Some, None, refl, ap, ◌∙◌, subst}
-use Rattle.hwp_claim_frame.specs.hwp_geom.declared.Frame.{Frame}
-use Rattle.hwp_claim_frame.specs.hwp_geom.declared.Layout.{Layout}
-use Rattle.hwp_claim_frame.specs.hwp_geom.declared.Page.{Page}
-use Rattle.hwp_claim_frame.specs.hwp_geom.declared.Thread.{Thread}
-use Rattle.hwp_claim_frame.specs.hwp_geom.declared.VSlot.{VSlot}
-use Rattle.hwp_claim_frame.specs.hwp_geom.declared.Who.{Who}
-use Rattle.hwp_claim_frame.specs.hwp_page.History.{BodyValue}
-use Rattle.hwp_claim_frame.specs.hwp_core_rule.declared.InHand.{InHand}
-use Rattle.hwp_claim_frame.specs.hwp_core_rule.declared.Log.{Log}
-use Rattle.hwp_claim_frame.specs.hwp_core_rule.declared.SharedWord.{SharedWord}
-use Rattle.hwp_claim_frame.specs.hwp_core_rule.declared.SharedWord.TheVariants as places
-use Rattle.hwp_claim_frame.specs.hwp_core_rule.declared.Step.{Step}
-use Rattle.hwp_claim_frame.specs.hwp_core_rule.declared.Step.TheVariants as steps
-use Rattle.hwp_claim_frame.specs.hwp_core_rule.declared.View.{View}
-use Rattle.hwp_claim_frame.specs.hwp_core_rule.Logs.{log_of}
-use Rattle.hwp_claim_frame.specs.hwp_core_rule.Steps.{goes}
-use Rattle.hwp_claim_frame.specs.hwp_core_rule.Views.{body_of, listed_of, loaded, noted, put_home, taken, view_by}
-use Rattle.hwp_claim_frame.specs.hwp_core_rule.Calls.{Steps}
-use Rattle.hwp_claim_frame.proofs.of_hwp_core_rule.tasks.StepLeaves.{content_of}
-use Rattle.hwp_claim_frame.specs.hwp_core.declared.give_up.GiveUpAt.{GiveUpAt}
-use Rattle.hwp_claim_frame.specs.hwp_core.declared.give_up.GiveUpAt.TheVariants as give_up_at
-use Rattle.hwp_claim_frame.specs.hwp_core.declared.release.ReleaseAt.{ReleaseAt}
-use Rattle.hwp_claim_frame.specs.hwp_core.declared.release.ReleaseAt.TheVariants as release_at
-use Rattle.hwp_claim_frame.specs.hwp_core.declared.unhold.UnholdAt.{UnholdAt}
-use Rattle.hwp_claim_frame.specs.hwp_core.declared.unhold.UnholdAt.TheVariants as unhold_at
-use Rattle.hwp_claim_frame.specs.hwp_core.declared.unlock.UnlockAt.{UnlockAt}
-use Rattle.hwp_claim_frame.specs.hwp_core.declared.unlock.UnlockAt.TheVariants as unlock_at
-use Rattle.hwp_claim_frame.specs.hwp_core.GiveUps as give_ups
-use Rattle.hwp_claim_frame.specs.hwp_core.Releases as releases
-use Rattle.hwp_claim_frame.specs.hwp_core.Unholds as unholds
-use Rattle.hwp_claim_frame.specs.hwp_core.Unlocks as unlocks
-use Rattle.hwp_claim_frame.specs.hwp_core.Clears as clears
-use Rattle.hwp_claim_act.specs.declared.abandon.AbandonAt.{AbandonAt}
-use Rattle.hwp_claim_act.specs.declared.abandon.AbandonAt.TheVariants as abandon_at
-use Rattle.hwp_claim_act.specs.declared.act.Act.{Act}
-use Rattle.hwp_claim_act.specs.declared.act.ActAt.{ActAt}
-use Rattle.hwp_claim_act.specs.declared.act.ActAt.TheVariants as act_at
-use Rattle.hwp_claim_act.specs.Abandons as abandons
-use Rattle.hwp_claim_act.specs.Acts as acts
-use Rattle.hwp_claim_act.specs.Reads as reads
+-- these.
+use Rattle.std.proofs.Common.{◌≡◌, ℕ, ◌==◌, Bool, true, false, cond, Option, Some, None, refl, ap, ◌∙◌}
+use Rattle.hwp_core.specs.hwp_geom.declared.Frame.{Frame}
+use Rattle.hwp_core.specs.hwp_geom.declared.Layout.{Layout}
+use Rattle.hwp_core.specs.hwp_geom.declared.Page.{Page}
+use Rattle.hwp_core.specs.hwp_geom.declared.VSlot.{VSlot}
+use Rattle.hwp_core.specs.hwp_geom.declared.Who.{Who}
+use Rattle.hwp_core.specs.hwp_page.History.{BodyValue}
+use Rattle.hwp_core.specs.hwp_core_rule.declared.InHand.{InHand}
+use Rattle.hwp_core.specs.hwp_core_rule.declared.Log.{Log}
+use Rattle.hwp_core.specs.hwp_core_rule.declared.SharedWord.{SharedWord}
+use Rattle.hwp_core.specs.hwp_core_rule.declared.SharedWord.TheVariants as places
+use Rattle.hwp_core.specs.hwp_core_rule.declared.Step.{Step}
+use Rattle.hwp_core.specs.hwp_core_rule.declared.Step.TheVariants as steps
+use Rattle.hwp_core.specs.hwp_core_rule.declared.View.{View}
+use Rattle.hwp_core.specs.hwp_core_rule.Logs.{log_of}
+use Rattle.hwp_core.specs.hwp_core_rule.Steps.{goes}
+use Rattle.hwp_core.specs.hwp_core_rule.Views.{body_of, listed_of, loaded, noted, put_home, taken, view_by}
+use Rattle.hwp_core.specs.hwp_core_rule.Calls.{Steps}
+use Rattle.hwp_core.proofs.of_hwp_core_rule.tasks.StepLeaves.{content_of}
+use Rattle.hwp_core.specs.declared.give_up.GiveUpAt.{GiveUpAt}
+use Rattle.hwp_core.specs.declared.give_up.GiveUpAt.TheVariants as give_up_at
+use Rattle.hwp_core.specs.declared.release.ReleaseAt.{ReleaseAt}
+use Rattle.hwp_core.specs.declared.release.ReleaseAt.TheVariants as release_at
+use Rattle.hwp_core.specs.declared.unhold.UnholdAt.{UnholdAt}
+use Rattle.hwp_core.specs.declared.unhold.UnholdAt.TheVariants as unhold_at
+use Rattle.hwp_core.specs.declared.unlock.UnlockAt.{UnlockAt}
+use Rattle.hwp_core.specs.declared.unlock.UnlockAt.TheVariants as unlock_at
+use Rattle.hwp_core.specs.GiveUps as give_ups
+use Rattle.hwp_core.specs.Releases as releases
+use Rattle.hwp_core.specs.Unholds as unholds
+use Rattle.hwp_core.specs.Unlocks as unlocks
+use Rattle.hwp_core.specs.Clears as clears
 use Rattle.hwp_claim_frame.specs.Done.{counts_owed}
 
 -- the step sets no policy, neither marks nor counts a frame, damages no line and doesn't stop the machine
@@ -155,32 +146,3 @@ give-up give_up_at.Over = tt
 pub clear : (barred : Bool) (next : Option VSlot) → PlansQuiet (clears.plan_at barred next)
 clear barred None = tt
 clear barred (Some slot) = tt
-
-read-policies : (next : Option Thread) → PlansQuiet (reads.plan_at next)
-read-policies None = tt
-read-policies (Some thread) = tt
-
-abandon : (page : Page) (frame : Frame) (count : ℕ) (body : Option BodyValue) (x : AbandonAt) → PlansQuiet (abandons.plan_at page frame count body x)
-abandon page frame count body abandon_at.SetCache = tt
-abandon page frame count body abandon_at.SetOwner = tt
-abandon page frame count None (abandon_at.Lose file) = tt
-abandon page frame count (Some b) (abandon_at.Lose file) = tt
-abandon page frame count None (abandon_at.Kill number process) = tt
-abandon page frame count (Some b) (abandon_at.Kill number process) = tt
-abandon page frame count body abandon_at.PutRef = tt
-abandon page frame count body abandon_at.Retire = tt
-abandon page frame count body abandon_at.UnlockPage = tt
-abandon page frame count body abandon_at.Over = tt
-
-pub act : (a : Act) → PlansQuiet (acts.plan a)
-act a = which a.at
-  where
-    which : (x : ActAt) → PlansQuiet (acts.plan_at x)
-    which (act_at.Read r) = read-policies r.next
-    which (act_at.Clear c losses failed body) = clear c.barred c.next
-    which (act_at.Abandon b) = abandon b.page b.frame b.count b.body b.at
-    which (act_at.GiveUp g) = give-up g.at
-    which (act_at.Over failed) = tt
-
-pub act-leaves : {layout : Layout} {who : Who} {step : Step} {put : Option Log} {old new : View} {found : ℕ} {got : Option BodyValue} (a : Act) → acts.plan a ≡ Some step → Steps layout who step put old new found got → Alike old new
-act-leaves a is made = leaves made (subst PlansQuiet is (act a))
