@@ -10,16 +10,16 @@ use Rattle.hwp_report_text.specs.hwp_geom.Words.{line, pieces, cut}
 use Rattle.hwp_report_text.proofs.of_hwp_geom.Cuts.{joined, none_is, line-joined, cut-joined_line, pieces-line}
 use Rattle.hwp_report_text.specs.declared.Report.{Report}
 use Rattle.hwp_report_text.specs.ReportText.{report_lines}
-use Rattle.hwp_report_lines.specs.declared.ReportLine.{ReportLine}
+use Rattle.hwp_report.specs.declared.report_line.ReportLine.{ReportLine}
 use Rattle.hwp_report.specs.declared.partial.Partial.{Partial}
 use Rattle.hwp_report.specs.declared.partial.Partial.TheVariants as partials
 use Rattle.hwp_report.specs.Fits.{ReportFits}
-use Rattle.hwp_report_lines.specs.Forms.{FormFits, form_words}
+use Rattle.hwp_report.specs.Forms.{FormFits, form_words}
 use Rattle.hwp_report.specs.Follows.{follow, IsRefused}
 use Rattle.hwp_report.specs.Cutting.{IsCut}
 use Rattle.hwp_report.specs.Texts.{IsTextOf, IsReportOf, Begin, IsFaultAt}
 use Rattle.hwp_report.proofs.LinesRead.{lines_read, forms_text, report_forms, IsReadSoFar}
-use Rattle.hwp_report_lines.proofs.WordsPut.{line_of_form}
+use Rattle.hwp_report.proofs.WordsPut.{line_of_form}
 use Rattle.hwp_report.proofs.TextLaws.{words_of_report, text_of_words, text_of_report}
 use Rattle.hwp_report.proofs.FitsLaws.{report_fits}
 use Rattle.hwp_report.proofs.FormsFit.{forms_fit}
@@ -27,7 +27,7 @@ use Rattle.hwp_report.proofs.FollowLaws.{adds}
 use Rattle.hwp_report.proofs.ReportReads.{onward, onward-none, onward-append, on_report}
 use Rattle.hwp_report.proofs.PartialEnds.{IsWithin, can_finish}
 use Rattle.hwp_report.proofs.HeadBounds.{within}
-use Rattle.hwp_report_lines.proofs.SameForms.{form_unique}
+use Rattle.hwp_report.proofs.SameForms.{form_unique}
 
 -- two texts that begin with a line begin with the same line
 same_first : (f g : ReportLine) (x y : List ℕ) → FormFits f → FormFits g → line (form_words f) ++ x ≡ line (form_words g) ++ y → (f ≡ g) × (x ≡ y)

@@ -10,12 +10,12 @@ use Rattle.hwp_report_text.specs.hwp_page.declared.What.TheVariants as whats
 use Rattle.hwp_report_text.specs.declared.Report.{Report}
 use Rattle.hwp_report_text.specs.declared.FrameLine.{FrameLine}
 use Rattle.hwp_report_text.specs.declared.CpuLine.{CpuLine}
-use Rattle.hwp_report_lines.specs.declared.ReportLine.{ReportLine}
-use Rattle.hwp_report_lines.specs.declared.ReportLine.TheVariants as forms
-use Rattle.hwp_report.specs.Fits.{ReportFits, ListFits, FrameFits, most_numbered, most_told}
-use Rattle.hwp_report_lines.specs.Fits.{MarkFits, EntryFits, SeenFits, SignalFits}
-use Rattle.hwp_report_lines.specs.hwp_report_words.Fits.{CpuLineFits}
-use Rattle.hwp_report_lines.specs.Forms.{FormFits}
+use Rattle.hwp_report.specs.declared.report_line.ReportLine.{ReportLine}
+use Rattle.hwp_report.specs.declared.report_line.ReportLine.TheVariants as forms
+use Rattle.hwp_report.specs.Fits.{ReportFits, ListFits, FrameFits, most_numbered, most_told, MarkFits}
+use Rattle.hwp_report_words.specs.pages.Fits.{EntryFits, SeenFits, SignalFits}
+use Rattle.hwp_report_words.specs.Fits.{CpuLineFits}
+use Rattle.hwp_report.specs.Forms.{FormFits}
 use Rattle.hwp_report.proofs.LinesRead.{numbered_forms, file_forms, frame_forms, what_forms, entry_forms, page_forms, cpu_forms, parts_of, front_forms, framed_forms, paged_forms, ran_forms, report_forms}
 
 All-front : {X : Type 0} (P : X → Type 0) (xs ys : List X) → All P (xs ++ ys) → All P xs

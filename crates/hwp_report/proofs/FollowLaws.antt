@@ -13,8 +13,8 @@ use Rattle.hwp_report_text.specs.hwp_page.declared.What.{What}
 use Rattle.hwp_report_text.specs.hwp_page.declared.What.TheVariants as whats
 use Rattle.hwp_report_text.specs.declared.Stop.{Stop}
 use Rattle.hwp_report_text.specs.declared.FrameLine.{FrameLine}
-use Rattle.hwp_report_lines.specs.declared.ReportLine.{ReportLine}
-use Rattle.hwp_report_lines.specs.declared.ReportLine.TheVariants as forms
+use Rattle.hwp_report.specs.declared.report_line.ReportLine.{ReportLine}
+use Rattle.hwp_report.specs.declared.report_line.ReportLine.TheVariants as forms
 use Rattle.hwp_report.specs.declared.partial.Front.{Front}
 use Rattle.hwp_report.specs.declared.partial.Framed.{Framed}
 use Rattle.hwp_report.specs.declared.partial.Paged.{Paged}
@@ -24,8 +24,8 @@ use Rattle.hwp_report.specs.declared.partial.OpenFailure.{OpenFailure}
 use Rattle.hwp_report.specs.declared.partial.OpenCpu.{OpenCpu}
 use Rattle.hwp_report.specs.declared.partial.Partial.{Partial}
 use Rattle.hwp_report.specs.declared.partial.Partial.TheVariants as partials
-use Rattle.hwp_report_lines.specs.Fits.{PlainFits}
-use Rattle.hwp_report_lines.specs.Forms.{FormFits}
+use Rattle.hwp_report_words.specs.pages.Fits.{PlainFits}
+use Rattle.hwp_report.specs.Forms.{FormFits}
 use Rattle.hwp_report.specs.Follows.{report_of, entry_of, signals_so_far, seen_so_far, after_nothing, after_head, after_stop, open_cpu, open_page, open_frame, after_files, after_frame, add_entry, after_entry, after_seen, after_signal, add_line, after_line, follow}
 use Rattle.hwp_report.proofs.LinesRead.{numbered_forms, file_forms, frame_forms, what_forms, entry_forms, page_forms, cpu_forms, front_forms, framed_forms, paged_forms, ran_forms, page_in_hand, policies_in_hand, signals_in_hand, cpu_in_hand, lines_read}
 

@@ -10,12 +10,12 @@ use Rattle.hwp_report_text.specs.hwp_page.declared.What.TheVariants as whats
 use Rattle.hwp_report_text.specs.declared.Report.{Report}
 use Rattle.hwp_report_text.specs.declared.FrameLine.{FrameLine}
 use Rattle.hwp_report_text.specs.declared.CpuLine.{CpuLine}
-use Rattle.hwp_report_lines.specs.declared.ReportLine.{ReportLine}
-use Rattle.hwp_report_lines.specs.declared.ReportLine.TheVariants as forms
+use Rattle.hwp_report.specs.declared.report_line.ReportLine.{ReportLine}
+use Rattle.hwp_report.specs.declared.report_line.ReportLine.TheVariants as forms
 use Rattle.hwp_report.specs.Fits.{ReportFits, ListFits, FrameFits, most_told}
-use Rattle.hwp_report_lines.specs.Fits.{EntryFits}
-use Rattle.hwp_report_lines.specs.hwp_report_words.Fits.{CpuLineFits}
-use Rattle.hwp_report_lines.specs.Forms.{FormFits}
+use Rattle.hwp_report_words.specs.pages.Fits.{EntryFits}
+use Rattle.hwp_report_words.specs.Fits.{CpuLineFits}
+use Rattle.hwp_report.specs.Forms.{FormFits}
 use Rattle.hwp_report.proofs.LinesRead.{numbered_forms, file_forms, frame_forms, what_forms, entry_forms, page_forms, cpu_forms, parts_of, front_forms, framed_forms, paged_forms, ran_forms, report_forms}
 
 of_file : (n lost : ℕ) → n < 2 ^ 64 → lost < 2 ^ 64 → All FormFits (file_forms n lost)

@@ -5,8 +5,8 @@ use Rattle.std.proofs.lemmas.List.{length-append}
 use Rattle.hwp_report_text.specs.hwp_kill.Limits.{signal_limit}
 use Rattle.hwp_report_text.specs.hwp_kill.declared.Signal.{Signal}
 use Rattle.hwp_report_text.specs.declared.FrameLine.{FrameLine}
-use Rattle.hwp_report_lines.specs.declared.ReportLine.{ReportLine}
-use Rattle.hwp_report_lines.specs.declared.ReportLine.TheVariants as forms
+use Rattle.hwp_report.specs.declared.report_line.ReportLine.{ReportLine}
+use Rattle.hwp_report.specs.declared.report_line.ReportLine.TheVariants as forms
 use Rattle.hwp_report.specs.declared.partial.Front.{Front}
 use Rattle.hwp_report.specs.declared.partial.Framed.{Framed}
 use Rattle.hwp_report.specs.declared.partial.Paged.{Paged}
@@ -15,7 +15,7 @@ use Rattle.hwp_report.specs.declared.partial.OpenPage.{OpenPage}
 use Rattle.hwp_report.specs.declared.partial.OpenFailure.{OpenFailure}
 use Rattle.hwp_report.specs.declared.partial.Partial.{Partial}
 use Rattle.hwp_report.specs.declared.partial.Partial.TheVariants as partials
-use Rattle.hwp_report_lines.specs.Forms.{FormFits}
+use Rattle.hwp_report.specs.Forms.{FormFits}
 use Rattle.hwp_report.specs.Follows.{entry_of, signals_so_far, seen_so_far, open_cpu, open_page, open_frame, after_files, after_frame, add_entry, add_line, follow}
 use Rattle.hwp_report.proofs.FollowLaws.{chosen}
 use Rattle.hwp_report.proofs.PartialEnds.{IsWithin}

@@ -1,3 +1,12 @@
+mod FramesPut
+mod WordsPut
+mod LineParts
+mod SameFrames
+mod SameForms
+mod NoFrames
+mod HeadLaws
+mod NoLines
+mod HeadWords
 mod CutLaws
 mod LinesRead
 mod TextLaws

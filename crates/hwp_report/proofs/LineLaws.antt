@@ -4,9 +4,9 @@ use Rattle.std.proofs.lemmas.List.{length-append}
 use Rattle.std.proofs.lemmas.List.Concat.{flat_map-append}
 use Rattle.std.proofs.lemmas.List.Elements.{All-nil, All-cons, All-append}
 use Rattle.hwp_report_text.specs.hwp_geom.Words.{line}
-use Rattle.hwp_report_lines.specs.declared.ReportLine.{ReportLine}
+use Rattle.hwp_report.specs.declared.report_line.ReportLine.{ReportLine}
 use Rattle.hwp_report.specs.declared.partial.Partial.{Partial}
-use Rattle.hwp_report_lines.specs.Forms.{FormFits, form_words}
+use Rattle.hwp_report.specs.Forms.{FormFits, form_words}
 use Rattle.hwp_report.specs.Follows.{IsNext}
 use Rattle.hwp_report.proofs.LinesRead.{forms_text, lines_read, IsReadSoFar}
 use Rattle.hwp_report.proofs.FollowLaws.{adds}

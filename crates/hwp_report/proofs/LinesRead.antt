@@ -11,8 +11,8 @@ use Rattle.hwp_report_text.specs.hwp_page.declared.What.TheVariants as whats
 use Rattle.hwp_report_text.specs.declared.Report.{Report}
 use Rattle.hwp_report_text.specs.declared.FrameLine.{FrameLine}
 use Rattle.hwp_report_text.specs.declared.CpuLine.{CpuLine}
-use Rattle.hwp_report_lines.specs.declared.ReportLine.{ReportLine}
-use Rattle.hwp_report_lines.specs.declared.ReportLine.TheVariants as forms
+use Rattle.hwp_report.specs.declared.report_line.ReportLine.{ReportLine}
+use Rattle.hwp_report.specs.declared.report_line.ReportLine.TheVariants as forms
 use Rattle.hwp_report.specs.declared.partial.Front.{Front}
 use Rattle.hwp_report.specs.declared.partial.Framed.{Framed}
 use Rattle.hwp_report.specs.declared.partial.Paged.{Paged}
@@ -22,7 +22,7 @@ use Rattle.hwp_report.specs.declared.partial.OpenFailure.{OpenFailure}
 use Rattle.hwp_report.specs.declared.partial.OpenCpu.{OpenCpu}
 use Rattle.hwp_report.specs.declared.partial.Partial.{Partial}
 use Rattle.hwp_report.specs.declared.partial.Partial.TheVariants as partials
-use Rattle.hwp_report_lines.specs.Forms.{FormFits, form_words}
+use Rattle.hwp_report.specs.Forms.{FormFits, form_words}
 
 -- the lines of each item of a list, with its number, counted from n
 abbrev pub numbered_forms : {A : Type 0} → (ℕ → A → List ReportLine) → ℕ → List A → List ReportLine

@@ -16,15 +16,15 @@ use Rattle.hwp_report_text.specs.declared.Answer.TheVariants as answers
 use Rattle.hwp_report_text.specs.declared.CpuLine.{CpuLine}
 use Rattle.hwp_report_text.specs.declared.CpuLine.TheVariants as lines
 use Rattle.hwp_report_text.specs.declared.Report.{Report}
-use Rattle.hwp_report_lines.specs.declared.ReportLine.{ReportLine}
-use Rattle.hwp_report_lines.specs.declared.ReportLine.TheVariants as forms
+use Rattle.hwp_report.specs.declared.report_line.ReportLine.{ReportLine}
+use Rattle.hwp_report.specs.declared.report_line.ReportLine.TheVariants as forms
 use Rattle.hwp_report.specs.declared.partial.OpenPage.{OpenPage}
 use Rattle.hwp_report.specs.declared.partial.OpenFailure.{OpenFailure}
 use Rattle.hwp_report.specs.declared.partial.OpenCpu.{OpenCpu}
 use Rattle.hwp_report.specs.declared.partial.Partial.{Partial}
 use Rattle.hwp_report.specs.declared.partial.Partial.TheVariants as partials
-use Rattle.hwp_report_lines.specs.Fits.{EntryFits}
-use Rattle.hwp_report_lines.specs.Forms.{FormFits}
+use Rattle.hwp_report_words.specs.pages.Fits.{EntryFits}
+use Rattle.hwp_report.specs.Forms.{FormFits}
 use Rattle.hwp_report.specs.Follows.{entry_of, signals_so_far, seen_so_far}
 use Rattle.hwp_report.proofs.LinesRead.{entry_forms}
 use Rattle.hwp_report.proofs.ReportReads.{onward, onward-append, same, differ, if_true, if_false, on_entries, on_policies, on_signals, on_cpu_lines}

@@ -18,9 +18,9 @@ use Rattle.hwp_report_text.specs.declared.FrameLine.{FrameLine}
 use Rattle.hwp_report_text.specs.declared.MarkLine.{MarkLine}
 use Rattle.hwp_report_text.specs.declared.CpuLine.{CpuLine}
 use Rattle.hwp_report_text.specs.declared.Whereabouts.{Whereabouts}
-use Rattle.hwp_report_lines.specs.declared.Failure.{Failure}
-use Rattle.hwp_report_lines.specs.declared.ReportLine.{ReportLine}
-use Rattle.hwp_report_lines.specs.declared.ReportLine.TheVariants as forms
+use Rattle.hwp_report_words.specs.declared.Failure.{Failure}
+use Rattle.hwp_report.specs.declared.report_line.ReportLine.{ReportLine}
+use Rattle.hwp_report.specs.declared.report_line.ReportLine.TheVariants as forms
 use Rattle.hwp_report.specs.declared.partial.Front.{Front}
 use Rattle.hwp_report.specs.declared.partial.Framed.{Framed}
 use Rattle.hwp_report.specs.declared.partial.Paged.{Paged}
@@ -31,7 +31,7 @@ use Rattle.hwp_report.specs.declared.partial.OpenCpu.{OpenCpu}
 use Rattle.hwp_report.specs.declared.partial.Partial.{Partial}
 use Rattle.hwp_report.specs.declared.partial.Partial.TheVariants as partials
 use Rattle.hwp_report.specs.Fits.{ReportFits, ListFits, most_told}
-use Rattle.hwp_report_lines.specs.Fits.{EntryFits}
+use Rattle.hwp_report_words.specs.pages.Fits.{EntryFits}
 use Rattle.hwp_report.specs.Follows.{signals_so_far, seen_so_far, open_cpu, open_page, open_frame, follow}
 use Rattle.hwp_report.proofs.LinesRead.{numbered_forms, file_forms, frame_forms, what_forms, entry_forms, page_forms, cpu_forms, front_forms, framed_forms, paged_forms, ran_forms, report_forms}
 

@@ -14,9 +14,9 @@ use Rattle.hwp_report_text.specs.declared.FrameLine.{FrameLine}
 use Rattle.hwp_report_text.specs.declared.MarkLine.{MarkLine}
 use Rattle.hwp_report_text.specs.declared.CpuLine.{CpuLine}
 use Rattle.hwp_report_text.specs.ReportText.{numbered, file_lines, frame_lines, page_lines, cpu_lines, mark_words, entry_words, entry_lines, lines_below, seen_words, signal_words, cpu_line_words, report_lines, report_text}
-use Rattle.hwp_report_lines.specs.declared.ReportLine.{ReportLine}
-use Rattle.hwp_report_lines.specs.declared.ReportLine.TheVariants as forms
-use Rattle.hwp_report_lines.specs.Forms.{form_words}
+use Rattle.hwp_report.specs.declared.report_line.ReportLine.{ReportLine}
+use Rattle.hwp_report.specs.declared.report_line.ReportLine.TheVariants as forms
+use Rattle.hwp_report.specs.Forms.{form_words}
 use Rattle.hwp_report.proofs.LinesRead.{numbered_forms, file_forms, frame_forms, what_forms, entry_forms, page_forms, cpu_forms, report_forms, forms_text}
 
 words_of_marks : (ms : List MarkLine) → map form_words (map forms.Mark ms) ≡ map mark_words ms

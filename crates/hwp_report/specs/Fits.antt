@@ -2,8 +2,23 @@
 use Rattle.std.specs.Prelude.{ℕ, ◌^◌, ◌-◌, ◌<◌, ◌≤◌, List, length, All, IfSome}
 use Rattle.hwp_report_text.specs.declared.Report.{Report}
 use Rattle.hwp_report_text.specs.declared.FrameLine.{FrameLine}
-use Rattle.hwp_report_lines.specs.Fits.{PlaceFits, MarkFits, EntryFits}
-use Rattle.hwp_report_lines.specs.hwp_report_words.Fits.{StopFits, CpuLineFits}
+use Rattle.hwp_report_text.specs.declared.Whereabouts.{Whereabouts}
+use Rattle.hwp_report_text.specs.declared.Whereabouts.TheVariants as places
+use Rattle.hwp_report_text.specs.declared.MarkLine.{MarkLine}
+use Rattle.hwp_report_text.specs.declared.MarkLine.TheVariants as marks
+use Rattle.hwp_report_words.specs.Words.{WhoFits}
+use Rattle.hwp_report_words.specs.pages.Fits.{EntryFits}
+use Rattle.hwp_report_words.specs.Fits.{StopFits, CpuLineFits}
+
+-- where a frame is
+abbrev pub PlaceFits : Whereabouts → Type 0
+PlaceFits (places.Of page) = page.0 < 2 ^ 16
+PlaceFits place = Unit {0}
+
+-- a mark of a frame's record
+abbrev pub MarkFits : MarkLine → Type 0
+MarkFits (marks.Poisoned cycle who how) = (cycle < 2 ^ 32) × WhoFits who
+MarkFits (marks.Unpoisoned cycle who) = (cycle < 2 ^ 32) × WhoFits who
 
 -- a frame
 pub record FrameFits (frame : FrameLine) : Type 0 where

@@ -1,11 +1,12 @@
 ghost use Rattle.std.specs.Prelude.{◌≡◌, [], ◌∷◌, ◌++◌, is_ok, IfOk, if◌then◌else◌};
 ghost use Rattle.hwp_report.specs.Follows.{add_entry, add_line, after_entry, after_files, after_frame, after_head, after_line, after_nothing, after_seen, after_signal, after_stop, entry_of, follow, open_cpu, open_frame, open_page, report_of, seen_so_far, signals_so_far};
 
-use hwp_report_lines::{Failure, ReportLine};
+use crate::report_line::ReportLine;
 use hwp_report_text::{
     CpuLine, Entry, FrameLine, List, MAX_SIGNALS, OutOfMemory, Report, Seen, Signal, Stop, Version,
     What,
 };
+use hwp_report_words::Failure;
 use std::alloc::Global;
 
 /// The most items for which a list has room before any was read.

@@ -4,8 +4,8 @@ ghost use Rattle.hwp_report.specs.declared.reading.BadReport.TheVariants.{OutOfM
 ghost use Rattle.hwp_report.specs.Texts.{IsFaultOf, IsReportOf};
 
 use crate::cuts::first_line;
+use crate::lines::read_line;
 use crate::partial::Partial;
-use hwp_report_lines::read_line;
 use hwp_report_text::{OutOfMemory, Report};
 use std::alloc::{AllocError, Global};
 

@@ -8,3 +8,4 @@ pub mod SameLines
 mod NoLines
 pub mod WordLists
 mod AnswerWords
+pub mod pages

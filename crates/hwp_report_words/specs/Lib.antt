@@ -3,4 +3,5 @@ pub mod Words
 pub mod Answers
 pub mod Fits
 pub mod LineWords
+pub mod pages
 pub use Rattle.hwp_script_lines.specs as hwp_script_lines

@@ -1,5 +1,0 @@
-use Rattle.hwp_report_lines.proofs.LineLaws.{line_read}
-use Rattle.hwp_report_lines.proofs.lines.read_line.Goals as goal
-
-pub returns : goal.returns
-returns c = line_read c.args.line.now _ _ c.in_ok-words.ensures (rw c.as_slice.ensures.value at c.read_words.ensures)

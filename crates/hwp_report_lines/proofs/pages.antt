@@ -1,3 +1,0 @@
-pub mod WordsPut
-pub mod SameWords
-pub mod NoLines

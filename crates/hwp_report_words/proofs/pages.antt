@@ -1,0 +1,3 @@
+pub mod WordsPut
+pub mod SameWords
+mod NoLines
