@@ -1,2 +1,3 @@
 pub mod ActedOn
 pub mod Scripts
+pub mod Pages

@@ -5,8 +5,10 @@
 mod acted;
 mod acting;
 mod cows;
+mod pages;
 mod pairs;
 
 pub use acted::{ActedScript, acted_on, copy_of, has_fork, has_watch, rows_on, watches};
 pub use cows::freezes_slot;
+pub use pages::{entries_on, entries_through};
 pub use pairs::{answers_to, pairs_of};

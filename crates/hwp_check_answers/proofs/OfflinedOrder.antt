@@ -20,7 +20,7 @@ use Rattle.hwp_check_rules.specs.Answered.{IsBehindEvents}
 use Rattle.hwp_check_rules.specs.Firsts.{IsLeast}
 use Rattle.hwp_check_rules.specs.Rules.{AnswersFit}
 use Rattle.hwp_check_rules.specs.Standing.{cpu_line}
-use Rattle.hwp_check_rules.specs.hwp_check_events.declared.Misfits.{Misfits}
+use Rattle.hwp_check_events.specs.declared.Misfits.{Misfits}
 use Rattle.hwp_check_rules.proofs.OfflinedFaults.{frame-due, none-lacks}
 use Rattle.hwp_check_offlined.specs.Judged.{AreSuch, IsFirstOther, IsJudged, IsTold, LacksNone, LacksOne}
 use Rattle.hwp_check_answers.specs.Facts.{at_number}

@@ -11,9 +11,9 @@ use Rattle.hwp_check_evidence.specs.hwp_report_text.declared.Report.{Report}
 use Rattle.hwp_check_evidence.specs.hwp_banks.Banks.{empty_banks}
 use Rattle.hwp_check_evidence.specs.hwp_law.Events.{AreEventsFrom}
 use Rattle.hwp_check_evidence.specs.hwp_law.Lines.{events_of, seq_of}
-use Rattle.hwp_check_rules.specs.hwp_check_events.Misfits.{AreTold, IsWrong, Lacks, found_by}
-use Rattle.hwp_check_rules.specs.hwp_check_events.Walked.{AllRight, IsFirstRow, IsProcessorJudged, IsWalked, IsWrongRow, LacksSome, is_clean}
-use Rattle.hwp_check_rules.specs.hwp_check_events.declared.Misfits.{Misfits}
+use Rattle.hwp_check_rules.specs.hwp_check_event_line.Misfits.{AreTold, IsWrong, Lacks, found_by}
+use Rattle.hwp_check_events.specs.Walked.{AllRight, IsFirstRow, IsProcessorJudged, IsWalked, IsWrongRow, LacksSome, is_clean}
+use Rattle.hwp_check_events.specs.declared.Misfits.{Misfits}
 use Rattle.hwp_check_rules.specs.AnswerFaults.{IsEventWrong, LacksEvents}
 use Rattle.hwp_check_rules.specs.Answered.{events_before, is_event}
 use Rattle.hwp_check_rules.specs.Standing.{cpu_line}

@@ -17,8 +17,8 @@ use Rattle.hwp_check_evidence.specs.hwp_report_text.declared.FrameLine.{FrameLin
 use Rattle.hwp_check_evidence.specs.hwp_report_text.declared.Report.{Report}
 use Rattle.hwp_check_evidence.specs.hwp_banks.Banks.{empty_banks}
 use Rattle.hwp_check_evidence.specs.hwp_law.Events.{AreEvents, AreEventsFrom}
-use Rattle.hwp_check_rules.specs.hwp_check_events.Misfits.{AreTold}
-use Rattle.hwp_check_rules.proofs.of_hwp_check_events.Verdicts.{both}
+use Rattle.hwp_check_rules.specs.hwp_check_event_line.Misfits.{AreTold}
+use Rattle.hwp_check_events.proofs.Verdicts.{both}
 use Rattle.hwp_check_rules.specs.AnswerFaults.{LacksEvents}
 use Rattle.hwp_check_rules.specs.Firsts.{IsLeast}
 use Rattle.hwp_check_rules.specs.Rules.{ShapeFits}

@@ -1,6 +1,6 @@
 -- The first line of a processor where its event lines are wrong, by what was found of them.
 use Rattle.std.specs.Prelude.{ℕ, ◌+◌, cond, Option, Some, option_map}
-use Rattle.hwp_check_rules.specs.hwp_check_events.declared.Misfits.{Misfits}
+use Rattle.hwp_check_events.specs.declared.Misfits.{Misfits}
 
 -- its heading, where some lack; else the line of the first row that shows a wrong one
 abbrev pub line_of : Misfits → ℕ → Option ℕ

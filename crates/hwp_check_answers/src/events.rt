@@ -8,10 +8,8 @@ ghost use Rattle.hwp_check_answers.specs.Joining.{BreakEvents, IsEventLine};
 ghost use Rattle.hwp_check_answers.specs.Firsts.{line_of};
 ghost use Rattle.hwp_check_rules.specs.hwp_check_acting.ActedOn.{copies_in};
 
-use hwp_check_rules::{
-    Cpu, List, Misfits, OutOfMemory, Report, Script, VSlot, checkers_of, cpu_at, processor_faults,
-    small_masks,
-};
+use hwp_check_events::{Misfits, checkers_of, processor_faults, small_masks};
+use hwp_check_rules::{Cpu, List, OutOfMemory, Report, Script, VSlot, cpu_at};
 use std::alloc::Global;
 
 /// The first line of a processor, whose heading stands at `heading`, where its event lines are wrong.

@@ -7,4 +7,6 @@ pub mod Found
 pub mod Lines
 pub mod Scrubs
 pub mod Scrubbing
+pub mod Accesses
+pub mod Misfits
 pub use Rattle.hwp_law.specs as hwp_law

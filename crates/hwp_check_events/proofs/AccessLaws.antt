@@ -16,7 +16,7 @@ use Rattle.hwp_banks.specs.Banks.{Banks, held_from}
 use Rattle.hwp_law.specs.hwp_severity.declared.Arrival.{Arrival}
 use Rattle.hwp_law.specs.Events.{AreAccessChecks, IsDamaged}
 use Rattle.hwp_law.specs.hwp_report_text.declared.EventLine.{EventLine}
-use Rattle.hwp_check_events.specs.Accesses.{Access, IsAccessLine, IsOwnLine, asked_by_access, asked_first, begins_in_panic, access_of}
+use Rattle.hwp_check_event_line.specs.Accesses.{Access, IsAccessLine, IsOwnLine, asked_by_access, asked_first, begins_in_panic, access_of}
 use Rattle.hwp_check_event_line.specs.Found.{IsRawLine, beside, has_stopper, of_access, own_found, resting}
 use Rattle.hwp_check_event_line.specs.Firsts.{AreRight}
 use Rattle.hwp_check_event_line.proofs.FoundLaws.{banks_at, found-is, held_raw, one-line, stop-is, two-lines}

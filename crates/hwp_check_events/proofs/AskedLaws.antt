@@ -10,7 +10,8 @@ use Rattle.hwp_law.specs.hwp_report_text.declared.Report.{Report}
 use Rattle.hwp_law.specs.hwp_report_text.declared.EventLine.{EventLine}
 use Rattle.hwp_law.specs.hwp_severity.declared.Arrival.{Arrival}
 use Rattle.hwp_check_event_line.specs.Found.{beside, of_access}
-use Rattle.hwp_check_events.specs.Accesses.{Access, IsAccessLine, IsOwnLine, access_by, asked_by_access, asked_first, lines_met}
+use Rattle.hwp_check_event_line.specs.Accesses.{Access, IsAccessLine, IsOwnLine, asked_by_access, asked_first}
+use Rattle.hwp_check_events.specs.Met.{access_by, lines_met}
 use Rattle.hwp_check_events.specs.declared.known.Checks.{Checks}
 use Rattle.hwp_check_events.proofs.AccessLaws.{is-later, of-later}
 use Rattle.hwp_check_events.proofs.CopyLaws.{bool_few}

@@ -21,10 +21,10 @@ use Rattle.hwp_law.specs.Commands.{arrival_of}
 use Rattle.hwp_law.specs.hwp_severity.declared.Arrival.{Arrival}
 use Rattle.hwp_law.specs.Events.{AreEventsOf, AreScrubbed, IsDamaged, IsRaise, is_raised, logged_if_done, AreAccessChecks, access_lines, store_lines}
 use Rattle.hwp_law.specs.Lines.{answer_of}
-use Rattle.hwp_check_events.specs.Accesses.{IsAccessLine, IsRaisedLine, asked_by_access, access_of}
+use Rattle.hwp_check_event_line.specs.Accesses.{IsAccessLine, IsRaisedLine, asked_by_access, access_of}
 use Rattle.hwp_check_event_line.specs.Firsts.{AreRight}
 use Rattle.hwp_check_event_line.specs.Found.{of_access, resting}
-use Rattle.hwp_check_events.specs.Misfits.{IsFit, IsRightLine, Lacks, course_of, leaves, logged_if}
+use Rattle.hwp_check_event_line.specs.Misfits.{IsFit, IsRightLine, Lacks, course_of, leaves, logged_if}
 use Rattle.hwp_check_event_line.specs.Scrubs.{Course, IsScrubbedLine, after, after_all, comes_instead, is_instead, lacking, marked_from, reach_from, turn}
 use Rattle.hwp_check_event_line.specs.Scrubbing.{IsRightIn}
 use Rattle.hwp_check_event_line.specs.declared.Reach.{Reach}

@@ -23,11 +23,12 @@ use Rattle.hwp_law.specs.Commands.{arrival_of}
 use Rattle.hwp_law.specs.hwp_severity.declared.Arrival.{Arrival}
 use Rattle.hwp_law.specs.Events.{is_raised, access_lines, store_lines}
 use Rattle.hwp_law.specs.Lines.{answer_of}
-use Rattle.hwp_check_events.specs.Accesses.{Access, IsAccessLine, IsRaisedLine, access_by, asked_by_access, access_of, lines_met}
+use Rattle.hwp_check_event_line.specs.Accesses.{Access, IsAccessLine, IsRaisedLine, asked_by_access, access_of}
+use Rattle.hwp_check_events.specs.Met.{access_by, lines_met}
 use Rattle.hwp_check_event_line.specs.Firsts.{IsScanned, shown_lines}
 use Rattle.hwp_check_events.specs.Copied.{copied_by}
 use Rattle.hwp_check_events.specs.Judged.{IsAccessJudged, IsJudged, IsRaiseJudged, IsScrubJudged, IsTable}
-use Rattle.hwp_check_events.specs.Misfits.{commands_before, course_of, is_scrubbed, logged_if, low_of}
+use Rattle.hwp_check_event_line.specs.Misfits.{commands_before, course_of, is_scrubbed, logged_if, low_of}
 use Rattle.hwp_check_event_line.specs.Scrubs.{Course, after_all, bound_from, lacking, lowest, reach_from}
 use Rattle.hwp_check_event_line.specs.Scrubbing.{IsRightIn, course_by, low_of as low_by}
 use Rattle.hwp_check_event_line.specs.declared.Faults.{Faults}

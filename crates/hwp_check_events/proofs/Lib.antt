@@ -18,4 +18,3 @@ mod WalkLaws
 mod WalkSteps
 mod CaseLaws
 pub mod Verdicts
-pub use Rattle.hwp_check_acting.proofs as of_hwp_check_acting

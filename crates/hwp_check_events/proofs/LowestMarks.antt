@@ -19,7 +19,7 @@ use Rattle.hwp_law.specs.hwp_report_text.declared.Report.{Report}
 use Rattle.hwp_law.specs.Events.{MeetsMarked, marking}
 use Rattle.hwp_law.specs.Lines.{answer_of}
 use Rattle.hwp_law.specs.Commands.{command_at}
-use Rattle.hwp_check_events.specs.Misfits.{commands_before, is_scrubbed, low_of}
+use Rattle.hwp_check_event_line.specs.Misfits.{commands_before, is_scrubbed, low_of}
 use Rattle.hwp_check_event_line.specs.Scrubs.{lowest, marked_at, place_of}
 use Rattle.hwp_check_event_line.proofs.ScrubForth.{MeetsLow}
 

@@ -16,7 +16,7 @@ use Rattle.hwp_law.specs.hwp_severity.declared.Arrival.{Arrival}
 use Rattle.hwp_law.specs.Events.{IsDamaged}
 use Rattle.hwp_law.specs.hwp_report_text.declared.EventLine.{EventLine}
 use Rattle.hwp_law.specs.Lines.{bad_lines_of}
-use Rattle.hwp_check_events.specs.Accesses.{IsOwnLine}
+use Rattle.hwp_check_event_line.specs.Accesses.{IsOwnLine}
 use Rattle.hwp_check_event_line.specs.Found.{IsCandidate, beside, has_stopper, may_stop, of_access, own_found, stops}
 use Rattle.hwp_check_event_line.proofs.FoundLaws.{same-stop}
 use Rattle.hwp_check_event_line.proofs.LineLaws.{frame-of-line}

@@ -9,7 +9,7 @@ use Rattle.hwp_law.specs.hwp_report_text.declared.Report.{Report}
 use Rattle.hwp_law.specs.Checks.{IsCheck}
 use Rattle.hwp_law.specs.hwp_severity.declared.Arrival.{Arrival}
 use Rattle.hwp_law.specs.hwp_report_text.declared.EventLine.{EventLine}
-use Rattle.hwp_check_events.specs.Accesses.{IsRaisedLine}
+use Rattle.hwp_check_event_line.specs.Accesses.{IsRaisedLine}
 use Rattle.hwp_check_event_line.specs.Found.{IsRawLine, may_stop, resting, stops}
 use Rattle.hwp_check_event_line.specs.Firsts.{AreRight, AreRightTo, IsFirstWrong, shown_lines}
 use Rattle.hwp_check_event_line.specs.declared.Shown.{Shown}

@@ -16,7 +16,7 @@ use Rattle.hwp_law.specs.hwp_script_read.declared.Command.{Command}
 use Rattle.hwp_law.specs.hwp_script_read.declared.Command.TheVariants as commands
 use Rattle.hwp_law.specs.hwp_script_read.declared.Script.{Script}
 use Rattle.hwp_law.specs.Events.{marking}
-use Rattle.hwp_check_events.specs.Misfits.{IsFit}
+use Rattle.hwp_check_event_line.specs.Misfits.{IsFit}
 use Rattle.hwp_check_events.proofs.LowestMarks.{HasLines}
 
 all-at : {X : Type 0} (P : X → Type 0) (xs : List X) (i : ℕ) (x : X) → All P xs → slice_get xs i ≡ Some x → P x

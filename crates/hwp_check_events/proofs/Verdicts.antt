@@ -20,7 +20,7 @@ use Rattle.hwp_law.specs.hwp_report_text.declared.FrameLine.{FrameLine}
 use Rattle.hwp_law.specs.hwp_report_text.declared.Report.{Report}
 use Rattle.hwp_banks.specs.Banks.{empty_banks}
 use Rattle.hwp_law.specs.Events.{AreEventsFrom, IsDamaged}
-use Rattle.hwp_check_events.specs.Misfits.{AreTold}
+use Rattle.hwp_check_event_line.specs.Misfits.{AreTold}
 use Rattle.hwp_check_events.specs.Walked.{AllRight, IsFirstRow, IsProcessorJudged, IsTableOf, IsWalked, IsWrongRow, LacksSome}
 use Rattle.hwp_check_events.specs.declared.misfits.Misfits.{Misfits}
 use Rattle.hwp_check_event_line.proofs.LineLaws.{no-line}

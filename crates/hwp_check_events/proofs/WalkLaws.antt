@@ -16,7 +16,7 @@ use Rattle.hwp_law.specs.Lines.{events_of}
 use Rattle.hwp_check_event_line.specs.Firsts.{AreRight, IsFirstWrong, shown_lines}
 use Rattle.hwp_check_events.specs.Indexed.{shown_from}
 use Rattle.hwp_check_events.specs.Judged.{IsJudged}
-use Rattle.hwp_check_events.specs.Misfits.{IsRightLine, IsWrong, Lacks, found_by, leaves, left_by}
+use Rattle.hwp_check_event_line.specs.Misfits.{IsRightLine, IsWrong, Lacks, found_by, leaves, left_by}
 use Rattle.hwp_check_events.specs.Walked.{AllRight, IsFirstRow, IsWalked, IsWrongRow, LacksSome, joined, joined_wrong, place_at}
 use Rattle.hwp_check_event_line.specs.declared.Faults.{Faults}
 use Rattle.hwp_check_events.specs.declared.misfits.Misfits.{Misfits}

@@ -20,7 +20,7 @@ use Rattle.hwp_law.specs.Commands.{is_check}
 use Rattle.hwp_law.specs.Pairings.{entries_of}
 use Rattle.hwp_check_events.specs.Indexed.{AreChecks, AreFirst, checks_in, shown_from}
 use Rattle.hwp_check_events.specs.Judged.{IsJudged, IsTable}
-use Rattle.hwp_check_events.specs.Misfits.{IsFit, found_by, leaves, left_by}
+use Rattle.hwp_check_event_line.specs.Misfits.{IsFit, found_by, leaves, left_by}
 use Rattle.hwp_check_event_line.specs.Firsts.{shown_lines}
 use Rattle.hwp_check_events.specs.Walked.{HasPlace, IsTableOf, IsWalked, joined, with_mark}
 use Rattle.hwp_check_event_line.specs.declared.Faults.{Faults}

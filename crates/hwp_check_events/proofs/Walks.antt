@@ -11,7 +11,7 @@ use Rattle.hwp_banks.specs.Banks.{empty_banks}
 use Rattle.hwp_law.specs.Events.{AreEventsFrom}
 use Rattle.hwp_law.specs.Lines.{events_of}
 use Rattle.hwp_check_event_line.specs.Found.{resting}
-use Rattle.hwp_check_events.specs.Misfits.{AreTold, IsFit, IsTold, found_by, leaves, left_by}
+use Rattle.hwp_check_event_line.specs.Misfits.{AreTold, IsFit, IsTold, found_by, leaves, left_by}
 use Rattle.hwp_check_events.proofs.LowestMarks.{HasLines}
 use Rattle.hwp_check_events.proofs.CommandEvents.{AreMasks, whole-back, whole-forth}
 use Rattle.hwp_banks.specs.hwp_geom.declared.VSlot.{VSlot}

@@ -1,10 +1,9 @@
 -- The machine checks of stores that copied a page, gathered from the histories.
-use Rattle.std.specs.Prelude.{◌≡◌, ℕ, ◌<◌, Bool, false, List, [], ◌∷◌, Option, Some, filter, get_or, map, slice_get, unwrap_or}
+use Rattle.std.specs.Prelude.{◌≡◌, ℕ, ◌<◌, Bool, false, List, [], ◌∷◌, Option, Some, filter, get_or, map, slice_get}
 use Rattle.std.specs.Option.{option_map_or}
 use Rattle.hwp_banks.specs.hwp_geom.declared.Cpu.{Cpu}
 use Rattle.hwp_banks.specs.hwp_geom.declared.Who.{Who}
 use Rattle.hwp_law.specs.hwp_geom.declared.Layout.{Layout}
-use Rattle.hwp_law.specs.hwp_geom.declared.TransDecl.{TransDecl}
 use Rattle.hwp_law.specs.hwp_geom.declared.VSlot.{VSlot}
 use Rattle.hwp_law.specs.hwp_page.declared.Entry.{Entry}
 use Rattle.hwp_law.specs.hwp_page.declared.What.{What}
@@ -38,10 +37,6 @@ checks_in n what = []
 abbrev pub is_counted : (What → Bool) → What → Bool
 is_counted test (entries.Mce slot line mask) = false
 is_counted test what = test what
-
--- the entries of the page of a translation
-abbrev pub entries_through : Layout → Report → VSlot → List Entry
-entries_through layout report slot = option_map_or (λ (v : TransDecl). unwrap_or (slice_get report.pages v.page.0) []) (slice_get layout.trans slot.0) []
 
 -- the lines of the machine checks of a store's copy, if it copied
 abbrev pub copied_from : Layout → Report → Who → Option VSlot → VSlot → List ℕ

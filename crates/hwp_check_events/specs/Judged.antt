@@ -13,9 +13,9 @@ use Rattle.hwp_law.specs.hwp_severity.declared.Arrival.{Arrival}
 use Rattle.hwp_law.specs.hwp_report_text.declared.EventLine.{EventLine}
 use Rattle.hwp_law.specs.Events.{is_raised}
 use Rattle.hwp_law.specs.Lines.{answer_of}
-use Rattle.hwp_check_events.specs.Accesses.{IsAccessLine, IsRaisedLine, asked_by_access, access_of}
+use Rattle.hwp_check_event_line.specs.Accesses.{IsAccessLine, IsRaisedLine, asked_by_access, access_of}
 use Rattle.hwp_check_event_line.specs.Firsts.{IsScanned}
-use Rattle.hwp_check_events.specs.Misfits.{IsRightLine, Lacks, commands_before, course_of, leaves}
+use Rattle.hwp_check_event_line.specs.Misfits.{IsRightLine, Lacks, commands_before, course_of, leaves}
 use Rattle.hwp_check_event_line.specs.Scrubs.{after_all, lacking, lowest, reach_from}
 use Rattle.hwp_check_event_line.specs.Scrubbing.{IsRightIn}
 use Rattle.hwp_check_event_line.specs.declared.Reach.{Reach}

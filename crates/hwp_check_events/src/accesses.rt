@@ -2,7 +2,8 @@ ghost use Rattle.std.specs.Prelude.{◌≡◌, ◌↔◌, ◌<◌, ◌≤◌, �
 ghost use Rattle.hwp_law.specs.Lines.{bad_lines_of};
 ghost use Rattle.hwp_check_event_line.specs.Firsts.{IsScanned, shown_lines};
 ghost use Rattle.hwp_check_event_line.specs.Found.{IsCandidate, beside, may_stop, of_access, own_found, stops};
-ghost use Rattle.hwp_check_events.specs.Accesses.{IsAccessLine, IsOwnLine, access_by, asked_by_access, begins_in_panic, lines_met};
+ghost use Rattle.hwp_check_event_line.specs.Accesses.{IsAccessLine, IsOwnLine, asked_by_access, begins_in_panic};
+ghost use Rattle.hwp_check_events.specs.Met.{access_by, lines_met};
 
 use crate::known::Checks;
 use hwp_banks::{Bank, Event, Origin};

@@ -1,5 +1,5 @@
 ghost use Rattle.std.specs.Prelude.{◌≡◌};
-ghost use Rattle.hwp_check_events.specs.Misfits.{IsFit};
+ghost use Rattle.hwp_check_event_line.specs.Misfits.{IsFit};
 
 use crate::known::Known;
 use hwp_check_event_line::{Shown, Traced};

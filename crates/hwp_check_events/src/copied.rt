@@ -1,14 +1,12 @@
-ghost use Rattle.std.specs.Prelude.{◌≡◌, ◌<◌, ◌≤◌, ◌^◌, ◌++◌, ◌∷◌, [], cond, false, IfOk, OnOk, get_or, length, map, slice_get, unwrap_or};
+ghost use Rattle.std.specs.Prelude.{◌≡◌, ◌<◌, ◌≤◌, ◌^◌, ◌++◌, ◌∷◌, [], cond, false, IfOk, OnOk, get_or, length, map};
 ghost use Rattle.hwp_law.specs.Copies.{checks_by, copy_checks, lines_at};
 ghost use Rattle.hwp_law.specs.Lines.{is_same_command};
 ghost use Rattle.hwp_check_acting.specs.ActedOn.{copies_in};
-ghost use Rattle.hwp_check_events.specs.Copied.{AreCopied, checks_in, copied_by, entries_through, is_counted, own_whats, pair_of, test_of};
+ghost use Rattle.hwp_check_events.specs.Copied.{AreCopied, checks_in, copied_by, is_counted, own_whats, pair_of, test_of};
 
-use hwp_check_acting::copy_of;
+use hwp_check_acting::{copy_of, entries_through};
 use hwp_check_event_line::is_same_command;
-use hwp_law::{
-    Command, Cpu, Entry, Layout, Line, List, OutOfMemory, Page, Report, VSlot, What, Who,
-};
+use hwp_law::{Command, Cpu, Entry, Layout, Line, List, OutOfMemory, Report, VSlot, What, Who};
 use std::alloc::Global;
 
 /// A machine check of a copy: how many loads, or stores, stand before it in its page, and its line.
@@ -105,26 +103,6 @@ fn own_count(who: Who, entries: &[Entry]) -> u64
         own += u64::from(is_same_command(who, entry.who));
     }
     own
-}
-
-/// The entries of a page; none where the report has no such page.
-pub fn entries_on(report: &Report, page: Page) -> &[Entry]
-    ensures { result.now ≡ unwrap_or (slice_get report.now.pages page.0) [] }
-{
-    match report.pages.as_slice().get(usize::from(page.0)) {
-        Some(entries) => entries.as_slice(),
-        None => &[],
-    }
-}
-
-/// The entries of the page of a translation.
-pub fn entries_through<'a>(layout: &Layout, report: &'a Report, slot: VSlot) -> &'a [Entry]
-    ensures { result.now ≡ entries_through layout.now report.now slot }
-{
-    match layout.trans.as_slice().get(usize::from(slot.0)) {
-        Some(translation) => entries_on(report, translation.page),
-        None => &[],
-    }
 }
 
 /// Adds the line of the machine check, if it has so many entries before it.

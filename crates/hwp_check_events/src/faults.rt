@@ -3,7 +3,8 @@ ghost use Rattle.std.specs.Int.{from_bool};
 ghost use Rattle.hwp_law.specs.Events.{is_raised};
 ghost use Rattle.hwp_check_event_line.specs.Firsts.{IsScanned, shown_lines};
 ghost use Rattle.hwp_check_event_line.specs.Found.{of_access};
-ghost use Rattle.hwp_check_events.specs.Accesses.{IsAccessLine, IsRaisedLine, access_by, asked_by_access};
+ghost use Rattle.hwp_check_event_line.specs.Accesses.{IsAccessLine, IsRaisedLine, asked_by_access};
+ghost use Rattle.hwp_check_events.specs.Met.{access_by};
 
 use crate::accesses::{access_wrong, asked_by_access};
 use crate::known::Checks;

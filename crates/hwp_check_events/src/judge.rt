@@ -8,7 +8,7 @@ ghost use Rattle.hwp_check_event_line.specs.Found.{of_access};
 ghost use Rattle.hwp_check_acting.specs.ActedOn.{copies_in};
 ghost use Rattle.hwp_check_events.specs.Copied.{copied_by};
 ghost use Rattle.hwp_check_events.specs.Judged.{IsAccessJudged, IsJudged, IsRaiseJudged, IsScrubJudged, IsTable};
-ghost use Rattle.hwp_check_events.specs.Misfits.{is_scrubbed, logged_if};
+ghost use Rattle.hwp_check_event_line.specs.Misfits.{is_scrubbed, logged_if};
 
 use crate::case::EventCase;
 use crate::faults::{access_faults, any, raise_faults};

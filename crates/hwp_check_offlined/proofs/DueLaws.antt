@@ -19,7 +19,7 @@ use Rattle.hwp_check_rules.specs.hwp_report_text.declared.Answer.TheVariants as 
 use Rattle.hwp_check_rules.specs.hwp_report_text.declared.CpuLine.{CpuLine}
 use Rattle.hwp_check_rules.specs.hwp_report_text.declared.EventLine.{EventLine}
 use Rattle.hwp_check_rules.specs.hwp_report_text.declared.Report.{Report}
-use Rattle.hwp_check_rules.specs.hwp_check_events.Indexed.{AreShown}
+use Rattle.hwp_check_events.specs.Indexed.{AreShown}
 use Rattle.hwp_check_rules.specs.hwp_check_event_line.Firsts.{shown_lines}
 use Rattle.hwp_check_rules.specs.hwp_check_event_line.declared.Shown.{Shown}
 use Rattle.hwp_check_rules.specs.hwp_law.Commands.{is_kernels, is_watch}
@@ -28,8 +28,8 @@ use Rattle.hwp_check_rules.specs.hwp_law.Watched.{Watched, due, watched_after}
 use Rattle.hwp_check_rules.specs.hwp_law.Lines.{answered, answers_to, events_among}
 use Rattle.hwp_check_rules.specs.hwp_law.Offlined.{due_of, watched_from}
 use Rattle.hwp_check_rules.proofs.of_hwp_law.OfflinedLaws.{watched-more}
-use Rattle.hwp_check_rules.proofs.of_hwp_check_events.IndexLaws.{told-is}
-use Rattle.hwp_check_rules.proofs.of_hwp_check_events.ValidLaws.{command-of}
+use Rattle.hwp_check_events.proofs.IndexLaws.{told-is}
+use Rattle.hwp_check_events.proofs.ValidLaws.{command-of}
 use Rattle.hwp_cec.specs.Counters.{Counters}
 use Rattle.hwp_check_offlined.specs.Collecting.{AreDue, IsGoneOn, IsLimited, IsWatching}
 use Rattle.hwp_check_offlined.specs.Dues.{AreDues, due_at, watched_at}

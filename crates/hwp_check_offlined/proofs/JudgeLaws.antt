@@ -9,7 +9,7 @@ use Rattle.hwp_check_rules.specs.hwp_script_read.declared.Script.{Script}
 use Rattle.hwp_check_rules.specs.hwp_report_text.declared.CpuLine.{CpuLine}
 use Rattle.hwp_check_rules.specs.hwp_report_text.declared.OfflinedLine.{OfflinedLine}
 use Rattle.hwp_check_rules.specs.hwp_report_text.declared.Report.{Report}
-use Rattle.hwp_check_rules.specs.hwp_check_events.declared.Misfits.{Misfits}
+use Rattle.hwp_check_events.specs.declared.Misfits.{Misfits}
 use Rattle.hwp_check_rules.specs.hwp_law.Lines.{offlined_among}
 use Rattle.hwp_check_rules.specs.hwp_law.Offlined.{due_of}
 use Rattle.hwp_check_rules.specs.hwp_law.Commands.{is_watch}

@@ -8,7 +8,7 @@ use Rattle.hwp_check_rules.specs.hwp_geom.declared.Frame.{Frame}
 use Rattle.hwp_check_rules.specs.hwp_report_text.declared.CpuLine.{CpuLine}
 use Rattle.hwp_check_rules.specs.hwp_report_text.declared.CpuLine.TheVariants as lines
 use Rattle.hwp_check_rules.specs.hwp_report_text.declared.OfflinedLine.{OfflinedLine}
-use Rattle.hwp_check_rules.specs.hwp_check_events.Indexed.{AreShown}
+use Rattle.hwp_check_events.specs.Indexed.{AreShown}
 use Rattle.hwp_check_rules.specs.hwp_check_event_line.Firsts.{first_of}
 use Rattle.hwp_check_rules.specs.hwp_check_event_line.declared.Shown.{Shown}
 use Rattle.hwp_check_rules.specs.hwp_law.Lines.{events_among, offlined_among, seq_of}

@@ -11,7 +11,7 @@ use Rattle.hwp_check_rules.specs.hwp_report_text.declared.OfflinedLine.{Offlined
 use Rattle.hwp_check_rules.specs.hwp_report_text.declared.Report.{Report}
 use Rattle.hwp_check_rules.specs.hwp_law.Lines.{offlined_among}
 use Rattle.hwp_check_rules.specs.hwp_law.Offlined.{due_of}
-use Rattle.hwp_check_rules.specs.hwp_check_events.declared.Misfits.{Misfits}
+use Rattle.hwp_check_events.specs.declared.Misfits.{Misfits}
 use Rattle.hwp_check_rules.specs.Answered.{IsBehindEvents, offlined_before}
 
 abbrev pub who_at : Cpu → ℕ → Who

@@ -5,10 +5,8 @@ ghost use Rattle.hwp_check_offlined.specs.Tallied.{due_in, is_of};
 
 use crate::dues::dues_of;
 use crate::tally::scan;
-use hwp_check_rules::{
-    Command, Cpu, CpuLine, Misfits, OutOfMemory, Report, Script, answers_to, events_by_command,
-    watches,
-};
+use hwp_check_events::{Misfits, events_by_command};
+use hwp_check_rules::{Command, Cpu, CpuLine, OutOfMemory, Report, Script, answers_to, watches};
 use std::alloc::Global;
 
 /// Whether the line is of a frame that one of so many commands took out of use.

@@ -3,11 +3,12 @@ ghost use Rattle.hwp_check_rules.specs.Answered.{is_event, is_offlined};
 ghost use Rattle.hwp_check_rules.specs.hwp_law.Lines.{seq_of};
 ghost use Rattle.hwp_check_offlined.specs.Tallied.{counted, due_in, is_due, is_fit, is_frame, lacks_from};
 ghost use Rattle.std.specs.Option.{option_copied};
-ghost use Rattle.hwp_check_rules.specs.hwp_check_events.Indexed.{AreShown};
+ghost use Rattle.hwp_check_events.specs.Indexed.{AreShown};
 ghost use Rattle.hwp_check_rules.specs.hwp_check_event_line.Firsts.{first_of};
 ghost use Rattle.hwp_check_offlined.specs.Judged.{IsScanned};
 
-use hwp_check_rules::{CpuLine, Frame, List, Misfits, OfflinedLine, OutOfMemory, Shown, seq_of};
+use hwp_check_events::Misfits;
+use hwp_check_rules::{CpuLine, Frame, List, OfflinedLine, OutOfMemory, Shown, seq_of};
 use std::alloc::Global;
 
 /// Whether the line is an event line.

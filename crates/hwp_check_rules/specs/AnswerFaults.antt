@@ -22,7 +22,7 @@ use Rattle.hwp_law.specs.Lines.{events_of, offlined_of, rows_of, seq_of, answer_
 use Rattle.hwp_law.specs.Offlined.{IsOffline, due_of}
 use Rattle.hwp_law.specs.Places.{entry_at}
 use Rattle.hwp_law.specs.States.{IsInWindow, entry_named, state_named}
-use Rattle.hwp_check_events.specs.Misfits.{IsWrong, Lacks, found_by}
+use Rattle.hwp_check_event_line.specs.Misfits.{IsWrong, Lacks, found_by}
 use Rattle.hwp_check_rules.specs.Answered.{HasAnswer, IsInPlace, IsBehindEvents, IsRight, events_before, offlined_before}
 use Rattle.hwp_check_rules.specs.Standing.{cpu_line, row_line}
 use Rattle.hwp_law.specs.hwp_geom.declared.VSlot.{VSlot}

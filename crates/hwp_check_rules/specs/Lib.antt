@@ -9,9 +9,8 @@ pub mod GuestFaults
 pub mod Verdicts
 pub mod Pasts
 pub use Rattle.hwp_law.specs.hwp_banks as hwp_banks
-pub use Rattle.hwp_check_events.specs.hwp_check_acting as hwp_check_acting
-pub use Rattle.hwp_check_events.specs.hwp_check_event_line as hwp_check_event_line
-pub use Rattle.hwp_check_events.specs as hwp_check_events
+pub use Rattle.hwp_check_acting.specs as hwp_check_acting
+pub use Rattle.hwp_check_event_line.specs as hwp_check_event_line
 pub use Rattle.hwp_law.specs.hwp_geom as hwp_geom
 pub use Rattle.hwp_law.specs.hwp_kill as hwp_kill
 pub use Rattle.hwp_law.specs as hwp_law

@@ -11,11 +11,11 @@ mod standing;
 mod verdicts;
 
 pub use first::{sooner, sooner_if, soonest};
-pub use hwp_check_events::{
-    ActedScript, Misfits, Shown, acted_on, answers_to, checkers_of, copy_of, entries_on,
-    entries_through, events_by_command, freezes_slot, has_fork, has_watch, pairs_of,
-    processor_faults, rows_on, small_masks, watches,
+pub use hwp_check_acting::{
+    ActedScript, acted_on, answers_to, copy_of, entries_on, entries_through, freezes_slot,
+    has_fork, has_watch, pairs_of, rows_on, watches,
 };
+pub use hwp_check_event_line::Shown;
 pub use hwp_law::{
     Access, Acted, Admit, Answer, At, Code, Command, Cpu, CpuLine, Entry, EventLine, FileNo, Frame,
     FrameLine, GuestAccess, GuestLine, How, Layout, Line, List, MarkLine, Mask, McgBits, Met, Mode,

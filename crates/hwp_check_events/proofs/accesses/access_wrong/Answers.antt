@@ -1,7 +1,8 @@
 use Rattle.std.proofs.Common.{◌≡◌, ◌≢◌, rules, arith, Option, length, refl, sym, true≢false}
 use Rattle.std.proofs.lemmas.Bool.{eqb-false, eqb-true}
 use Rattle.hwp_banks.specs.declared.Event.{Event}
-use Rattle.hwp_check_events.specs.Accesses.{IsAccessLine, access_by}
+use Rattle.hwp_check_event_line.specs.Accesses.{IsAccessLine}
+use Rattle.hwp_check_events.specs.Met.{access_by}
 use Rattle.hwp_check_event_line.specs.Firsts.{shown_lines}
 use Rattle.hwp_check_event_line.proofs.LineScans.{first-wrong, none-right, right-all, right-next, right-next-by}
 use Rattle.hwp_check_events.proofs.AccessScans.{first-wrong-by}

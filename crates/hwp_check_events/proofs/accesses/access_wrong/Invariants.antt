@@ -1,5 +1,6 @@
 use Rattle.std.proofs.Common.{◌≤◌}
-use Rattle.hwp_check_events.specs.Accesses.{IsAccessLine, access_by}
+use Rattle.hwp_check_event_line.specs.Accesses.{IsAccessLine}
+use Rattle.hwp_check_events.specs.Met.{access_by}
 use Rattle.hwp_check_event_line.specs.Firsts.{AreRightTo, shown_lines}
 use Rattle.hwp_check_events.proofs.accesses.access_wrong.Given as goal
 

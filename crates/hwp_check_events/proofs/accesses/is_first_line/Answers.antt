@@ -1,5 +1,5 @@
 use Rattle.std.proofs.Common.{ℕ, IsTrue}
-use Rattle.hwp_check_events.specs.Accesses.{IsOwnLine}
+use Rattle.hwp_check_event_line.specs.Accesses.{IsOwnLine}
 use Rattle.hwp_check_events.proofs.AskedLaws.{first-is, none-first}
 use Rattle.hwp_check_events.proofs.accesses.is_first_line.Goals as goal
 

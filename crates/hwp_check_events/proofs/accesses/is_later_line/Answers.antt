@@ -1,6 +1,7 @@
 use Rattle.std.proofs.Common.{◌≡◌, rules, arith, IsTrue}
 use Rattle.hwp_check_event_line.specs.Firsts.{shown_lines}
-use Rattle.hwp_check_events.specs.Accesses.{access_by, asked_by_access}
+use Rattle.hwp_check_events.specs.Met.{access_by}
+use Rattle.hwp_check_event_line.specs.Accesses.{asked_by_access}
 use Rattle.hwp_check_events.proofs.AskedLaws.{later-is}
 use Rattle.hwp_check_events.proofs.accesses.is_later_line.Goals as goal
 

@@ -3,7 +3,7 @@ use Rattle.hwp_law.specs.Commands.{arrival_of}
 use Rattle.hwp_check_event_line.specs.Firsts.{shown_lines}
 use Rattle.hwp_check_events.specs.Cases.{CaseValue}
 use Rattle.hwp_check_events.specs.Judged.{IsScrubJudged, IsTable}
-use Rattle.hwp_check_events.specs.Misfits.{is_scrubbed}
+use Rattle.hwp_check_event_line.specs.Misfits.{is_scrubbed}
 use Rattle.hwp_check_events.proofs.JudgeLaws.{scrub-judged}
 use Rattle.hwp_check_events.proofs.judge.judge_scrub.Goals as goal
 

@@ -2,7 +2,7 @@ use Rattle.std.proofs.Common.{List, Option, [], slice_get, unwrap_or, sym, ap, â
 use Rattle.std.specs.Option.{option_map_or}
 use Rattle.hwp_law.specs.hwp_geom.declared.TransDecl.{TransDecl}
 use Rattle.hwp_check_acting.proofs.Lookups.{found-there, none-there}
-use Rattle.hwp_check_events.proofs.copied.entries_through.Goals as goal
+use Rattle.hwp_check_acting.proofs.pages.entries_through.Goals as goal
 
 pub returns-in-Some : goal.returns-in-Some
 returns-in-Some c =

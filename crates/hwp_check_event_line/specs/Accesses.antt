@@ -1,5 +1,5 @@
 -- The event lines that the machine checks of an access ask, and the one line of a machine check that is raised.
-use Rattle.std.specs.Prelude.{◌≡◌, ℕ, ◌+◌, ◌-◌, ◌<◌, ◌==◌, ◌&&◌, ◌||◌, Bool, false, cond, List, [], ◌∷◌, Option, None, MatchBool, is_some, ◌++◌, get_or, length, replicate}
+use Rattle.std.specs.Prelude.{◌≡◌, ℕ, ◌+◌, ◌-◌, ◌<◌, ◌==◌, ◌&&◌, ◌||◌, Bool, false, cond, List, [], ◌∷◌, Option, None, MatchBool, is_some, get_or, length}
 use Rattle.hwp_banks.specs.hwp_geom.declared.Frame.{Frame}
 use Rattle.hwp_banks.specs.hwp_geom.declared.Who.{Who}
 use Rattle.hwp_banks.specs.Events.{bank_of}
@@ -13,7 +13,6 @@ use Rattle.hwp_law.specs.hwp_severity.declared.Arrival.{Arrival}
 use Rattle.hwp_law.specs.Events.{IsDamaged}
 use Rattle.hwp_law.specs.hwp_report_text.declared.EventLine.{EventLine}
 use Rattle.hwp_check_event_line.specs.Found.{IsRawLine, beside, has_stopper, may_stop, own_found}
-use Rattle.hwp_check_events.specs.declared.known.Checks.{Checks}
 
 -- the machine checks of an access, each at a line, of which the first finds this in bank 1
 pub record Access : Type 0 where
@@ -27,13 +26,6 @@ access_of origin at raw = record { origin = origin; at = at; raw = raw }
 -- the line of the machine check with this number
 abbrev pub met_at : Access → ℕ → ℕ
 met_at a n = get_or a.at n 0
-
--- the lines that are met: those that a copy meets, and then one line so often that they are as many as there are machine checks
-abbrev pub lines_met : Checks → List ℕ → List ℕ
-lines_met checks copied = copied ++ replicate (checks.count - length copied) checks.at
-
-abbrev pub access_by : Checks → List ℕ → Option Event → Access
-access_by checks copied raw = access_of checks.origin (lines_met checks copied) raw
 
 -- the line tells the own event of a machine check of an access, whose line is bad in some frame
 pub record IsOwnLine (script : Script) (report : Report) (who : Who) (how : Arrival) (origin : Origin) (at : ℕ) (raw : Option Event) (line : EventLine) : Type 0 where

@@ -1,7 +1,7 @@
 use Rattle.std.proofs.Common.{List, Option, [], unwrap_or, sym, ap, ◌∙◌}
 use Rattle.hwp_law.specs.hwp_page.declared.Entry.{Entry}
 use Rattle.hwp_check_acting.proofs.Lookups.{found-there, none-there}
-use Rattle.hwp_check_events.proofs.copied.entries_on.Goals as goal
+use Rattle.hwp_check_acting.proofs.pages.entries_on.Goals as goal
 
 pub returns-in-Some : goal.returns-in-Some
 returns-in-Some c =

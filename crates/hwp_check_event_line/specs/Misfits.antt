@@ -21,7 +21,7 @@ use Rattle.hwp_law.specs.Events.{access_lines, is_raised, store_lines}
 use Rattle.hwp_banks.specs.Banks.{raw_event}
 use Rattle.hwp_law.specs.Lines.{answer_of, events_of}
 use Rattle.hwp_check_event_line.specs.Firsts.{AreRight}
-use Rattle.hwp_check_events.specs.Accesses.{IsAccessLine, IsRaisedLine, access_of, asked_by_access}
+use Rattle.hwp_check_event_line.specs.Accesses.{IsAccessLine, IsRaisedLine, access_of, asked_by_access}
 use Rattle.hwp_check_event_line.specs.Scrubs.{Course, after_all, bound_from, lacking, lowest, reach_from}
 use Rattle.hwp_check_event_line.specs.Scrubbing.{IsRightIn}
 
