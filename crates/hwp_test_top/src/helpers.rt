@@ -1,12 +1,14 @@
-//! A call of `top` over memory, and what it left.
+//! Calls of `top` and of `top_run` over memory, and what they left.
 
 ghost use Rattle.std.specs.Prelude.{◌<◌};
 
 use crate::checking::check;
 use hwp_io::{MemSink, MemSource};
-use hwp_top::top;
+use hwp_top::{Gate, top, top_run};
 use std::alloc::Global;
 use std::process::Abort;
+use std::sync::Wait;
+use std::thread::Threads;
 
 /// What a call left: whether it gave a report, and a table without translation caches, and one with them; its status, and both sinks.
 #[derive(Drop)]
@@ -79,9 +81,44 @@ pub fn call(
     call_untold(rt, alloc, words, script, read, sink, &[])
 }
 
+/// A call of `top_run`, whose processors pass this gate.
+pub fn call_run<R: Abort + Threads + Wait + Sync>(
+    rt: &R,
+    alloc: Global,
+    words: &[&str],
+    script: &[u8],
+    read: &[u64],
+    sink: (usize, &[u64]),
+    gate: &(impl Gate + Sync),
+) -> Left
+    requires { 0 < sink.0 }
+{
+    let list = words_of(rt, alloc, words);
+    let mut src = source_of(rt, alloc, script, read);
+    let mut out = MemSink::new(alloc, sink.0, numbers_of(rt, alloc, sink.1));
+    let mut err = MemSink::new(alloc, 4096, Vec::new(alloc));
+    let done = top_run(
+        rt,
+        alloc,
+        list.as_slice(),
+        &mut src,
+        &mut out,
+        &mut err,
+        gate,
+    );
+    Left {
+        reported: matches!(done.report, Some(_)),
+        ended: matches!(done.ended, Some(_)),
+        tlb: matches!(done.tlb, Some(_)),
+        status: done.status,
+        out,
+        err,
+    }
+}
+
 /// What `step` leaves of a script, with nothing that fails: a report.
-pub fn report_of(rt: &impl Abort, alloc: Global, script: &str) -> Left {
-    let left = call(rt, alloc, &["step"], script.as_bytes(), &[], (4096, &[]));
+pub fn report_of(rt: &impl Abort, alloc: Global, script: &[u8]) -> Left {
+    let left = call(rt, alloc, &["step"], script, &[], (4096, &[]));
     check(rt, left.reported);
     left
 }

@@ -1,12 +1,12 @@
 //! Processors that meet inside their commands: they move at the same time, each on a thread of its own.
 
 use crate::checking::check;
-use crate::gates::{Hold, Meeting, bit};
-use crate::helpers::{call, leaves};
+use crate::gates::{Hold, MeetingGate, bit};
+use crate::helpers::{call_run, leaves};
 use hwp_top::Point;
 
 /// One processor stores while the other one's load begins and ends, and that one loads again when it has stored.
-const TWO: &str = "\
+const TWO: &[u8] = b"\
 hwp 1
 cpus 2
 frames 20
@@ -37,7 +37,7 @@ end
 ";
 
 /// Eight processors with a bad line each.
-const EIGHT: &str = "\
+const EIGHT: &[u8] = b"\
 hwp 1\ncpus 8\nframes 8\ncpu 0\nbad 0 0\ncpu 1\nbad 1 0\ncpu 2\nbad 2 0\ncpu 3\nbad 3 0\ncpu 4\nbad 4 0\ncpu 5\nbad 5 0\n\
 cpu 6\nbad 6 0\ncpu 7\nbad 7 0\nend\n";
 
@@ -73,7 +73,7 @@ end
 ";
 
 /// A page of a file is lost, which both processors have open.
-const LOSS: &str = "\
+const LOSS: &[u8] = b"\
 hwp 1\ncpus 2\nframes 3\nfile 0\nproc 0\nthread 0 0 0 handler\npage 0 file 0 fill 9\ntrans 0 0 0\ncpu 0\nstore 0 0 0 4\ninject 0\n\
 fsync 0\nfsync 0\ncpu 1\nfsync 0\nfsync 0\nend\n";
 
@@ -121,8 +121,8 @@ fn one_answers_while_the_other_is_inside_its_command(rt: HostRuntime) {
             until: stored,
         },
     ];
-    let gate = Meeting::new(&holds);
-    let left = call(&rt, rt.alloc(), &["run"], TWO, &[], (4096, &[]), &gate);
+    let gate = MeetingGate::new(&holds);
+    let left = call_run(&rt, rt.alloc(), &["run"], TWO, &[], (4096, &[]), &gate);
     // Both points of one command of processor 0, and of two of processor 1.
     check(&rt, !gate.is_missed() & (gate.came() == 0xf03));
     check(&rt, left.reported & (left.status == 0));
@@ -139,8 +139,8 @@ fn eight_are_inside_their_commands_at_once(rt: HostRuntime) {
     for cpu in 0..8 {
         holds[usize::from(cpu)].at = bit(cpu, 0, Point::Begun);
     }
-    let gate = Meeting::new(&holds);
-    let left = call(&rt, rt.alloc(), &["run"], EIGHT, &[], (4096, &[]), &gate);
+    let gate = MeetingGate::new(&holds);
+    let left = call_run(&rt, rt.alloc(), &["run"], EIGHT, &[], (4096, &[]), &gate);
     // Both points of one command of each.
     check(
         &rt,
@@ -156,8 +156,8 @@ fn each_thread_is_told_of_a_loss_once(rt: HostRuntime) {
         at: bit(1, 0, Point::Begun),
         until: bit(0, 1, Point::Answered),
     }];
-    let gate = Meeting::new(&holds);
-    let left = call(&rt, rt.alloc(), &["run"], LOSS, &[], (4096, &[]), &gate);
+    let gate = MeetingGate::new(&holds);
+    let left = call_run(&rt, rt.alloc(), &["run"], LOSS, &[], (4096, &[]), &gate);
     // Both points of four commands of processor 0, and of two of processor 1.
     check(&rt, !gate.is_missed() & (gate.came() == 0xfff));
     leaves(&rt, left, true, 0, TOLD, b"");

@@ -6,7 +6,8 @@ use crate::helpers::{Left, call, call_untold, has_tables, leaves};
 use std::alloc::Global;
 use std::process::Abort;
 
-const STORE_AND_LOAD: &[u8] = b"\
+/// A script, which each of these calls has.
+pub const STORE_AND_LOAD: &[u8] = b"\
 hwp 1
 cpus 1
 frames 2
@@ -20,7 +21,8 @@ load 0 0 5
 end
 ";
 
-const STORED_AND_LOADED: &[u8] = b"\
+/// Its report.
+pub const STORED_AND_LOADED: &[u8] = b"\
 hwp-report 1
 stop none
 count 0

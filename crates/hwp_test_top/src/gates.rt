@@ -1,7 +1,6 @@
 //! A gate that holds processors at points until others have come to theirs.
 
-use hwp_geom::Cpu;
-use hwp_top::{Gate, Point};
+use hwp_top::{Cpu, Gate, Point};
 use std::hint::spin_loop;
 use std::sync::atomic::{AtomicBool, AtomicU64, Ordering};
 
@@ -26,16 +25,16 @@ pub struct Hold {
 
 /// The gate: which points were come to, and whether a processor was held for nothing.
 #[derive(Drop)]
-pub struct Meeting<'a> {
+pub struct MeetingGate<'a> {
     holds: &'a [Hold],
     came: AtomicU64,
     missed: AtomicBool,
 }
 
-impl<'a> Meeting<'a> {
+impl<'a> MeetingGate<'a> {
     /// A gate to which none has come.
-    pub fn new(holds: &'a [Hold]) -> Meeting<'a> {
-        Meeting {
+    pub fn new(holds: &'a [Hold]) -> MeetingGate<'a> {
+        MeetingGate {
             holds,
             came: AtomicU64::new(0),
             missed: AtomicBool::new(false),
@@ -64,7 +63,7 @@ impl<'a> Meeting<'a> {
     }
 }
 
-impl<'a> Gate for Meeting<'a> {
+impl<'a> Gate for MeetingGate<'a> {
     fn pass(&self, cpu: Cpu, seq: u32, at: Point) {
         let point = bit(cpu.0, seq, at);
         self.came.fetch_or(point, Ordering::SeqCst);
