@@ -167,13 +167,28 @@ impl Partial {
             }
             Partial::Cpus(cpu) => with_cpu_line(alloc, cpu, line),
             Partial::Whole(report) => {
-                drop(report);
-                drop(line);
+                let_go_of(Partial::Whole(report));
+                let_go_of_line(line);
                 Ok(None)
             }
         }
     }
 }
+
+/// Lets go of what was read. Each way out of a function that lets it go itself proves anew how it goes.
+pub(crate) fn let_go_of(_partial: Partial) {}
+
+/// Lets go of a line.
+fn let_go_of_line(_line: ReportLine) {}
+
+/// Lets go of what stands before the pages.
+fn let_go_of_framed(_framed: Framed) {}
+
+/// Lets go of what stands before the processors.
+fn let_go_of_paged(_paged: Paged) {}
+
+/// Lets go of what stands before the end.
+fn let_go_of_ran(_ran: Ran) {}
 
 /// The empty list, with room for as many items as a heading says, up to a bound.
 fn with_room<T>(alloc: Global, count: u64) -> Result<List<T>, OutOfMemory>
@@ -197,7 +212,7 @@ fn begun(line: ReportLine) -> Option<Partial>
     match line {
         ReportLine::Header(version) => Some(Partial::Headed(version)),
         other => {
-            drop(other);
+            let_go_of_line(other);
             None
         }
     }
@@ -210,7 +225,7 @@ fn stopped(version: Version, line: ReportLine) -> Option<Partial>
     match line {
         ReportLine::Stop(stop) => Some(Partial::Stopped(version, stop)),
         other => {
-            drop(other);
+            let_go_of_line(other);
             None
         }
     }
@@ -228,7 +243,7 @@ fn counted(alloc: Global, version: Version, stop: Option<Stop>, line: ReportLine
             files: List::new(alloc),
         })),
         other => {
-            drop(other);
+            let_go_of_line(other);
             None
         }
     }
@@ -241,14 +256,14 @@ fn with_file(alloc: Global, front: Front, line: ReportLine) -> Result<Option<Par
     match line {
         ReportLine::File { number, lost } => {
             if number != front.files.len() as u64 {
-                drop(front);
+                let_go_of(Partial::Files(front));
                 return Ok(None);
             }
             let mut front = front;
             match pushed(&mut front.files, lost) {
                 Ok(()) => Ok(Some(Partial::Files(front))),
                 Err(refused) => {
-                    drop(front);
+                    let_go_of(Partial::Files(front));
                     Err(refused)
                 }
             }
@@ -275,8 +290,7 @@ fn with_mark(
             match pushed(&mut frame.marks, mark) {
                 Ok(()) => Ok(Some(Partial::Frames(framed, frame))),
                 Err(refused) => {
-                    drop(frame);
-                    drop(framed);
+                    let_go_of(Partial::Frames(framed, frame));
                     Err(refused)
                 }
             }
@@ -286,8 +300,8 @@ fn with_mark(
             match pushed(&mut framed.frames, frame) {
                 Ok(()) => frame_begun(alloc, framed, line),
                 Err(refused) => {
-                    drop(line);
-                    drop(framed);
+                    let_go_of_line(line);
+                    let_go_of_framed(framed);
                     Err(refused)
                 }
             }
@@ -311,7 +325,7 @@ fn frame_begun(
             weak,
         } => {
             if number != framed.frames.len() as u64 {
-                drop(framed);
+                let_go_of_framed(framed);
                 return Ok(None);
             }
             let marks = List::new(alloc);
@@ -340,7 +354,7 @@ fn page_begun(alloc: Global, paged: Paged, line: ReportLine) -> Result<Option<Pa
             entries: count,
         } => {
             if number != paged.pages.len() as u64 {
-                drop(paged);
+                let_go_of_paged(paged);
                 return Ok(None);
             }
             match with_room(alloc, count) {
@@ -350,7 +364,7 @@ fn page_begun(alloc: Global, paged: Paged, line: ReportLine) -> Result<Option<Pa
                     entries,
                 }))),
                 Err(refused) => {
-                    drop(paged);
+                    let_go_of_paged(paged);
                     Err(refused)
                 }
             }
@@ -372,21 +386,21 @@ fn cpu_begun(alloc: Global, ran: Ran, line: ReportLine) -> Result<Option<Partial
             lines: count,
         } => {
             if number != ran.cpus.len() as u64 {
-                drop(ran);
+                let_go_of_ran(ran);
                 return Ok(None);
             }
             match with_room(alloc, count) {
                 Ok(lines) => Ok(Some(Partial::Cpus(OpenCpu { ran, count, lines }))),
                 Err(refused) => {
-                    drop(ran);
+                    let_go_of_ran(ran);
                     Err(refused)
                 }
             }
         }
         ReportLine::End => Ok(Some(Partial::Whole(ran.into_report()))),
         other => {
-            drop(other);
-            drop(ran);
+            let_go_of_line(other);
+            let_go_of_ran(ran);
             Ok(None)
         }
     }
@@ -406,8 +420,8 @@ fn with_entry(
         match pushed(&mut paged.pages, entries) {
             Ok(()) => page_begun(alloc, paged, line),
             Err(refused) => {
-                drop(line);
-                drop(paged);
+                let_go_of_line(line);
+                let_go_of_paged(paged);
                 Err(refused)
             }
         }
@@ -430,7 +444,7 @@ fn entry_added(
             match pushed(&mut page.entries, entry) {
                 Ok(()) => Ok(Some(Partial::Pages(page))),
                 Err(refused) => {
-                    drop(page);
+                    let_go_of(Partial::Pages(page));
                     Err(refused)
                 }
             }
@@ -440,8 +454,8 @@ fn entry_added(
             Ok(Some(failed(alloc, page, OpenFailure { line, seen })?))
         }
         other => {
-            drop(other);
-            drop(page);
+            let_go_of_line(other);
+            let_go_of(Partial::Pages(page));
             Ok(None)
         }
     }
@@ -462,16 +476,14 @@ fn with_seen(
             match pushed(&mut failure.seen, seen) {
                 Ok(()) => Ok(Some(failed(alloc, page, failure)?)),
                 Err(refused) => {
-                    drop(failure);
-                    drop(page);
+                    let_go_of(Partial::Seeing(page, failure));
                     Err(refused)
                 }
             }
         }
         other => {
-            drop(other);
-            drop(failure);
-            drop(page);
+            let_go_of_line(other);
+            let_go_of(Partial::Seeing(page, failure));
             Ok(None)
         }
     }
@@ -489,27 +501,21 @@ fn with_signal(
     match line {
         ReportLine::Signal(signal) => {
             if signals.as_slice().len() == MAX_SIGNALS {
-                drop(signals);
-                drop(failure);
-                drop(page);
+                let_go_of(Partial::Signalling(page, failure, signals));
                 return Ok(None);
             }
             let mut signals = signals;
             match pushed(&mut signals, signal) {
                 Ok(()) => Ok(Some(signalled(page, failure, signals)?)),
                 Err(refused) => {
-                    drop(signals);
-                    drop(failure);
-                    drop(page);
+                    let_go_of(Partial::Signalling(page, failure, signals));
                     Err(refused)
                 }
             }
         }
         other => {
-            drop(other);
-            drop(signals);
-            drop(failure);
-            drop(page);
+            let_go_of_line(other);
+            let_go_of(Partial::Signalling(page, failure, signals));
             Ok(None)
         }
     }
@@ -539,7 +545,7 @@ fn signalled(
         match pushed(&mut page.entries, failure.into_entry(signals)) {
             Ok(()) => Ok(Partial::Pages(page)),
             Err(refused) => {
-                drop(page);
+                let_go_of(Partial::Pages(page));
                 Err(refused)
             }
         }
@@ -562,8 +568,8 @@ fn with_cpu_line(
         match pushed(&mut ran.cpus, lines) {
             Ok(()) => cpu_begun(alloc, ran, line),
             Err(refused) => {
-                drop(line);
-                drop(ran);
+                let_go_of_line(line);
+                let_go_of_ran(ran);
                 Err(refused)
             }
         }
@@ -582,14 +588,14 @@ fn line_added(cpu: OpenCpu, line: ReportLine) -> Result<Option<Partial>, OutOfMe
             match pushed(&mut cpu.lines, item) {
                 Ok(()) => Ok(Some(Partial::Cpus(cpu))),
                 Err(refused) => {
-                    drop(cpu);
+                    let_go_of(Partial::Cpus(cpu));
                     Err(refused)
                 }
             }
         }
         other => {
-            drop(other);
-            drop(cpu);
+            let_go_of_line(other);
+            let_go_of(Partial::Cpus(cpu));
             Ok(None)
         }
     }

@@ -5,7 +5,7 @@ ghost use Rattle.hwp_report.specs.Texts.{IsFaultOf, IsReportOf};
 
 use crate::cuts::first_line;
 use crate::lines::read_line;
-use crate::partial::Partial;
+use crate::partial::{Partial, let_go_of};
 use hwp_report_text::{OutOfMemory, Report};
 use std::alloc::{AllocError, Global};
 
@@ -33,11 +33,11 @@ fn with_line(alloc: Global, partial: Partial, line: &[u8]) -> Result<Option<Part
     match read_line(alloc, line) {
         Ok(Some(form)) => partial.with(alloc, form),
         Ok(None) => {
-            drop(partial);
+            let_go_of(partial);
             Ok(None)
         }
         Err(refused) => {
-            drop(partial);
+            let_go_of(partial);
             Err(refused)
         }
     }
@@ -60,13 +60,13 @@ pub fn read(alloc: Global, bytes: &[u8]) -> Result<Report, BadReport>
         number += 1;
     }
     if !rest.is_empty() {
-        drop(partial);
+        let_go_of(partial);
         return Err(BadReport::Line(number));
     }
     match partial {
         Partial::Whole(report) => Ok(report),
         other => {
-            drop(other);
+            let_go_of(other);
             Err(BadReport::Line(number))
         }
     }
