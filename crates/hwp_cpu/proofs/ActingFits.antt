@@ -24,8 +24,8 @@ use Rattle.hwp_cpu_row.specs.hwp_law.Commands as access
 use Rattle.hwp_cpu_row.specs.hwp_law.Commands.{access_of}
 use Rattle.hwp_cpu_row.specs.hwp_law.declared.GuestAccess.{GuestAccess}
 use Rattle.hwp_cpu_row.specs.hwp_law.GuestRule.{guest_access}
-use Rattle.hwp_cpu_row.specs.hwp_cpu_check.hwp_guest.declared.Admit.{Admit}
-use Rattle.hwp_cpu_row.specs.hwp_cpu_check.hwp_guest.declared.Admit.TheVariants as admissions
+use Rattle.hwp_cpu_row.specs.hwp_claim.hwp_guest.declared.Admit.{Admit}
+use Rattle.hwp_cpu_row.specs.hwp_claim.hwp_guest.declared.Admit.TheVariants as admissions
 use Rattle.hwp_cpu_row.proofs.GuestListLaws.{admitted-none, of-access}
 use Rattle.hwp_cpu_command.specs.Begins.{CanCopy, CanDeny}
 use Rattle.hwp_cpu_command.specs.Runs.{CanFork}

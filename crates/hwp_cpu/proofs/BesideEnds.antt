@@ -36,7 +36,7 @@ use Rattle.hwp_cpu_row.specs.hwp_core_rule.declared.View.{View}
 use Rattle.hwp_cpu.specs.Beside.{AddsBeside}
 use Rattle.hwp_cpu.proofs.commands.CommandRuns.{runs-who}
 use Rattle.hwp_cpu.proofs.OwnRests.{HoldsNone}
-use Rattle.hwp_cpu_row.specs.hwp_cpu_check.declared.EventOutcome.{EventOutcome}
+use Rattle.hwp_cpu_row.specs.hwp_claim.declared.EventOutcome.{EventOutcome}
 use Rattle.hwp_cpu_row.specs.hwp_core_rule.Calls.{IsOnTurn, logs, Steps}
 use Rattle.hwp_cpu_row.specs.hwp_geom.declared.Layout.{Layout}
 use Rattle.hwp_law_served.specs.hwp_law.Pairings.{is_soft}

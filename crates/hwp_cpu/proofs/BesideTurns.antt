@@ -28,7 +28,7 @@ use Rattle.hwp_cpu_row.specs.declared.Local.{Local}
 use Rattle.hwp_cpu.proofs.commands.CommandRuns.{runs-who, GoesOn as CommandGoesOn, runs-alike}
 use Rattle.hwp_cpu_command.specs.Jobs.{told_of}
 use Rattle.hwp_cpu.proofs.commands.CommandStops.{has-stopped}
-use Rattle.hwp_cpu_row.specs.hwp_cpu_check.declared.EventOutcome.{EventOutcome}
+use Rattle.hwp_cpu_row.specs.hwp_claim.declared.EventOutcome.{EventOutcome}
 use Rattle.hwp_law_served.specs.Offlinings.{left_beside, left_by, watched_at}
 use Rattle.hwp_cpu_row.specs.hwp_law.Settings.{settings}
 use Rattle.hwp_cpu_row.specs.hwp_geom.declared.Layout.{Layout}

@@ -1,6 +1,6 @@
 -- What a command has given to the collector: as it goes on, and where its own task rests.
 use Rattle.hwp_law_served.specs.Served.{IsOffliningServed}
-use Rattle.hwp_cpu_row.specs.hwp_cpu_check.declared.EventOutcome.{EventOutcome}
+use Rattle.hwp_cpu_row.specs.hwp_claim.declared.EventOutcome.{EventOutcome}
 use Rattle.hwp_cpu_row.specs.hwp_geom.declared.Who.{Who}
 use Rattle.std.proofs.Common.{refl, Some, sym, append_assoc, ap, ◌+◌, ◌++◌, List, ◌≡◌, ◌≤◌, map, None, true, false, ℕ, subst, length, Option, arith, true≢false, ◌∙◌}
 use Rattle.std.proofs.lemmas.List.{map-append, length-append, take-append-le, take_all}

@@ -6,7 +6,7 @@ use Rattle.hwp_cpu_command.specs.Begins.{BeginsWith}
 use Rattle.hwp_cpu_row.specs.hwp_geom.declared.VSlot.{VSlot}
 use Rattle.hwp_cpu_row.specs.hwp_geom.declared.FileNo.{FileNo}
 use Rattle.hwp_cpu_row.specs.hwp_script_lines.declared.Command.TheVariants as commands
-use Rattle.hwp_cpu_row.specs.hwp_cpu_check.declared.EventOutcome.{EventOutcome}
+use Rattle.hwp_cpu_row.specs.hwp_claim.declared.EventOutcome.{EventOutcome}
 use Rattle.hwp_cpu_row.specs.hwp_law.Cows.{acting}
 use Rattle.hwp_cpu_row.specs.CowLists.{KnowsCows, acting_in, copied_in}
 use Rattle.hwp_cpu_row.proofs.CowListLaws.{acting-known, copied-known, told-are, told-known}
@@ -26,7 +26,7 @@ use Rattle.hwp_cpu_row.specs.hwp_geom.declared.Thread.{Thread}
 use Rattle.hwp_cpu_row.specs.hwp_geom.declared.Who.{Who}
 use Rattle.hwp_cpu_row.specs.hwp_geom.Pairs.{Pairs}
 use Rattle.hwp_cpu_row.specs.hwp_script_lines.declared.Command.{Command}
-use Rattle.hwp_cpu_row.specs.hwp_cpu_check.hwp_guest.declared.Admit.{Admit}
+use Rattle.hwp_cpu_row.specs.hwp_claim.hwp_guest.declared.Admit.{Admit}
 use Rattle.hwp_cpu_row.specs.hwp_report_text.declared.Answer.{Answer}
 use Rattle.hwp_cpu_row.specs.hwp_report_text.declared.Answer.TheVariants as answers
 use Rattle.hwp_cpu_row.specs.hwp_law.Settings.{settings}
@@ -83,7 +83,7 @@ use Rattle.std.specs.Prelude.{IsSome}
 use Rattle.hwp_cpu_row.specs.hwp_claim_frame.Done.{Marking}
 use Rattle.hwp_cpu.proofs.Marks.{by_acts}
 use Rattle.hwp_cpu.proofs.commands.Beside.{marked-parts}
-use Rattle.hwp_cpu_row.specs.hwp_cpu_check.Done.{marked_in}
+use Rattle.hwp_cpu_row.specs.hwp_claim.CheckDone.{marked_in}
 use Rattle.hwp_cpu_command.specs.hwp_soft.declared.Soft.{Soft}
 use Rattle.hwp_cpu.specs.Courses as courses
 use Rattle.hwp_cpu_row.specs.hwp_report_text.declared.GuestLine.{GuestLine}

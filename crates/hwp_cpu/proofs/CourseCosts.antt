@@ -20,7 +20,7 @@ use Rattle.hwp_cpu_row.specs.hwp_core_rule.Boards.{view_of}
 use Rattle.hwp_cpu_row.specs.hwp_core_rule.Calls.{Steps, logs, rec_of}
 use Rattle.hwp_cpu_row.specs.hwp_core_rule.Ranks.{CostFalls, HasFailed, IsRanked, Made, OtherHand, PaysRevival, Pending, Quiet, command_weight, failure_weight, failures_left, free_room, is_refused, is_waits, words_at}
 use Rattle.hwp_cpu_row.proofs.of_hwp_core_rule.tasks.StepRanks.{failures-kept, steps-on}
-use Rattle.hwp_cpu_row.specs.hwp_cpu_check.declared.EventOutcome.{EventOutcome}
+use Rattle.hwp_cpu_row.specs.hwp_claim.declared.EventOutcome.{EventOutcome}
 use Rattle.hwp_cpu_row.specs.declared.Watching.{Watching}
 use Rattle.hwp_cpu_row.specs.Acts.{told_notes}
 use Rattle.hwp_cpu_row.specs.Locals.{collects}

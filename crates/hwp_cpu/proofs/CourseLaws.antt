@@ -18,7 +18,7 @@ use Rattle.hwp_cpu_row.specs.hwp_core_rule.Known.{deeds}
 use Rattle.hwp_cpu_row.specs.hwp_core_rule.Ranks.{HasFrame, HasPage}
 use Rattle.hwp_cpu_row.specs.hwp_core_rule.Turns.{IsTask}
 use Rattle.hwp_cpu_row.proofs.of_hwp_core_rule.Lists.{same-number}
-use Rattle.hwp_cpu_row.specs.hwp_cpu_check.declared.EventOutcome.{EventOutcome}
+use Rattle.hwp_cpu_row.specs.hwp_claim.declared.EventOutcome.{EventOutcome}
 use Rattle.hwp_cpu_row.specs.declared.Watching.{Watching}
 use Rattle.hwp_cpu_row.specs.Acts.{told_notes}
 use Rattle.hwp_cpu_row.specs.Locals.{collects}

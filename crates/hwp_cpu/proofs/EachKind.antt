@@ -13,7 +13,7 @@ use Rattle.hwp_cpu_row.specs.hwp_core_rule.declared.View.{View}
 use Rattle.hwp_cpu_row.specs.hwp_core_rule.Calls.{IsOnTurn}
 use Rattle.hwp_cpu_command.specs.hwp_cpu_control.declared.Spoil.{Spoil}
 use Rattle.hwp_cpu_command.specs.hwp_cpu_control.Spoils as spoils
-use Rattle.hwp_cpu_row.specs.hwp_cpu_check.Told.{halts}
+use Rattle.hwp_cpu_row.specs.hwp_claim.Told.{halts}
 use Rattle.hwp_cpu_command.specs.hwp_cpu_access.declared.Instruction.{Instruction}
 use Rattle.hwp_cpu_command.specs.hwp_cpu_access.declared.Copying.{Copying}
 use Rattle.hwp_cpu_command.specs.hwp_scrub.declared.Raise.{Raise}

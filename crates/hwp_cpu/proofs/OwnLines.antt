@@ -20,13 +20,13 @@ use Rattle.hwp_cpu_row.specs.hwp_page.declared.At.{At}
 use Rattle.hwp_cpu_row.specs.hwp_geom.declared.Who.{Who}
 use Rattle.hwp_cpu_row.specs.hwp_core_rule.Calls.{Steps, logs}
 use Rattle.std.proofs.lemmas.Option.{none-some}
-use Rattle.hwp_cpu_row.specs.hwp_cpu_check.Told.{halts, has_kept}
+use Rattle.hwp_cpu_row.specs.hwp_claim.Told.{halts, has_kept}
 use Rattle.hwp_cpu.proofs.causes.NotedLines.{answered-unnoted, notes-behind, notes-more}
 use Rattle.hwp_cpu_command.proofs.of_hwp_cpu_access.ToldMore.{Tells, told-more}
 use Rattle.hwp_cpu_command.specs.Jobs.{told_of}
 use Rattle.std.proofs.Common.{Bool, true, ◌≡◌, ◌⊎◌, is_some, subst, false, sym, drop, length, append-nil, inl, true≢false, ◌++◌, refl, List, ◌&&◌, Option, arith, ap, ℕ, inr, ◌∙◌, [], None, Some}
 use Rattle.hwp_cpu_command.specs.hwp_cpu_access.declared.Instruction.{Instruction}
-use Rattle.hwp_cpu_row.specs.hwp_cpu_check.declared.EventOutcome.{EventOutcome}
+use Rattle.hwp_cpu_row.specs.hwp_claim.declared.EventOutcome.{EventOutcome}
 use Rattle.hwp_cpu_command.specs.declared.job.Job.{Job}
 use Rattle.hwp_cpu_row.specs.Locals.{collects}
 use Rattle.hwp_cpu.specs.Serving.{HasToldAll}

@@ -44,7 +44,7 @@ use Rattle.hwp_cpu_command.specs.Stays.{Stepped, HasGivenUp}
 use Rattle.hwp_cpu.proofs.BesideTurns.{at_rest, way-with}
 use Rattle.std.proofs.lemmas.Option.{slice_get_within, none-some}
 use Rattle.hwp_cpu_row.specs.declared.Local.{Local}
-use Rattle.hwp_cpu_row.specs.hwp_cpu_check.declared.EventOutcome.{EventOutcome}
+use Rattle.hwp_cpu_row.specs.hwp_claim.declared.EventOutcome.{EventOutcome}
 use Rattle.hwp_cpu_command.specs.hwp_soft.declared.Soft.{Soft}
 use Rattle.std.proofs.lemmas.Bool.{eq-eqb, ltb-false, ltb-true}
 use Rattle.hwp_cpu_row.specs.hwp_geom.declared.Cpu.{Cpu}

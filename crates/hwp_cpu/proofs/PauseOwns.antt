@@ -11,8 +11,8 @@ use Rattle.hwp_cpu_row.specs.hwp_core_rule.Lasting.{IsMild}
 use Rattle.hwp_cpu_row.specs.hwp_core_rule.declared.Turn.{Turn}
 use Rattle.hwp_cpu_row.specs.hwp_core_rule.Ranks.{Made, Pending, is_refused, words_at}
 use Rattle.hwp_cpu_row.proofs.of_hwp_core_rule.tasks.StepRanks.{pending-kept}
-use Rattle.hwp_cpu_row.specs.hwp_cpu_check.declared.Handler.{Handler}
-use Rattle.hwp_cpu_row.specs.hwp_cpu_check.Handlers as handlers
+use Rattle.hwp_cpu_row.specs.hwp_claim.declared.Handler.{Handler}
+use Rattle.hwp_cpu_row.specs.hwp_claim.Handlers as handlers
 use Rattle.hwp_cpu_command.specs.declared.job.Job.{Job}
 use Rattle.hwp_cpu_command.specs.declared.job.Job.TheVariants as kinds
 use Rattle.hwp_cpu_command.specs.Jobs as jobs

@@ -53,9 +53,9 @@ use Rattle.hwp_cpu_row.specs.declared.Offlining.{Offlining}
 use Rattle.hwp_cpu_row.specs.declared.Row.{Row}
 use Rattle.hwp_cpu_row.specs.declared.Watching.{Watching}
 use Rattle.hwp_cpu_row.specs.Acts.{Act, Offlined, Told, acts}
-use Rattle.hwp_cpu_row.specs.hwp_cpu_check.declared.EventOutcome.{EventOutcome}
-use Rattle.hwp_cpu_row.specs.hwp_cpu_check.Done.{marked_in}
-use Rattle.hwp_cpu_row.specs.hwp_cpu_check.Told.{frame_of}
+use Rattle.hwp_cpu_row.specs.hwp_claim.declared.EventOutcome.{EventOutcome}
+use Rattle.hwp_cpu_row.specs.hwp_claim.CheckDone.{marked_in}
+use Rattle.hwp_cpu_row.specs.hwp_claim.Told.{frame_of}
 use Rattle.hwp_cpu_command.specs.hwp_cpu_access.Done.{FailuresGrow}
 use Rattle.hwp_cpu_command.specs.declared.Job.{Job}
 use Rattle.hwp_cpu_command.specs.declared.job.Job.TheVariants as kinds

@@ -4,7 +4,7 @@ use Rattle.hwp_cpu_row.specs.hwp_geom.declared.VSlot.{VSlot}
 use Rattle.hwp_cpu_row.specs.CowLists.{KnowsCows, acting_in, copied_in, first_cows}
 use Rattle.hwp_cpu_row.proofs.CowListLaws.{acting-known, copied-known, first-are, first-known}
 use Rattle.hwp_cpu_command.specs.Runs.{CanFork}
-use Rattle.hwp_cpu_row.specs.hwp_cpu_check.hwp_guest.declared.Admit.{Admit}
+use Rattle.hwp_cpu_row.specs.hwp_claim.hwp_guest.declared.Admit.{Admit}
 use Rattle.hwp_cpu_row.specs.hwp_report_text.declared.Answer.{Answer}
 use Rattle.hwp_cpu.proofs.ActingFits.{at-least, fork-acted}
 use Rattle.hwp_cpu.proofs.FreshChildren.{can-fork}

@@ -9,8 +9,8 @@ use Rattle.hwp_cpu_row.specs.hwp_geom.declared.Who.{Who}
 use Rattle.hwp_cpu_row.specs.hwp_geom.Limits.{command_limit}
 use Rattle.hwp_cpu_row.specs.hwp_geom.Pairs.{Pairs}
 use Rattle.hwp_cpu_row.specs.hwp_claim.declared.Found.{Found}
-use Rattle.hwp_cpu_row.specs.hwp_cpu_check.declared.EventOutcome.{EventOutcome}
-use Rattle.hwp_cpu_row.specs.hwp_cpu_check.Told.{frame_of}
+use Rattle.hwp_cpu_row.specs.hwp_claim.declared.EventOutcome.{EventOutcome}
+use Rattle.hwp_cpu_row.specs.hwp_claim.Told.{frame_of}
 use Rattle.hwp_law_served.specs.hwp_law.Records.{is_poisoning}
 use Rattle.hwp_cpu_row.specs.hwp_report_text.declared.MarkLine.{MarkLine}
 use Rattle.hwp_cpu_row.specs.hwp_core_rule.declared.Mark.{Mark}

@@ -14,7 +14,7 @@ use Rattle.hwp_cpu_row.specs.hwp_core_rule.declared.Step.{Step}
 use Rattle.hwp_cpu_row.specs.hwp_core_rule.declared.View.{View}
 use Rattle.hwp_cpu_row.specs.hwp_core_rule.declared.Turn.{Turn}
 use Rattle.hwp_cpu_row.specs.hwp_core_rule.Calls.{Steps, logs}
-use Rattle.hwp_cpu_row.specs.hwp_cpu_check.declared.EventOutcome.{EventOutcome}
+use Rattle.hwp_cpu_row.specs.hwp_claim.declared.EventOutcome.{EventOutcome}
 use Rattle.hwp_cpu_command.specs.declared.Job.{Job}
 use Rattle.hwp_cpu_command.specs.declared.job.Job.TheVariants as kinds
 use Rattle.hwp_cpu_command.specs.Jobs as jobs
@@ -27,7 +27,7 @@ use Rattle.hwp_cpu_command.specs.hwp_cpu_access.Instructions as instructions
 use Rattle.hwp_cpu_command.proofs.of_hwp_cpu_access.ToldMore.{TellsMore, told-more}
 use Rattle.hwp_cpu_command.proofs.of_hwp_scrub.RaiseLines.{raise-few}
 use Rattle.hwp_cpu_command.proofs.of_hwp_scrub.ScrubLines.{frame_lines, scrub-few}
-use Rattle.hwp_cpu_row.specs.hwp_cpu_check.Checks.{Check}
+use Rattle.hwp_cpu_row.specs.hwp_claim.Checks.{Check}
 use Rattle.hwp_cpu_command.specs.hwp_cpu_access.declared.Copying.{Copying}
 use Rattle.hwp_cpu_command.specs.hwp_cpu_access.declared.copying.CopyingAt.{CopyingAt}
 use Rattle.hwp_cpu_command.specs.hwp_cpu_access.declared.copying.CopyingAt.TheVariants as copying_at

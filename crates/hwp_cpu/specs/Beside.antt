@@ -14,8 +14,8 @@ use Rattle.hwp_law_served.specs.hwp_report_text.declared.Answer.{Answer}
 use Rattle.hwp_law_served.specs.hwp_report_text.declared.Answer.TheVariants as answers
 use Rattle.hwp_law_served.specs.hwp_banks.Banks.{Banks}
 use Rattle.hwp_law_served.specs.hwp_law.Commands.{Access, access_of, current_thread}
-use Rattle.hwp_law_served.specs.hwp_cpu_check.Done.{failed_in, marked_in}
-use Rattle.hwp_law_served.specs.hwp_cpu_check.Told.{halts}
+use Rattle.hwp_law_served.specs.hwp_claim.CheckDone.{failed_in, marked_in}
+use Rattle.hwp_law_served.specs.hwp_claim.Told.{halts}
 use Rattle.hwp_cpu_command.specs.declared.Job.{Job}
 use Rattle.hwp_cpu_command.specs.Done.{failed_now, marked_now}
 use Rattle.hwp_cpu_command.specs.Jobs.{banks_after, banks_before, own_of, told_of}

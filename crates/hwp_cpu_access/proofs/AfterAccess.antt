@@ -8,8 +8,8 @@ use Rattle.hwp_fault.specs.declared.Access.{Access}
 use Rattle.hwp_fault.specs.declared.AccessAnswer.{AccessAnswer}
 use Rattle.hwp_fault.specs.declared.AccessAnswer.TheVariants as access_answers
 use Rattle.hwp_fault.specs.Accesses as accesses
-use Rattle.hwp_cpu_check.specs.declared.Handler.{Handler}
-use Rattle.hwp_cpu_check.specs.Handlers as handlers
+use Rattle.hwp_claim.specs.declared.Handler.{Handler}
+use Rattle.hwp_claim.specs.Handlers as handlers
 use Rattle.hwp_cpu_access.specs.Instructions.{AfterAccess, AfterAccessBy, BeginsCheck, Follows, FollowsAt, after_handler_by, emptied, handler_of}
 use Rattle.hwp_cpu_access.specs.declared.instruction.Instruction.{Instruction}
 use Rattle.hwp_cpu_access.specs.declared.instruction.InstructionAt.{InstructionAt}

@@ -4,7 +4,7 @@ use Rattle.std.proofs.lemmas.Bool.{and_parts, both_ways, eq-eqb, eqb-false, eqb-
 use Rattle.std.proofs.lemmas.Option.{none-some}
 use Rattle.hwp_fault.specs.hwp_geom.declared.Frame.{Frame}
 use Rattle.hwp_fault.specs.hwp_geom.declared.Layout.{Layout}
-use Rattle.hwp_cpu_check.specs.hwp_banks.Addresses.{frame_at}
+use Rattle.hwp_claim.specs.hwp_banks.Addresses.{frame_at}
 use Rattle.hwp_fault.specs.hwp_words.Frames.{cycle_of, is_poisoned, poison_of}
 use Rattle.hwp_fault.specs.hwp_core_rule.declared.State.{State}
 use Rattle.hwp_fault.specs.hwp_core_rule.declared.Step.TheVariants as steps
@@ -15,29 +15,29 @@ use Rattle.hwp_fault.specs.hwp_core_rule.Ranks.{Made, is_waits, words_at}
 use Rattle.hwp_fault.proofs.of_hwp_core_rule.tasks.StepRanks.{met, poison-fails}
 use Rattle.hwp_fault.proofs.of_hwp_core.TaskCosts.{met-own}
 use Rattle.hwp_fault.proofs.FaultCosts.{Lowered}
-use Rattle.hwp_cpu_check.specs.hwp_claim_frame.declared.claim.Claim.{Claim}
-use Rattle.hwp_cpu_check.specs.hwp_claim_frame.declared.claim.ClaimAt.{ClaimAt}
-use Rattle.hwp_cpu_check.specs.hwp_claim_frame.declared.claim.ClaimAt.TheVariants as claim_at
-use Rattle.hwp_cpu_check.specs.hwp_claim_frame.declared.ClaimAnswer.{ClaimAnswer}
-use Rattle.hwp_cpu_check.specs.hwp_claim_frame.Claims as frame_claims
-use Rattle.hwp_cpu_check.specs.hwp_claim_frame.Done.{marked_in}
-use Rattle.hwp_cpu_check.specs.hwp_claim.declared.Fail.{Fail}
-use Rattle.hwp_cpu_check.specs.hwp_claim.declared.fail.FailAt.{FailAt}
-use Rattle.hwp_cpu_check.specs.hwp_claim.declared.fail.FailAt.TheVariants as fail_at
-use Rattle.hwp_cpu_check.specs.hwp_claim.declared.FailAnswer.{FailAnswer}
-use Rattle.hwp_cpu_check.specs.hwp_claim.declared.FailAnswer.TheVariants as fail_answers
-use Rattle.hwp_cpu_check.specs.hwp_claim.Done.{marked_at}
-use Rattle.hwp_cpu_check.specs.hwp_claim.Fails as fails
-use Rattle.hwp_cpu_check.specs.hwp_claim.Injects.{recovers_at, recovers_in}
-use Rattle.hwp_cpu_check.specs.declared.Handler.{Handler}
-use Rattle.hwp_cpu_check.specs.declared.Held.{Held}
-use Rattle.hwp_cpu_check.specs.declared.EventOutcome.{EventOutcome}
-use Rattle.hwp_cpu_check.specs.declared.handler.HandlerAt.{HandlerAt}
-use Rattle.hwp_cpu_check.specs.declared.handler.HandlerAt.TheVariants as handler_at
-use Rattle.hwp_cpu_check.specs.Fits as handler_fits
-use Rattle.hwp_cpu_check.specs.Handlers as handlers
-use Rattle.hwp_cpu_check.specs.Queue.{Queue}
-use Rattle.hwp_cpu_check.specs.Told.{told_by}
+use Rattle.hwp_claim.specs.hwp_claim_frame.declared.claim.Claim.{Claim}
+use Rattle.hwp_claim.specs.hwp_claim_frame.declared.claim.ClaimAt.{ClaimAt}
+use Rattle.hwp_claim.specs.hwp_claim_frame.declared.claim.ClaimAt.TheVariants as claim_at
+use Rattle.hwp_claim.specs.hwp_claim_frame.declared.ClaimAnswer.{ClaimAnswer}
+use Rattle.hwp_claim.specs.hwp_claim_frame.Claims as frame_claims
+use Rattle.hwp_claim.specs.hwp_claim_frame.Done.{marked_in}
+use Rattle.hwp_claim.specs.declared.Fail.{Fail}
+use Rattle.hwp_claim.specs.declared.fail.FailAt.{FailAt}
+use Rattle.hwp_claim.specs.declared.fail.FailAt.TheVariants as fail_at
+use Rattle.hwp_claim.specs.declared.FailAnswer.{FailAnswer}
+use Rattle.hwp_claim.specs.declared.FailAnswer.TheVariants as fail_answers
+use Rattle.hwp_claim.specs.Done.{marked_at}
+use Rattle.hwp_claim.specs.Fails as fails
+use Rattle.hwp_claim.specs.Injects.{recovers_at, recovers_in}
+use Rattle.hwp_claim.specs.declared.Handler.{Handler}
+use Rattle.hwp_claim.specs.declared.Held.{Held}
+use Rattle.hwp_claim.specs.declared.EventOutcome.{EventOutcome}
+use Rattle.hwp_claim.specs.declared.handler.HandlerAt.{HandlerAt}
+use Rattle.hwp_claim.specs.declared.handler.HandlerAt.TheVariants as handler_at
+use Rattle.hwp_claim.specs.Fits as handler_fits
+use Rattle.hwp_claim.specs.Handlers as handlers
+use Rattle.hwp_claim.specs.Queue.{Queue}
+use Rattle.hwp_claim.specs.Told.{told_by}
 use Rattle.hwp_cpu_access.specs.Costs.{cost, cost_at, ended_cost, is_alone, past_cost, word_of}
 use Rattle.hwp_cpu_access.specs.Instructions.{after_handler, left_to_do, resumed}
 use Rattle.hwp_cpu_access.specs.declared.instruction.Instruction.{Instruction}

@@ -10,10 +10,10 @@ use Rattle.hwp_fault.specs.declared.AccessAnswer.{AccessAnswer}
 use Rattle.hwp_fault.specs.declared.AccessAnswer.TheVariants as access_answers
 use Rattle.hwp_fault.specs.declared.Request.{Request}
 use Rattle.hwp_fault.specs.Accesses as accesses
-use Rattle.hwp_cpu_check.specs.hwp_banks.Banks.{Banks}
-use Rattle.hwp_cpu_check.specs.hwp_banks.declared.Origin.{Origin}
-use Rattle.hwp_cpu_check.specs.declared.Handler.{Handler}
-use Rattle.hwp_cpu_check.specs.Handlers as handlers
+use Rattle.hwp_claim.specs.hwp_banks.Banks.{Banks}
+use Rattle.hwp_claim.specs.hwp_banks.declared.Origin.{Origin}
+use Rattle.hwp_claim.specs.declared.Handler.{Handler}
+use Rattle.hwp_claim.specs.Handlers as handlers
 use Rattle.hwp_cpu_access.specs.declared.instruction.Instruction.{Instruction}
 use Rattle.hwp_cpu_access.specs.declared.instruction.InstructionAt.{InstructionAt}
 use Rattle.hwp_cpu_access.specs.declared.instruction.InstructionAt.TheVariants as at

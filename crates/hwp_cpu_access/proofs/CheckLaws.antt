@@ -11,16 +11,16 @@ use Rattle.hwp_fault.specs.hwp_geom.declared.Layout.{Layout}
 use Rattle.hwp_fault.specs.hwp_geom.declared.Mode.{Mode}
 use Rattle.hwp_fault.specs.hwp_geom.declared.Thread.{Thread}
 use Rattle.hwp_fault.specs.hwp_geom.declared.Who.{Who}
-use Rattle.hwp_cpu_check.specs.hwp_banks.declared.Event.{Event}
-use Rattle.hwp_cpu_check.specs.hwp_banks.declared.Origin.{Origin}
-use Rattle.hwp_cpu_check.specs.hwp_banks.Events.{bank_count}
+use Rattle.hwp_claim.specs.hwp_banks.declared.Event.{Event}
+use Rattle.hwp_claim.specs.hwp_banks.declared.Origin.{Origin}
+use Rattle.hwp_claim.specs.hwp_banks.Events.{bank_count}
 use Rattle.hwp_fault.specs.hwp_page.declared.At.{At}
 use Rattle.hwp_fault.specs.hwp_core_rule.declared.View.{View}
-use Rattle.hwp_cpu_check.specs.hwp_report_text.Acts.{is_panic, is_stopping}
-use Rattle.hwp_cpu_check.specs.hwp_banks.Banks.{Banks, empty_banks}
-use Rattle.hwp_cpu_check.specs.declared.EventOutcome.{EventOutcome}
-use Rattle.hwp_cpu_check.specs.Told.{first_signal, halts, signal_of}
-use Rattle.hwp_cpu_check.specs.Checks.{AreChecks, Check, IsCheck, left_by, lines_of}
+use Rattle.hwp_claim.specs.hwp_report_text.Acts.{is_panic, is_stopping}
+use Rattle.hwp_claim.specs.hwp_banks.Banks.{Banks, empty_banks}
+use Rattle.hwp_claim.specs.declared.EventOutcome.{EventOutcome}
+use Rattle.hwp_claim.specs.Told.{first_signal, halts, signal_of}
+use Rattle.hwp_claim.specs.Checks.{AreChecks, Check, IsCheck, left_by, lines_of}
 use Rattle.hwp_cpu_access.specs.Fits.{LetsGoOn}
 
 -- ---- what lines tell

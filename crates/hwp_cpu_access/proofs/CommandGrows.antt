@@ -11,7 +11,7 @@ use Rattle.hwp_fault.specs.hwp_geom.declared.Layout.{Layout}
 use Rattle.hwp_fault.specs.hwp_geom.declared.Mode.{Mode}
 use Rattle.hwp_fault.specs.hwp_geom.declared.Page.{Page}
 use Rattle.hwp_fault.specs.hwp_geom.declared.Who.{Who}
-use Rattle.hwp_cpu_check.specs.hwp_banks.declared.Origin.{Origin}
+use Rattle.hwp_claim.specs.hwp_banks.declared.Origin.{Origin}
 use Rattle.hwp_fault.specs.hwp_page.declared.What.{What}
 use Rattle.hwp_fault.specs.hwp_page.declared.What.TheVariants as entries
 use Rattle.hwp_fault.specs.hwp_page.History.{BodyValue}
@@ -32,21 +32,21 @@ use Rattle.hwp_fault.specs.hwp_core_rule.Calls.{Steps, logs}
 use Rattle.hwp_fault.specs.hwp_core_rule.Known.{HasMadeBeside, HasOnlyBeside, IsOnTheWay, Precedes, Saw, deeds, is_by, is_failure, such_deeds}
 use Rattle.hwp_fault.proofs.of_hwp_core_rule.tasks.MadeEntries.{made-kept, only-beside-more, only-beside-stays, only-of-made}
 use Rattle.hwp_fault.proofs.of_hwp_core_rule.tasks.SightKeeps.{saw-stays}
-use Rattle.hwp_cpu_check.specs.hwp_claim_act.declared.Failed.{Failed}
-use Rattle.hwp_cpu_check.specs.hwp_claim_act.Abandoned.{AddsFailure, failed_in, failed_of}
-use Rattle.hwp_cpu_check.specs.hwp_claim_frame.Claims.{is_own}
+use Rattle.hwp_claim.specs.hwp_claim_act.declared.Failed.{Failed}
+use Rattle.hwp_claim.specs.hwp_claim_act.Abandoned.{AddsFailure, failed_in, failed_of}
+use Rattle.hwp_claim.specs.hwp_claim_frame.Claims.{is_own}
 use Rattle.hwp_fault.specs.declared.Access.{Access}
 use Rattle.hwp_fault.specs.declared.Request.{Request}
 use Rattle.hwp_fault.specs.Accesses as accesses
 use Rattle.hwp_fault.specs.Accesses.{check_of}
 use Rattle.hwp_fault.specs.Adds as adds
 use Rattle.hwp_fault.specs.Adds.{Skips}
-use Rattle.hwp_cpu_check.proofs.of_hwp_claim.of_hwp_claim_frame.Quiet.{Alike, PlansQuiet, leaves}
-use Rattle.hwp_cpu_check.specs.hwp_banks.Banks.{Banks, empty_banks}
-use Rattle.hwp_cpu_check.specs.hwp_severity.Handling.{has_stop}
-use Rattle.hwp_cpu_check.specs.hwp_law.Commands.{is_check}
-use Rattle.hwp_cpu_check.proofs.FailureKeeps.{Stay, told-stays}
-use Rattle.hwp_cpu_check.specs.Checks.{Check, restarting, with_own}
+use Rattle.hwp_claim.proofs.of_hwp_claim_frame.Quiet.{Alike, PlansQuiet, leaves}
+use Rattle.hwp_claim.specs.hwp_banks.Banks.{Banks, empty_banks}
+use Rattle.hwp_claim.specs.hwp_severity.Handling.{has_stop}
+use Rattle.hwp_claim.specs.hwp_law.Commands.{is_check}
+use Rattle.hwp_claim.proofs.FailureKeeps.{Stay, told-stays}
+use Rattle.hwp_claim.specs.Checks.{Check, restarting, with_own}
 use Rattle.hwp_cpu_access.specs.Checks.{AreChecks, IsCheck, SawBad}
 use Rattle.hwp_cpu_access.specs.Done.{FailuresGrow, failures_by}
 use Rattle.hwp_cpu_access.specs.Fits.{checks_made}

@@ -17,8 +17,8 @@ use Rattle.hwp_fault.specs.hwp_core_rule.Lists.{EachMember}
 use Rattle.hwp_fault.specs.hwp_core_rule.Known.{IsOnTheWay, is_failure}
 use Rattle.hwp_fault.specs.declared.Request.{Request}
 use Rattle.hwp_fault.specs.Accesses.{what_of}
-use Rattle.hwp_cpu_check.specs.hwp_banks.Banks.{Banks}
-use Rattle.hwp_cpu_check.specs.Checks.{left_by}
+use Rattle.hwp_claim.specs.hwp_banks.Banks.{Banks}
+use Rattle.hwp_claim.specs.Checks.{left_by}
 use Rattle.hwp_fork.specs.declared.cow.Cow.{Cow}
 use Rattle.hwp_fork.specs.declared.cow.Sub.{Sub}
 use Rattle.hwp_fork.specs.declared.cow.Sub.TheVariants as subs

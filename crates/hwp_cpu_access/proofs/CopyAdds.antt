@@ -14,8 +14,8 @@ use Rattle.hwp_fault.specs.hwp_core_rule.declared.View.{View}
 use Rattle.hwp_fault.specs.hwp_core_rule.declared.Turn.{Turn}
 use Rattle.hwp_fault.specs.hwp_core_rule.Calls.{Steps, logs}
 use Rattle.hwp_fault.specs.declared.Request.{Request}
-use Rattle.hwp_cpu_check.specs.hwp_claim_act.declared.Failed.{Failed}
-use Rattle.hwp_cpu_check.specs.hwp_claim_frame.Done.{Grows, Marking, counts_owed, marking_of}
+use Rattle.hwp_claim.specs.hwp_claim_act.declared.Failed.{Failed}
+use Rattle.hwp_claim.specs.hwp_claim_frame.Done.{Grows, Marking, counts_owed, marking_of}
 use Rattle.hwp_evict.specs.declared.evict.Evict.{Evict}
 use Rattle.hwp_evict.specs.declared.evict.EvictAnswer.{EvictAnswer}
 use Rattle.hwp_evict.specs.declared.evict.EvictAnswer.TheVariants as evict_answers
@@ -28,7 +28,7 @@ use Rattle.hwp_cpu_access.specs.declared.instruction.Instruction.{Instruction}
 use Rattle.hwp_cpu_access.specs.declared.instruction.InstructionAnswer.{InstructionAnswer}
 use Rattle.hwp_cpu_access.specs.declared.instruction.InstructionAnswer.TheVariants as answers
 use Rattle.hwp_cpu_access.specs.declared.instruction.InstructionAt.TheVariants as instruction_at
-use Rattle.hwp_cpu_check.proofs.of_hwp_claim.of_hwp_claim_frame.Quiet.{Alike}
+use Rattle.hwp_claim.proofs.of_hwp_claim_frame.Quiet.{Alike}
 use Rattle.hwp_cpu_access.specs.Done as instruction_done
 use Rattle.hwp_cpu_access.specs.Done.{FailuresGrow, failures_by}
 use Rattle.hwp_cpu_access.specs.Instructions as instructions

@@ -19,11 +19,11 @@ use Rattle.hwp_fault.specs.hwp_core_rule.Known.{HasMadeNoneBeside, deeds}
 use Rattle.hwp_fault.specs.declared.AccessKind.TheVariants as kinds
 use Rattle.hwp_fault.specs.declared.Request.{Request}
 use Rattle.hwp_fault.specs.Accesses as accesses
-use Rattle.hwp_cpu_check.specs.Checks.{Check, left_by, lines_of}
-use Rattle.hwp_cpu_check.specs.hwp_banks.Banks.{Banks}
-use Rattle.hwp_cpu_check.specs.hwp_banks.Events.{bank_count}
-use Rattle.hwp_cpu_check.specs.hwp_banks.declared.Origin.{Origin}
-use Rattle.hwp_cpu_check.specs.hwp_banks.declared.Origin.TheVariants as origins
+use Rattle.hwp_claim.specs.Checks.{Check, left_by, lines_of}
+use Rattle.hwp_claim.specs.hwp_banks.Banks.{Banks}
+use Rattle.hwp_claim.specs.hwp_banks.Events.{bank_count}
+use Rattle.hwp_claim.specs.hwp_banks.declared.Origin.{Origin}
+use Rattle.hwp_claim.specs.hwp_banks.declared.Origin.TheVariants as origins
 use Rattle.hwp_fault.specs.hwp_geom.declared.Mode.TheVariants as modes
 use Rattle.hwp_cpu_access.specs.declared.instruction.InstructionAnswer.{InstructionAnswer}
 use Rattle.hwp_cpu_access.specs.declared.instruction.InstructionAnswer.TheVariants as answers

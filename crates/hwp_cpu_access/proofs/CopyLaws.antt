@@ -24,7 +24,7 @@ use Rattle.hwp_fault.specs.hwp_core_rule.Turns.{IsTask}
 use Rattle.hwp_fault.proofs.of_hwp_core_rule.tasks.SightKeeps.{saw-stays}
 use Rattle.hwp_fault.proofs.of_hwp_core_rule.tasks.StepLeaves.{on-turn-after}
 use Rattle.hwp_fault.specs.declared.Request.{Request}
-use Rattle.hwp_cpu_check.specs.Checks.{left_by, lines_of}
+use Rattle.hwp_claim.specs.Checks.{left_by, lines_of}
 use Rattle.hwp_evict.specs.declared.evict.Evict.{Evict}
 use Rattle.hwp_evict.specs.declared.evict.EvictAnswer.{EvictAnswer}
 use Rattle.hwp_evict.specs.declared.evict.EvictAnswer.TheVariants as evict_answers

@@ -23,11 +23,11 @@ use Rattle.hwp_fault.specs.declared.Request.{Request}
 use Rattle.hwp_fault.specs.Accesses as accesses
 use Rattle.hwp_fault.specs.Adds.{Adds, Skips, has_checked}
 use Rattle.hwp_fault.proofs.FaultAdds.{access-adds}
-use Rattle.hwp_cpu_check.specs.hwp_claim_act.declared.Failed.{Failed}
-use Rattle.hwp_cpu_check.specs.hwp_claim_act.Abandoned.{AddsFailure, failed_in, failed_of}
-use Rattle.hwp_cpu_check.specs.declared.Handler.{Handler}
-use Rattle.hwp_cpu_check.specs.Handlers as handlers
-use Rattle.hwp_cpu_check.proofs.HandlerAdds.{handler-adds}
+use Rattle.hwp_claim.specs.hwp_claim_act.declared.Failed.{Failed}
+use Rattle.hwp_claim.specs.hwp_claim_act.Abandoned.{AddsFailure, failed_in, failed_of}
+use Rattle.hwp_claim.specs.declared.Handler.{Handler}
+use Rattle.hwp_claim.specs.Handlers as handlers
+use Rattle.hwp_claim.proofs.HandlerAdds.{handler-adds}
 use Rattle.hwp_evict.specs.declared.evict.Evict.{Evict}
 use Rattle.hwp_evict.specs.Evictions.{entry_of}
 use Rattle.hwp_evict.specs.Evicts as evicts
@@ -37,7 +37,7 @@ use Rattle.hwp_cpu_access.specs.declared.instruction.InstructionAt.TheVariants a
 use Rattle.hwp_cpu_access.specs.Fits as instruction_fits
 use Rattle.hwp_cpu_access.specs.Fits.{FitsBehind}
 use Rattle.hwp_cpu_access.specs.Instructions as instructions
-use Rattle.hwp_cpu_check.specs.Checks.{Check}
+use Rattle.hwp_claim.specs.Checks.{Check}
 use Rattle.hwp_cpu_access.specs.declared.copying.Copying.{Copying}
 use Rattle.hwp_cpu_access.specs.declared.copying.CopyingAt.{CopyingAt}
 use Rattle.hwp_cpu_access.specs.declared.copying.CopyingAt.TheVariants as at

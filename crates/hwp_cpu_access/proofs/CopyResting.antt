@@ -15,8 +15,8 @@ use Rattle.hwp_fault.proofs.of_hwp_core_rule.MoreEntries.{each-append}
 use Rattle.hwp_fault.specs.hwp_core_rule.Calls.{IsOnTurn, Steps}
 use Rattle.hwp_fault.specs.hwp_core_rule.Hands.{hand_of, empty}
 use Rattle.hwp_fault.specs.hwp_core_rule.Known.{Precedes, deeds}
-use Rattle.hwp_cpu_check.specs.hwp_law.Commands.{is_check}
-use Rattle.hwp_cpu_check.specs.declared.EventOutcome.{EventOutcome}
+use Rattle.hwp_claim.specs.hwp_law.Commands.{is_check}
+use Rattle.hwp_claim.specs.declared.EventOutcome.{EventOutcome}
 use Rattle.hwp_fault.specs.declared.Request.{Request}
 use Rattle.hwp_fork.specs.Cows.{sub_of}
 use Rattle.hwp_cpu_access.specs.declared.instruction.Instruction.{Instruction}

@@ -44,7 +44,7 @@ use Rattle.hwp_evict.specs.Evictions.{entry_of}
 use Rattle.hwp_evict.specs.Evicts.{FitsAt, FitsFrom, IsVacating, plan, plan_at, put, put_at}
 use Rattle.hwp_evict.specs.hwp_core.Vacates as vacates
 use Rattle.hwp_evict.proofs.of_hwp_core.ClearLaws.{clear-lists}
-use Rattle.hwp_cpu_check.proofs.of_hwp_claim.of_hwp_claim_frame.Quiet.{Alike, PlansQuiet, clear, give-up, leaves, release, unhold}
+use Rattle.hwp_claim.proofs.of_hwp_claim_frame.Quiet.{Alike, PlansQuiet, clear, give-up, leaves, release, unhold}
 use Rattle.hwp_cpu_access.specs.Done.{failures_by}
 use Rattle.hwp_cpu_access.proofs.CommandGrows.{failures-listed}
 use Rattle.hwp_cpu_access.proofs.Quiet.{hold}

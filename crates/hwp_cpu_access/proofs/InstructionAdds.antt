@@ -20,10 +20,10 @@ use Rattle.hwp_fault.specs.hwp_core_rule.declared.Turn.{Turn}
 use Rattle.hwp_fault.specs.hwp_core_rule.Calls.{Steps, logs}
 use Rattle.hwp_fault.proofs.of_hwp_core_rule.tasks.StepLeaves.{steps-planned}
 use Rattle.hwp_fault.proofs.of_hwp_core_rule.tasks.MadeEntries.{deeds-same}
-use Rattle.hwp_cpu_check.specs.hwp_claim_act.declared.Failed.{Failed}
-use Rattle.hwp_cpu_check.specs.hwp_claim_act.Abandoned.{failed_in as failed_of_entry}
-use Rattle.hwp_cpu_check.specs.hwp_claim_frame.Done.{Grows, Marking, counts_owed, marking_of}
-use Rattle.hwp_cpu_check.proofs.of_hwp_claim.of_hwp_claim_frame.Quiet.{Alike}
+use Rattle.hwp_claim.specs.hwp_claim_act.declared.Failed.{Failed}
+use Rattle.hwp_claim.specs.hwp_claim_act.Abandoned.{failed_in as failed_of_entry}
+use Rattle.hwp_claim.specs.hwp_claim_frame.Done.{Grows, Marking, counts_owed, marking_of}
+use Rattle.hwp_claim.proofs.of_hwp_claim_frame.Quiet.{Alike}
 use Rattle.hwp_fault.specs.declared.Access.{Access}
 use Rattle.hwp_fault.specs.declared.AccessAnswer.{AccessAnswer}
 use Rattle.hwp_fault.specs.declared.AccessAnswer.TheVariants as access_answers
@@ -31,18 +31,18 @@ use Rattle.hwp_fault.specs.declared.Request.{Request}
 use Rattle.hwp_fault.specs.Accesses as accesses
 use Rattle.hwp_fault.specs.Adds.{has_checked}
 use Rattle.hwp_fault.proofs.FaultAdds.{access-adds}
-use Rattle.hwp_cpu_check.specs.declared.Handler.{Handler}
-use Rattle.hwp_cpu_check.specs.declared.handler.HandlerAt.{HandlerAt}
-use Rattle.hwp_cpu_check.specs.declared.handler.HandlerAt.TheVariants as handler_at
-use Rattle.hwp_cpu_check.specs.Done as handler_done
-use Rattle.hwp_cpu_check.specs.Done.{failed_in, marked_in}
-use Rattle.hwp_cpu_check.specs.Events.{held_in}
-use Rattle.hwp_cpu_check.specs.Handlers as handlers
-use Rattle.hwp_cpu_check.specs.Told.{first_signal, has_kept, was_poisoned}
-use Rattle.hwp_cpu_check.proofs.HandlerAdds.{grows-behind, handler-adds}
-use Rattle.hwp_cpu_check.proofs.EventTells.{kept, tell-done, tell-idle}
-use Rattle.hwp_cpu_check.specs.hwp_severity.Handling.{has_stop}
-use Rattle.hwp_cpu_check.specs.Checks.{Check, restarting, with_own}
+use Rattle.hwp_claim.specs.declared.Handler.{Handler}
+use Rattle.hwp_claim.specs.declared.handler.HandlerAt.{HandlerAt}
+use Rattle.hwp_claim.specs.declared.handler.HandlerAt.TheVariants as handler_at
+use Rattle.hwp_claim.specs.CheckDone as handler_done
+use Rattle.hwp_claim.specs.CheckDone.{failed_in, marked_in}
+use Rattle.hwp_claim.specs.Events.{held_in}
+use Rattle.hwp_claim.specs.Handlers as handlers
+use Rattle.hwp_claim.specs.Told.{first_signal, has_kept, was_poisoned}
+use Rattle.hwp_claim.proofs.HandlerAdds.{grows-behind, handler-adds}
+use Rattle.hwp_claim.proofs.EventTells.{kept, tell-done, tell-idle}
+use Rattle.hwp_claim.specs.hwp_severity.Handling.{has_stop}
+use Rattle.hwp_claim.specs.Checks.{Check, restarting, with_own}
 use Rattle.hwp_cpu_access.specs.Done.{Adds, FailuresGrow, failed_at, failed_by, failed_now, failures_by, marked_at, marked_by, marked_now, owed_at, owed_now}
 use Rattle.hwp_cpu_access.specs.Fits.{FitsAt, FitsBehind, IsAccessing, IsHandling}
 use Rattle.hwp_cpu_access.specs.Instructions.{AfterAccess, AfterAccessBy, Follows, FollowsAt, after_handler, after_handler_by, bare, bare_at, emptied, going_on, handler_of, is_pending, left_to_do, plan, plan_at, put, put_at, restarted}

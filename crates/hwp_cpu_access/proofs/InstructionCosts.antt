@@ -4,8 +4,8 @@ use Rattle.std.specs.List.{list_any}
 use Rattle.std.proofs.lemmas.List.{length-append}
 use Rattle.hwp_fault.specs.hwp_geom.declared.Frame.{Frame}
 use Rattle.hwp_fault.specs.hwp_geom.declared.Layout.{Layout}
-use Rattle.hwp_cpu_check.specs.hwp_banks.declared.Event.{Event}
-use Rattle.hwp_cpu_check.specs.hwp_banks.Events.{bank_count}
+use Rattle.hwp_claim.specs.hwp_banks.declared.Event.{Event}
+use Rattle.hwp_claim.specs.hwp_banks.Events.{bank_count}
 use Rattle.hwp_fault.specs.hwp_page.declared.At.{At}
 use Rattle.hwp_fault.specs.hwp_core_rule.declared.Made.{Made}
 use Rattle.hwp_fault.specs.hwp_core_rule.declared.State.{State}
@@ -21,18 +21,18 @@ use Rattle.hwp_fault.specs.Accesses as accesses
 use Rattle.hwp_fault.specs.Faults as faults
 use Rattle.hwp_fault.specs.hwp_geom.Limits.{frame_limit}
 use Rattle.hwp_fault.proofs.AccessCosts.{access-small, again-few}
-use Rattle.hwp_cpu_check.specs.hwp_claim.Fails as fails
-use Rattle.hwp_cpu_check.proofs.of_hwp_claim.FailRank.{fail-small}
-use Rattle.hwp_cpu_check.specs.hwp_banks.Banks.{Banks, empty_banks}
-use Rattle.hwp_cpu_check.specs.declared.Handler.{Handler}
-use Rattle.hwp_cpu_check.specs.declared.EventOutcome.{EventOutcome}
-use Rattle.hwp_cpu_check.specs.declared.handler.HandlerAt.{HandlerAt}
-use Rattle.hwp_cpu_check.specs.declared.handler.HandlerAt.TheVariants as handler_at
-use Rattle.hwp_cpu_check.specs.Fits.{events_of}
-use Rattle.hwp_cpu_check.specs.Handlers as handlers
-use Rattle.hwp_cpu_check.specs.Queue.{Queue}
-use Rattle.hwp_cpu_check.specs.Told.{first_signal, has_kept, was_poisoned}
-use Rattle.hwp_cpu_check.specs.Checks.{Check}
+use Rattle.hwp_claim.specs.Fails as fails
+use Rattle.hwp_claim.proofs.FailRank.{fail-small}
+use Rattle.hwp_claim.specs.hwp_banks.Banks.{Banks, empty_banks}
+use Rattle.hwp_claim.specs.declared.Handler.{Handler}
+use Rattle.hwp_claim.specs.declared.EventOutcome.{EventOutcome}
+use Rattle.hwp_claim.specs.declared.handler.HandlerAt.{HandlerAt}
+use Rattle.hwp_claim.specs.declared.handler.HandlerAt.TheVariants as handler_at
+use Rattle.hwp_claim.specs.Fits.{events_of}
+use Rattle.hwp_claim.specs.Handlers as handlers
+use Rattle.hwp_claim.specs.Queue.{Queue}
+use Rattle.hwp_claim.specs.Told.{first_signal, has_kept, was_poisoned}
+use Rattle.hwp_claim.specs.Checks.{Check}
 use Rattle.hwp_cpu_access.specs.Costs.{aborts, aborts_at, anew, anew_after_wait, check_cost, claims, claims_at, cost, cost_at, ended_cost, held_cost, is_alone, past_cost, paused_cost, rest_at, word_of}
 use Rattle.hwp_cpu_access.specs.Fits.{FitsAt, FitsBehind}
 use Rattle.hwp_cpu_access.specs.Instructions.{after_check, after_handler, after_handler_by, going_on, left_to_do, resumed}

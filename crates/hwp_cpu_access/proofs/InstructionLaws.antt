@@ -10,7 +10,7 @@ use Rattle.hwp_fault.specs.hwp_geom.declared.Layout.{Layout}
 use Rattle.hwp_fault.specs.hwp_geom.declared.Thread.{Thread}
 use Rattle.hwp_fault.specs.hwp_geom.declared.Who.{Who}
 use Rattle.hwp_fault.specs.hwp_geom.Layout.{IsSound}
-use Rattle.hwp_cpu_check.specs.hwp_banks.Events.{bank_count, bank_of}
+use Rattle.hwp_claim.specs.hwp_banks.Events.{bank_count, bank_of}
 use Rattle.hwp_fault.specs.hwp_page.declared.At.{At}
 use Rattle.hwp_fault.specs.hwp_page.History.{BodyValue}
 use Rattle.hwp_fault.specs.hwp_words.Stops.{has_no_memory}
@@ -22,7 +22,7 @@ use Rattle.hwp_fault.specs.hwp_core_rule.declared.Turn.{Turn}
 use Rattle.hwp_fault.specs.hwp_core_rule.Calls.{CanMake, IsOnTurn, Steps, logs}
 use Rattle.hwp_fault.specs.hwp_core_rule.Hands.{hand_of, empty}
 use Rattle.hwp_fault.proofs.of_hwp_core_rule.tasks.StepLeaves.{can-make, hand-planned, on-turn-after, steps-planned}
-use Rattle.hwp_cpu_check.specs.hwp_claim_act.Abandoned.{AddsFailure}
+use Rattle.hwp_claim.specs.hwp_claim_act.Abandoned.{AddsFailure}
 use Rattle.hwp_fault.specs.hwp_core_rule.declared.Made.{Made}
 use Rattle.hwp_fault.specs.hwp_core_rule.Known.{HasMadeNoneBeside, deeds}
 use Rattle.hwp_fault.specs.hwp_core_rule.Turns.{IsTask}
@@ -38,28 +38,28 @@ use Rattle.hwp_fault.specs.Accesses as accesses
 use Rattle.hwp_fault.specs.Adds.{has_checked, is_checked}
 use Rattle.hwp_fault.proofs.AccessLaws.{answered as access-answered, begins as access-begins, begins-again, can as access-can, stays as access-stays}
 use Rattle.hwp_fault.proofs.FaultAdds.{access-adds, access-owes}
-use Rattle.hwp_cpu_check.specs.hwp_banks.Banks.{Banks, empty_banks}
-use Rattle.hwp_cpu_check.specs.hwp_severity.Handling.{has_stop}
-use Rattle.hwp_cpu_check.specs.hwp_law.Commands.{is_check}
-use Rattle.hwp_cpu_check.specs.declared.Handler.{Handler}
-use Rattle.hwp_cpu_check.specs.declared.Held.{Held}
-use Rattle.hwp_cpu_check.specs.declared.EventOutcome.{EventOutcome}
-use Rattle.hwp_cpu_check.specs.declared.handler.HandlerAt.{HandlerAt}
-use Rattle.hwp_cpu_check.specs.declared.handler.HandlerAt.TheVariants as handler_at
-use Rattle.hwp_cpu_check.specs.Done as handler_done
-use Rattle.hwp_cpu_check.specs.Events.{held_in}
-use Rattle.hwp_cpu_check.specs.Fits as handler_fits
-use Rattle.hwp_cpu_check.specs.Fits.{AreTold}
-use Rattle.hwp_cpu_check.specs.Handlers as handlers
-use Rattle.hwp_cpu_check.specs.Told.{first_signal, has_kept, stops_machine, was_poisoned}
-use Rattle.hwp_cpu_check.proofs.HandlerAdds.{handler-adds}
-use Rattle.hwp_cpu_check.proofs.BankGrades.{found-in}
-use Rattle.hwp_cpu_check.proofs.HandlerLaws.{begins-fit, can as handler-can, stays as handler-stays}
-use Rattle.hwp_cpu_check.proofs.FailureKeeps.{Stay, fail-stay, quiet-stay}
-use Rattle.hwp_cpu_check.proofs.CheckRoom.{shows-within}
-use Rattle.hwp_cpu_check.proofs.EventTells.{events-stay, kept}
-use Rattle.hwp_cpu_check.specs.Lines.{with_lines}
-use Rattle.hwp_cpu_check.specs.Checks.{Check, left_by, lines_of, restarting, with_own}
+use Rattle.hwp_claim.specs.hwp_banks.Banks.{Banks, empty_banks}
+use Rattle.hwp_claim.specs.hwp_severity.Handling.{has_stop}
+use Rattle.hwp_claim.specs.hwp_law.Commands.{is_check}
+use Rattle.hwp_claim.specs.declared.Handler.{Handler}
+use Rattle.hwp_claim.specs.declared.Held.{Held}
+use Rattle.hwp_claim.specs.declared.EventOutcome.{EventOutcome}
+use Rattle.hwp_claim.specs.declared.handler.HandlerAt.{HandlerAt}
+use Rattle.hwp_claim.specs.declared.handler.HandlerAt.TheVariants as handler_at
+use Rattle.hwp_claim.specs.CheckDone as handler_done
+use Rattle.hwp_claim.specs.Events.{held_in}
+use Rattle.hwp_claim.specs.Fits as handler_fits
+use Rattle.hwp_claim.specs.Fits.{AreTold}
+use Rattle.hwp_claim.specs.Handlers as handlers
+use Rattle.hwp_claim.specs.Told.{first_signal, has_kept, stops_machine, was_poisoned}
+use Rattle.hwp_claim.proofs.HandlerAdds.{handler-adds}
+use Rattle.hwp_claim.proofs.BankGrades.{found-in}
+use Rattle.hwp_claim.proofs.HandlerLaws.{begins-fit, can as handler-can, stays as handler-stays}
+use Rattle.hwp_claim.proofs.FailureKeeps.{Stay, fail-stay, quiet-stay}
+use Rattle.hwp_claim.proofs.CheckRoom.{shows-within}
+use Rattle.hwp_claim.proofs.EventTells.{events-stay, kept}
+use Rattle.hwp_claim.specs.Lines.{with_lines}
+use Rattle.hwp_claim.specs.Checks.{Check, left_by, lines_of, restarting, with_own}
 use Rattle.hwp_cpu_access.specs.Checks.{AreChecks, IsCheck, SawBad}
 use Rattle.hwp_cpu_access.specs.Fits.{FitsAt, FitsBehind, FitsFrom, HasHandler, HasOnlyBefore, IsAccessing, IsEnd, IsGoing, IsLeft, IsOfAccess, IsOwnEnd, IsPaused, IsSignalled, IsWaiting, LetsGoOn, banks_at, checks_in, checks_made, task as instruction-task}
 use Rattle.hwp_cpu_access.specs.Instructions.{AfterAccess, AfterAccessBy, BeginsCheck, Follows, FollowsAt, Shows, ShowsAt, after_handler, after_handler_by, after_load, after_stop, again_with, bare, bare_at, begin, emptied, going_on, handler_of, is_pending, left_to_do, pause, pause_at, plan, plan_at, put, put_at, restarted}

@@ -7,8 +7,8 @@ use Rattle.hwp_fault.specs.hwp_geom.Limits.{line_limit}
 use Rattle.hwp_fault.specs.hwp_geom.declared.Frame.{Frame}
 use Rattle.hwp_fault.specs.hwp_geom.declared.Layout.{Layout}
 use Rattle.hwp_fault.specs.hwp_geom.declared.Who.{Who}
-use Rattle.hwp_cpu_check.specs.hwp_banks.declared.Event.{Event}
-use Rattle.hwp_cpu_check.specs.hwp_banks.Events.{bank_count}
+use Rattle.hwp_claim.specs.hwp_banks.declared.Event.{Event}
+use Rattle.hwp_claim.specs.hwp_banks.Events.{bank_count}
 use Rattle.hwp_fault.specs.hwp_page.declared.At.{At}
 use Rattle.hwp_fault.specs.hwp_page.History.{BodyValue}
 use Rattle.hwp_fault.specs.hwp_words.Stops.{has_no_memory, is_stopped}
@@ -43,21 +43,21 @@ use Rattle.hwp_fault.specs.Accesses as accesses
 use Rattle.hwp_fault.proofs.AccessCosts.{access-mild, access-ranked, access-tells}
 use Rattle.hwp_fault.proofs.FaultCosts.{Lowered}
 use Rattle.hwp_fault.proofs.AccessLaws.{answered as access-answered, stays as access-stays}
-use Rattle.hwp_cpu_check.specs.hwp_claim.declared.Fail.{Fail}
-use Rattle.hwp_cpu_check.specs.hwp_banks.Banks.{Banks, empty_banks}
-use Rattle.hwp_cpu_check.specs.hwp_severity.Handling.{has_stop}
-use Rattle.hwp_cpu_check.specs.declared.Handler.{Handler}
-use Rattle.hwp_cpu_check.specs.declared.Held.{Held}
-use Rattle.hwp_cpu_check.specs.declared.handler.HandlerAt.{HandlerAt}
-use Rattle.hwp_cpu_check.specs.declared.handler.HandlerAt.TheVariants as handler_at
-use Rattle.hwp_cpu_check.specs.Events.{held_in}
-use Rattle.hwp_cpu_check.specs.Fits as handler_fits
-use Rattle.hwp_cpu_check.specs.Handlers as handlers
-use Rattle.hwp_cpu_check.specs.Told.{first_signal, has_kept, was_poisoned}
-use Rattle.hwp_cpu_check.proofs.BankGrades.{found-in}
-use Rattle.hwp_cpu_check.proofs.HandlerRank.{handler-lasting, handler-ranked, handler-tells}
-use Rattle.hwp_cpu_check.proofs.EventTells.{tell-cost}
-use Rattle.hwp_cpu_check.specs.Checks.{Check, restarting, with_own}
+use Rattle.hwp_claim.specs.declared.Fail.{Fail}
+use Rattle.hwp_claim.specs.hwp_banks.Banks.{Banks, empty_banks}
+use Rattle.hwp_claim.specs.hwp_severity.Handling.{has_stop}
+use Rattle.hwp_claim.specs.declared.Handler.{Handler}
+use Rattle.hwp_claim.specs.declared.Held.{Held}
+use Rattle.hwp_claim.specs.declared.handler.HandlerAt.{HandlerAt}
+use Rattle.hwp_claim.specs.declared.handler.HandlerAt.TheVariants as handler_at
+use Rattle.hwp_claim.specs.Events.{held_in}
+use Rattle.hwp_claim.specs.Fits as handler_fits
+use Rattle.hwp_claim.specs.Handlers as handlers
+use Rattle.hwp_claim.specs.Told.{first_signal, has_kept, was_poisoned}
+use Rattle.hwp_claim.proofs.BankGrades.{found-in}
+use Rattle.hwp_claim.proofs.HandlerRank.{handler-lasting, handler-ranked, handler-tells}
+use Rattle.hwp_claim.proofs.EventTells.{tell-cost}
+use Rattle.hwp_claim.specs.Checks.{Check, restarting, with_own}
 use Rattle.hwp_cpu_access.specs.Costs.{aborts, aborts_at, anew, paused_cost, check_cost, claims, claims_at, class, class_at, cost, cost_at, ended_cost, held_cost, is_alone, past_cost, rest_at, word_of}
 use Rattle.hwp_cpu_access.specs.Fits.{FitsAt, FitsBehind, IsOfAccess, banks_at, task as instruction-task}
 use Rattle.hwp_cpu_access.specs.Instructions.{AfterAccessBy, BeginsCheck, FollowsAt, after_handler, after_handler_by, after_load, after_stop, answered, bare, bare_at, emptied, going_on, handler_of, is_pending, left_to_do, plan, plan_at, put, put_at, restarted, turn_of_load}

@@ -30,5 +30,5 @@ pub mod CopyLists
 pub mod CopiedWords
 pub mod CopyEnds
 pub use Rattle.hwp_fault.proofs as of_hwp_fault
-pub use Rattle.hwp_cpu_check.proofs as of_hwp_cpu_check
+pub use Rattle.hwp_claim.proofs as of_hwp_claim
 pub use Rattle.hwp_fork.proofs as of_hwp_fork

@@ -9,30 +9,30 @@ use Rattle.hwp_fault.specs.hwp_geom.declared.Mode.TheVariants as modes
 use Rattle.hwp_fault.specs.hwp_geom.declared.Thread.{Thread}
 use Rattle.hwp_fault.specs.hwp_geom.declared.Who.{Who}
 use Rattle.hwp_fault.specs.hwp_geom.Limits.{line_limit}
-use Rattle.hwp_cpu_check.specs.hwp_banks.declared.Origin.{Origin}
-use Rattle.hwp_cpu_check.specs.hwp_banks.declared.Origin.TheVariants as origins
-use Rattle.hwp_cpu_check.specs.hwp_banks.Addresses.{frame_at}
-use Rattle.hwp_cpu_check.specs.hwp_banks.Events.{bank_of, own_event}
-use Rattle.hwp_cpu_check.specs.hwp_banks.Logged.{without_over}
-use Rattle.hwp_cpu_check.specs.hwp_severity.declared.Grade.{Grade}
-use Rattle.hwp_cpu_check.specs.hwp_severity.declared.Severity.{Severity}
-use Rattle.hwp_cpu_check.specs.hwp_severity.declared.Severity.TheVariants as severities
+use Rattle.hwp_claim.specs.hwp_banks.declared.Origin.{Origin}
+use Rattle.hwp_claim.specs.hwp_banks.declared.Origin.TheVariants as origins
+use Rattle.hwp_claim.specs.hwp_banks.Addresses.{frame_at}
+use Rattle.hwp_claim.specs.hwp_banks.Events.{bank_of, own_event}
+use Rattle.hwp_claim.specs.hwp_banks.Logged.{without_over}
+use Rattle.hwp_claim.specs.hwp_severity.declared.Grade.{Grade}
+use Rattle.hwp_claim.specs.hwp_severity.declared.Severity.{Severity}
+use Rattle.hwp_claim.specs.hwp_severity.declared.Severity.TheVariants as severities
 use Rattle.hwp_fault.specs.hwp_core_rule.Words.{Words}
-use Rattle.hwp_cpu_check.specs.hwp_report_text.declared.Acted.{Acted}
-use Rattle.hwp_cpu_check.specs.hwp_report_text.declared.Acted.TheVariants as acts
-use Rattle.hwp_cpu_check.specs.hwp_claim.Fails as fails
-use Rattle.hwp_cpu_check.specs.hwp_banks.Banks.{empty_banks}
-use Rattle.hwp_cpu_check.specs.hwp_severity.Handling.{has_stop}
-use Rattle.hwp_cpu_check.specs.declared.Handler.{Handler}
-use Rattle.hwp_cpu_check.specs.declared.Held.{Held}
-use Rattle.hwp_cpu_check.specs.declared.handler.HandlerAt.{HandlerAt}
-use Rattle.hwp_cpu_check.specs.declared.handler.HandlerAt.TheVariants as handler_at
-use Rattle.hwp_cpu_check.specs.Events.{held_in}
-use Rattle.hwp_cpu_check.specs.Handlers as handlers
-use Rattle.hwp_cpu_check.specs.Handlers.{failing, tell_on}
-use Rattle.hwp_cpu_check.specs.Queue.{Queue}
-use Rattle.hwp_cpu_check.specs.Told.{are_held_back, at_once, frame_of, required_by, severity_at_once}
-use Rattle.hwp_cpu_check.specs.Checks.{restarting, with_own}
+use Rattle.hwp_claim.specs.hwp_report_text.declared.Acted.{Acted}
+use Rattle.hwp_claim.specs.hwp_report_text.declared.Acted.TheVariants as acts
+use Rattle.hwp_claim.specs.Fails as fails
+use Rattle.hwp_claim.specs.hwp_banks.Banks.{empty_banks}
+use Rattle.hwp_claim.specs.hwp_severity.Handling.{has_stop}
+use Rattle.hwp_claim.specs.declared.Handler.{Handler}
+use Rattle.hwp_claim.specs.declared.Held.{Held}
+use Rattle.hwp_claim.specs.declared.handler.HandlerAt.{HandlerAt}
+use Rattle.hwp_claim.specs.declared.handler.HandlerAt.TheVariants as handler_at
+use Rattle.hwp_claim.specs.Events.{held_in}
+use Rattle.hwp_claim.specs.Handlers as handlers
+use Rattle.hwp_claim.specs.Handlers.{failing, tell_on}
+use Rattle.hwp_claim.specs.Queue.{Queue}
+use Rattle.hwp_claim.specs.Told.{are_held_back, at_once, frame_of, required_by, severity_at_once}
+use Rattle.hwp_claim.specs.Checks.{restarting, with_own}
 use Rattle.hwp_cpu_access.specs.Costs.{past_cost, rest_at, word_of, paused_cost}
 use Rattle.hwp_cpu_access.specs.Fits.{IsOfAccess}
 

@@ -29,7 +29,7 @@ use Rattle.hwp_fault.specs.declared.map_in.MapInAt.TheVariants as map_in_at
 use Rattle.hwp_fault.specs.Accesses as accesses
 use Rattle.hwp_fault.specs.Faults as faults
 use Rattle.hwp_fault.specs.MapIns as map_ins
-use Rattle.hwp_cpu_check.proofs.of_hwp_claim.of_hwp_claim_frame.Quiet.{PlansQuiet, give-up, unhold, unlock}
+use Rattle.hwp_claim.proofs.of_hwp_claim_frame.Quiet.{PlansQuiet, give-up, unhold, unlock}
 
 pub pin : (frame : Frame) (x : PinAt) → PlansQuiet (pins.plan_at frame x)
 pin frame pin_at.Load = tt

@@ -27,9 +27,9 @@ use Rattle.hwp_fault.proofs.of_hwp_core_rule.tasks.SightKeeps.{saw-stays}
 use Rattle.hwp_fault.proofs.of_hwp_core_rule.tasks.StepLeaves.{content_of}
 use Rattle.hwp_fault.proofs.AccessLaws.{begins-again}
 use Rattle.hwp_fault.specs.Accesses as accesses
-use Rattle.hwp_cpu_check.specs.hwp_claim_frame.Claims.{is_own, marks_by}
-use Rattle.hwp_cpu_check.proofs.FailureKeeps.{Stay}
-use Rattle.hwp_cpu_check.specs.Checks.{Check, left_by}
+use Rattle.hwp_claim.specs.hwp_claim_frame.Claims.{is_own, marks_by}
+use Rattle.hwp_claim.proofs.FailureKeeps.{Stay}
+use Rattle.hwp_claim.specs.Checks.{Check, left_by}
 use Rattle.hwp_cpu_access.specs.Fits.{FitsAt, FitsBehind, HasOnlyBefore, IsLeft, IsLeftAt, IsRestingBehind, banks_at, checks_in, checks_made}
 use Rattle.hwp_cpu_access.specs.Instructions.{pause, pause_at, resume, resume_by, resumed}
 use Rattle.hwp_cpu_access.specs.declared.instruction.Instruction.{Instruction}

@@ -17,10 +17,10 @@ use Rattle.hwp_fault.specs.hwp_core_rule.declared.View.{View}
 use Rattle.hwp_fault.specs.hwp_core_rule.Calls.{Steps}
 use Rattle.hwp_fault.specs.declared.Request.{Request}
 use Rattle.hwp_fault.proofs.of_hwp_core_rule.tasks.SightKeeps.{saw-state-stays, saw-stays}
-use Rattle.hwp_cpu_check.specs.hwp_banks.Banks.{Banks}
-use Rattle.hwp_cpu_check.specs.hwp_banks.declared.Origin.TheVariants as origins
-use Rattle.hwp_cpu_check.specs.hwp_law.Commands.{is_check}
-use Rattle.hwp_cpu_check.specs.Checks.{Check, left_by}
+use Rattle.hwp_claim.specs.hwp_banks.Banks.{Banks}
+use Rattle.hwp_claim.specs.hwp_banks.declared.Origin.TheVariants as origins
+use Rattle.hwp_claim.specs.hwp_law.Commands.{is_check}
+use Rattle.hwp_claim.specs.Checks.{Check, left_by}
 use Rattle.hwp_fork.specs.declared.cow.Cow.{Cow}
 use Rattle.hwp_fork.specs.declared.cow.Sub.{Sub}
 use Rattle.hwp_fork.specs.declared.cow.Sub.TheVariants as subs

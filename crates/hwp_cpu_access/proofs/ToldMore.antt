@@ -19,22 +19,22 @@ use Rattle.hwp_fault.specs.declared.Request.{Request}
 use Rattle.hwp_fault.specs.Accesses as accesses
 use Rattle.hwp_fault.proofs.AccessLaws.{answered as access-answered, stays as access-stays}
 use Rattle.hwp_fault.proofs.FaultAdds.{access-owes}
-use Rattle.hwp_cpu_check.specs.hwp_banks.Banks.{Banks}
-use Rattle.hwp_cpu_check.specs.hwp_banks.Events.{bank_count}
-use Rattle.hwp_cpu_check.specs.hwp_severity.Handling.{has_stop}
-use Rattle.hwp_cpu_check.specs.declared.EventOutcome.{EventOutcome}
-use Rattle.hwp_cpu_check.specs.declared.Handler.{Handler}
-use Rattle.hwp_cpu_check.specs.declared.Held.{Held}
-use Rattle.hwp_cpu_check.specs.declared.handler.HandlerAt.{HandlerAt}
-use Rattle.hwp_cpu_check.specs.declared.handler.HandlerAt.TheVariants as handler_at
-use Rattle.hwp_cpu_check.specs.Checks.{Check, left_by, restarting, with_own}
-use Rattle.hwp_cpu_check.specs.Events.{held_in}
-use Rattle.hwp_cpu_check.specs.Fits as handler_fits
-use Rattle.hwp_cpu_check.specs.Fits.{AreTold, events_of}
-use Rattle.hwp_cpu_check.specs.Handlers as handlers
-use Rattle.hwp_cpu_check.specs.Told.{first_signal, halts, has_kept, was_poisoned}
-use Rattle.hwp_cpu_check.proofs.EventTells.{events-stay, kept}
-use Rattle.hwp_cpu_check.proofs.HandlerLaws.{begins-fit, stays as handler-stays}
+use Rattle.hwp_claim.specs.hwp_banks.Banks.{Banks}
+use Rattle.hwp_claim.specs.hwp_banks.Events.{bank_count}
+use Rattle.hwp_claim.specs.hwp_severity.Handling.{has_stop}
+use Rattle.hwp_claim.specs.declared.EventOutcome.{EventOutcome}
+use Rattle.hwp_claim.specs.declared.Handler.{Handler}
+use Rattle.hwp_claim.specs.declared.Held.{Held}
+use Rattle.hwp_claim.specs.declared.handler.HandlerAt.{HandlerAt}
+use Rattle.hwp_claim.specs.declared.handler.HandlerAt.TheVariants as handler_at
+use Rattle.hwp_claim.specs.Checks.{Check, left_by, restarting, with_own}
+use Rattle.hwp_claim.specs.Events.{held_in}
+use Rattle.hwp_claim.specs.Fits as handler_fits
+use Rattle.hwp_claim.specs.Fits.{AreTold, events_of}
+use Rattle.hwp_claim.specs.Handlers as handlers
+use Rattle.hwp_claim.specs.Told.{first_signal, halts, has_kept, was_poisoned}
+use Rattle.hwp_claim.proofs.EventTells.{events-stay, kept}
+use Rattle.hwp_claim.proofs.HandlerLaws.{begins-fit, stays as handler-stays}
 use Rattle.hwp_cpu_access.specs.Fits.{FitsAt, FitsBehind, HasHandler, IsAccessing, banks_at}
 use Rattle.hwp_cpu_access.specs.Instructions.{AfterAccessBy, BeginsCheck, Follows, FollowsAt, after_handler, after_handler_by, bare, bare_at, emptied, going_on, handler_of, left_to_do, pause, plan, plan_at, put, put_at}
 use Rattle.hwp_cpu_access.specs.declared.instruction.Instruction.{Instruction}

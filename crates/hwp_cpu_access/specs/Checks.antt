@@ -3,12 +3,12 @@ use Rattle.std.specs.Prelude.{List}
 use Rattle.hwp_fault.specs.hwp_geom.declared.Frame.{Frame}
 use Rattle.hwp_fault.specs.hwp_geom.declared.Layout.{Layout}
 use Rattle.hwp_fault.specs.hwp_geom.declared.Mode.{Mode}
-use Rattle.hwp_cpu_check.specs.hwp_banks.declared.Origin.{Origin}
+use Rattle.hwp_claim.specs.hwp_banks.declared.Origin.{Origin}
 use Rattle.hwp_fault.specs.hwp_core_rule.declared.View.{View}
 use Rattle.hwp_fault.specs.declared.Request.{Request}
-use Rattle.hwp_cpu_check.specs.hwp_banks.Banks.{Banks}
-use Rattle.hwp_cpu_check.specs.Checks as checks
-use Rattle.hwp_cpu_check.specs.Checks.{Check}
+use Rattle.hwp_claim.specs.hwp_banks.Banks.{Banks}
+use Rattle.hwp_claim.specs.Checks as checks
+use Rattle.hwp_claim.specs.Checks.{Check}
 
 -- a step of the command showed that the line was bad in the frame
 abbrev pub SawBad : Layout → View → Request → Frame → Type 0

@@ -15,9 +15,9 @@ use Rattle.hwp_fault.specs.hwp_core_rule.Turns.{Member}
 use Rattle.hwp_fault.specs.declared.AccessKind.TheVariants as kinds
 use Rattle.hwp_fault.specs.declared.Request.{Request}
 use Rattle.hwp_fault.specs.Accesses as accesses
-use Rattle.hwp_cpu_check.specs.Checks.{left_by, lines_of}
-use Rattle.hwp_cpu_check.specs.hwp_banks.Events.{bank_count}
-use Rattle.hwp_cpu_check.specs.hwp_banks.declared.Origin.TheVariants as origins
+use Rattle.hwp_claim.specs.Checks.{left_by, lines_of}
+use Rattle.hwp_claim.specs.hwp_banks.Events.{bank_count}
+use Rattle.hwp_claim.specs.hwp_banks.declared.Origin.TheVariants as origins
 use Rattle.hwp_evict.specs.declared.evict.Evict.{Evict}
 use Rattle.hwp_evict.specs.declared.evict.Eviction.TheVariants as evictions
 use Rattle.hwp_evict.specs.Evicts as evicts

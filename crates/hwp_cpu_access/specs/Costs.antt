@@ -5,19 +5,19 @@ use Rattle.std.specs.List.{list_any}
 use Rattle.hwp_fault.specs.hwp_geom.declared.Frame.{Frame}
 use Rattle.hwp_fault.specs.hwp_words.Frames.{is_poisoned}
 use Rattle.hwp_fault.specs.hwp_core_rule.Words.{Words}
-use Rattle.hwp_cpu_check.specs.hwp_banks.declared.Event.{Event}
+use Rattle.hwp_claim.specs.hwp_banks.declared.Event.{Event}
 use Rattle.hwp_fault.specs.declared.AccessAnswer.TheVariants as access_answers
 use Rattle.hwp_fault.specs.declared.access.AccessAt.{AccessAt}
 use Rattle.hwp_fault.specs.declared.access.AccessAt.TheVariants as access_at
 use Rattle.hwp_fault.specs.Accesses as accesses
 use Rattle.hwp_fault.specs.hwp_core_rule.Ranks.{again_most, stale_weight}
-use Rattle.hwp_cpu_check.specs.hwp_claim.declared.Fail.{Fail}
-use Rattle.hwp_cpu_check.specs.hwp_claim.Done.{marked_at}
-use Rattle.hwp_cpu_check.specs.hwp_banks.Banks.{Banks}
-use Rattle.hwp_cpu_check.specs.declared.handler.HandlerAt.{HandlerAt}
-use Rattle.hwp_cpu_check.specs.declared.handler.HandlerAt.TheVariants as handler_at
-use Rattle.hwp_cpu_check.specs.Handlers as handlers
-use Rattle.hwp_cpu_check.specs.Queue.{Queue}
+use Rattle.hwp_claim.specs.declared.Fail.{Fail}
+use Rattle.hwp_claim.specs.Done.{marked_at}
+use Rattle.hwp_claim.specs.hwp_banks.Banks.{Banks}
+use Rattle.hwp_claim.specs.declared.handler.HandlerAt.{HandlerAt}
+use Rattle.hwp_claim.specs.declared.handler.HandlerAt.TheVariants as handler_at
+use Rattle.hwp_claim.specs.Handlers as handlers
+use Rattle.hwp_claim.specs.Queue.{Queue}
 use Rattle.hwp_cpu_access.specs.Instructions.{is_pending}
 use Rattle.hwp_cpu_access.specs.declared.instruction.Instruction.{Instruction}
 use Rattle.hwp_cpu_access.specs.declared.instruction.InstructionAt.{InstructionAt}

@@ -5,9 +5,9 @@ use Rattle.hwp_fault.specs.hwp_geom.declared.Frame.{Frame}
 use Rattle.hwp_fault.specs.hwp_geom.declared.Layout.{Layout}
 use Rattle.hwp_fault.specs.hwp_geom.declared.Who.{Who}
 use Rattle.hwp_fault.specs.hwp_geom.Layout.{IsSound}
-use Rattle.hwp_cpu_check.specs.hwp_banks.declared.Origin.{Origin}
-use Rattle.hwp_cpu_check.specs.hwp_banks.declared.Origin.TheVariants as origins
-use Rattle.hwp_cpu_check.specs.hwp_banks.Events.{bank_count}
+use Rattle.hwp_claim.specs.hwp_banks.declared.Origin.{Origin}
+use Rattle.hwp_claim.specs.hwp_banks.declared.Origin.TheVariants as origins
+use Rattle.hwp_claim.specs.hwp_banks.Events.{bank_count}
 use Rattle.hwp_fault.specs.hwp_page.declared.At.{At}
 use Rattle.hwp_fault.specs.hwp_core_rule.declared.Made.{Made}
 use Rattle.hwp_fault.specs.hwp_core_rule.declared.SharedWord.TheVariants as places
@@ -22,17 +22,17 @@ use Rattle.hwp_fault.specs.declared.AccessAnswer.TheVariants as access_answers
 use Rattle.hwp_fault.specs.declared.Request.{Request}
 use Rattle.hwp_fault.specs.Accesses as accesses
 use Rattle.hwp_fault.specs.Adds.{has_checked}
-use Rattle.hwp_cpu_check.specs.hwp_claim_frame.Claims.{IsStopped}
-use Rattle.hwp_cpu_check.specs.hwp_banks.Banks.{Banks, empty_banks}
-use Rattle.hwp_cpu_check.specs.hwp_law.Commands.{is_check}
-use Rattle.hwp_cpu_check.specs.declared.Handler.{Handler}
-use Rattle.hwp_cpu_check.specs.declared.EventOutcome.{EventOutcome}
-use Rattle.hwp_cpu_check.specs.Events.{held_in}
-use Rattle.hwp_cpu_check.specs.Fits as handler_fits
-use Rattle.hwp_cpu_check.specs.Fits.{events_of}
-use Rattle.hwp_cpu_check.specs.Handlers as handlers
-use Rattle.hwp_cpu_check.specs.Told.{first_signal, halts}
-use Rattle.hwp_cpu_check.specs.Checks.{Check, left_by, lines_of, restarting, with_own}
+use Rattle.hwp_claim.specs.hwp_claim_frame.Claims.{IsStopped}
+use Rattle.hwp_claim.specs.hwp_banks.Banks.{Banks, empty_banks}
+use Rattle.hwp_claim.specs.hwp_law.Commands.{is_check}
+use Rattle.hwp_claim.specs.declared.Handler.{Handler}
+use Rattle.hwp_claim.specs.declared.EventOutcome.{EventOutcome}
+use Rattle.hwp_claim.specs.Events.{held_in}
+use Rattle.hwp_claim.specs.Fits as handler_fits
+use Rattle.hwp_claim.specs.Fits.{events_of}
+use Rattle.hwp_claim.specs.Handlers as handlers
+use Rattle.hwp_claim.specs.Told.{first_signal, halts}
+use Rattle.hwp_claim.specs.Checks.{Check, left_by, lines_of, restarting, with_own}
 use Rattle.hwp_cpu_access.specs.Checks.{AreChecks, SawBad}
 use Rattle.hwp_cpu_access.specs.Instructions.{Follows, Shows, bare, plan, put}
 use Rattle.hwp_cpu_access.specs.Costs.{aborts, claims, class, cost}

@@ -4,8 +4,8 @@ use Rattle.std.specs.declared.alloc.Global.{Global}
 use Rattle.hwp_fault.specs.hwp_geom.declared.Frame.{Frame}
 use Rattle.hwp_fault.specs.hwp_geom.declared.Layout.{Layout}
 use Rattle.hwp_fault.specs.hwp_geom.declared.Mode.{Mode}
-use Rattle.hwp_cpu_check.specs.hwp_banks.declared.Origin.{Origin}
-use Rattle.hwp_cpu_check.specs.hwp_banks.Events.{bank_count}
+use Rattle.hwp_claim.specs.hwp_banks.declared.Origin.{Origin}
+use Rattle.hwp_claim.specs.hwp_banks.Events.{bank_count}
 use Rattle.hwp_fault.specs.hwp_page.declared.At.{At}
 use Rattle.hwp_fault.specs.hwp_page.History.{BodyValue}
 use Rattle.hwp_fault.specs.hwp_words.Frames.{is_handled, is_kernel, is_poisoned}
@@ -20,12 +20,12 @@ use Rattle.hwp_fault.specs.declared.AccessAnswer.{AccessAnswer}
 use Rattle.hwp_fault.specs.declared.AccessAnswer.TheVariants as access_answers
 use Rattle.hwp_fault.specs.declared.Request.{Request}
 use Rattle.hwp_fault.specs.Accesses as accesses
-use Rattle.hwp_cpu_check.specs.hwp_banks.Banks.{Banks, empty_banks}
-use Rattle.hwp_cpu_check.specs.declared.Handler.{Handler}
-use Rattle.hwp_cpu_check.specs.Handlers as handlers
-use Rattle.hwp_cpu_check.specs.Lines.{no_lines, with_lines}
-use Rattle.hwp_cpu_check.specs.Told.{first_signal, has_kept, was_poisoned}
-use Rattle.hwp_cpu_check.specs.Checks.{restarting, with_own}
+use Rattle.hwp_claim.specs.hwp_banks.Banks.{Banks, empty_banks}
+use Rattle.hwp_claim.specs.declared.Handler.{Handler}
+use Rattle.hwp_claim.specs.Handlers as handlers
+use Rattle.hwp_claim.specs.Lines.{no_lines, with_lines}
+use Rattle.hwp_claim.specs.Told.{first_signal, has_kept, was_poisoned}
+use Rattle.hwp_claim.specs.Checks.{restarting, with_own}
 use Rattle.hwp_cpu_access.specs.declared.instruction.Instruction.{Instruction}
 use Rattle.hwp_cpu_access.specs.declared.instruction.InstructionAnswer.{InstructionAnswer}
 use Rattle.hwp_cpu_access.specs.declared.instruction.InstructionAnswer.TheVariants as answers

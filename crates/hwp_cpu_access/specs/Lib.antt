@@ -10,6 +10,6 @@ pub mod CopyFits
 pub mod CopyCosts
 pub mod CopyDone
 pub use Rattle.hwp_fault.specs as hwp_fault
-pub use Rattle.hwp_cpu_check.specs as hwp_cpu_check
+pub use Rattle.hwp_claim.specs as hwp_claim
 pub use Rattle.hwp_evict.specs as hwp_evict
 pub use Rattle.hwp_fork.specs as hwp_fork

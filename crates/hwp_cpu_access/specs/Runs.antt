@@ -16,9 +16,9 @@ use Rattle.hwp_fault.specs.hwp_core_rule.Known.{IsAt, Precedes}
 use Rattle.hwp_fault.specs.hwp_core_rule.Pages.{SawState}
 use Rattle.hwp_fault.specs.declared.Request.{Request}
 use Rattle.hwp_fault.specs.Accesses.{what_of}
-use Rattle.hwp_cpu_check.specs.Checks.{Check, left_by}
-use Rattle.hwp_cpu_check.specs.hwp_banks.Banks.{Banks}
-use Rattle.hwp_cpu_check.specs.hwp_banks.declared.Origin.TheVariants as origins
+use Rattle.hwp_claim.specs.Checks.{Check, left_by}
+use Rattle.hwp_claim.specs.hwp_banks.Banks.{Banks}
+use Rattle.hwp_claim.specs.hwp_banks.declared.Origin.TheVariants as origins
 use Rattle.hwp_fork.specs.declared.cow.Cow.{Cow}
 use Rattle.hwp_fork.specs.declared.cow.Sub.{Sub}
 use Rattle.hwp_fork.specs.declared.cow.Sub.TheVariants as subs

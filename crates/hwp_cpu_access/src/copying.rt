@@ -3,7 +3,7 @@ ghost use Rattle.hwp_cpu_access.specs.Instructions as instructions;
 ghost use Rattle.hwp_cpu_access.specs.Copyings.{after_access, after_free, answer, begin, going_on, give_up, load_of, pause, resume, store_of, through, went};
 
 use crate::instruction::{Instruction, InstructionAnswer, Pause};
-use hwp_cpu_check::{
+use hwp_claim::{
     At, BANKS, Bank, Body, EventOutcome, Layout, Line, List, Mode, Origin, Page, Ranked, Scheduled,
     Step, Task, Turn, Who,
 };

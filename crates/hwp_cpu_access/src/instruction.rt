@@ -1,12 +1,12 @@
 ghost use Rattle.std.specs.Prelude.{◌≡◌, ◌≤◌, ◌&&◌, Some, None, length};
-ghost use Rattle.hwp_cpu_check.specs.hwp_banks.Banks.{empty_banks};
-ghost use Rattle.hwp_cpu_check.specs.Checks.{with_own};
-ghost use Rattle.hwp_cpu_check.specs.hwp_banks.Events.{bank_count};
+ghost use Rattle.hwp_claim.specs.hwp_banks.Banks.{empty_banks};
+ghost use Rattle.hwp_claim.specs.Checks.{with_own};
+ghost use Rattle.hwp_claim.specs.hwp_banks.Events.{bank_count};
 ghost use Rattle.hwp_fault.specs.hwp_core_rule.declared.Turn.TheVariants.{NoMemory};
 ghost use Rattle.hwp_cpu_access.specs.declared.instruction.InstructionAt.TheVariants as states;
 ghost use Rattle.hwp_cpu_access.specs.Instructions.{AfterAccessBy, BeginsCheck, after_handler, after_load, again_with, after_stop, answer, answered, begin, first, give_up, going_on, is_pending, left_to_do, over, over_with, pause, restarted, resume, resumed, turn_of_load, turn_of_stop};
 
-use hwp_cpu_check::{
+use hwp_claim::{
     At, BANKS, Bank, Body, EventOutcome, Frame, FrameWord, Handler, Layout, List, McgBits, Mode,
     Origin, Page, Ranked, Scheduled, SharedWord, Step, StopWord, Task, ToldLines, Turn, Who,
     no_events,

@@ -58,8 +58,8 @@ use Rattle.hwp_cpu_row.specs.hwp_claim.declared.inject.InjectAt.TheVariants as i
 use Rattle.hwp_cpu_row.specs.hwp_claim.Done as failures
 use Rattle.hwp_cpu_row.specs.hwp_claim.Fails as fails
 use Rattle.hwp_cpu_row.specs.hwp_claim.Injects as injects
-use Rattle.hwp_cpu_access.proofs.of_hwp_cpu_check.of_hwp_claim.InjectEnds as inject_ends
-use Rattle.hwp_cpu_row.specs.hwp_cpu_check.Fits.{IsAtRest}
+use Rattle.hwp_cpu_access.proofs.of_hwp_claim.InjectEnds as inject_ends
+use Rattle.hwp_cpu_row.specs.hwp_claim.Fits.{IsAtRest}
 use Rattle.hwp_cpu_access.specs.declared.Instruction.{Instruction}
 use Rattle.hwp_cpu_access.specs.declared.InstructionAnswer.{InstructionAnswer}
 use Rattle.hwp_cpu_access.specs.declared.instruction.InstructionAt.{InstructionAt}

@@ -55,10 +55,10 @@ use Rattle.hwp_cpu_row.specs.hwp_claim.declared.inject.InjectAt.{InjectAt}
 use Rattle.hwp_cpu_row.specs.hwp_claim.declared.inject.InjectAt.TheVariants as inject_at
 use Rattle.hwp_cpu_row.specs.hwp_claim.Fails as fails
 use Rattle.hwp_cpu_row.specs.hwp_claim.Injects as injects
-use Rattle.hwp_cpu_access.proofs.of_hwp_cpu_check.of_hwp_claim.InjectLaws as injecting
-use Rattle.hwp_cpu_access.proofs.of_hwp_cpu_check.of_hwp_claim.InjectRank.{inject-lasting, inject-ranked, inject-tells}
-use Rattle.hwp_cpu_row.specs.hwp_cpu_check.declared.Handler.{Handler}
-use Rattle.hwp_cpu_row.specs.hwp_cpu_check.Handlers as handlers
+use Rattle.hwp_cpu_access.proofs.of_hwp_claim.InjectLaws as injecting
+use Rattle.hwp_cpu_access.proofs.of_hwp_claim.InjectRank.{inject-lasting, inject-ranked, inject-tells}
+use Rattle.hwp_cpu_row.specs.hwp_claim.declared.Handler.{Handler}
+use Rattle.hwp_cpu_row.specs.hwp_claim.Handlers as handlers
 use Rattle.hwp_cpu_access.specs.declared.Instruction.{Instruction}
 use Rattle.hwp_cpu_access.specs.declared.InstructionAnswer.{InstructionAnswer}
 use Rattle.hwp_cpu_access.specs.declared.instruction.InstructionAt.{InstructionAt}

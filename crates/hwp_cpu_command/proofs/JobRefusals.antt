@@ -35,10 +35,10 @@ use Rattle.hwp_cpu_row.specs.hwp_claim.declared.inject.InjectAt.{InjectAt}
 use Rattle.hwp_cpu_row.specs.hwp_claim.declared.inject.InjectAt.TheVariants as inject_at
 use Rattle.hwp_cpu_row.specs.hwp_claim.Fails as fails
 use Rattle.hwp_cpu_row.specs.hwp_claim.Injects as injects
-use Rattle.hwp_cpu_row.specs.hwp_cpu_check.declared.Handler.{Handler}
-use Rattle.hwp_cpu_row.specs.hwp_cpu_check.declared.handler.HandlerAt.{HandlerAt}
-use Rattle.hwp_cpu_row.specs.hwp_cpu_check.declared.handler.HandlerAt.TheVariants as handler_at
-use Rattle.hwp_cpu_row.specs.hwp_cpu_check.Handlers as handlers
+use Rattle.hwp_cpu_row.specs.hwp_claim.declared.Handler.{Handler}
+use Rattle.hwp_cpu_row.specs.hwp_claim.declared.handler.HandlerAt.{HandlerAt}
+use Rattle.hwp_cpu_row.specs.hwp_claim.declared.handler.HandlerAt.TheVariants as handler_at
+use Rattle.hwp_cpu_row.specs.hwp_claim.Handlers as handlers
 use Rattle.hwp_cpu_access.specs.hwp_fault.hwp_fault_fill.declared.take.TakeAt.{TakeAt}
 use Rattle.hwp_cpu_access.specs.hwp_fault.hwp_fault_fill.declared.take.TakeAt.TheVariants as take_at
 use Rattle.hwp_cpu_access.specs.hwp_fault.hwp_fault_fill.Takes as takes

@@ -3,10 +3,9 @@ pub mod JobEnds
 pub mod JobRefusals
 pub mod JobLaws
 mod AccessBegins
-pub use Rattle.hwp_cpu_access.proofs.of_hwp_cpu_check.of_hwp_claim as of_hwp_claim
+pub use Rattle.hwp_cpu_access.proofs.of_hwp_claim as of_hwp_claim
 pub use Rattle.hwp_cpu_control.proofs.of_hwp_core_rule as of_hwp_core_rule
 pub use Rattle.hwp_cpu_access.proofs as of_hwp_cpu_access
-pub use Rattle.hwp_cpu_row.proofs.of_hwp_cpu_check as of_hwp_cpu_check
 pub use Rattle.hwp_cpu_control.proofs as of_hwp_cpu_control
 pub use Rattle.hwp_evict.proofs as of_hwp_evict
 pub use Rattle.hwp_scrub.proofs as of_hwp_scrub

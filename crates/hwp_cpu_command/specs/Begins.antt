@@ -26,8 +26,8 @@ use Rattle.hwp_cpu_row.specs.hwp_script_lines.declared.PrctlArgs.{PrctlArgs}
 use Rattle.hwp_cpu_row.specs.hwp_script_read.Valid.{IsAccess, IsCommandOf}
 use Rattle.hwp_cpu_row.specs.hwp_banks.Banks.{Banks, raw_event}
 use Rattle.hwp_cpu_row.specs.hwp_law.Commands.{Access, access_of, arrival_of, process_of_thread}
-use Rattle.hwp_cpu_row.specs.hwp_cpu_check.hwp_guest.declared.Admit.{Admit}
-use Rattle.hwp_cpu_row.specs.hwp_cpu_check.hwp_guest.declared.Admit.TheVariants as admissions
+use Rattle.hwp_cpu_row.specs.hwp_claim.hwp_guest.declared.Admit.{Admit}
+use Rattle.hwp_cpu_row.specs.hwp_claim.hwp_guest.declared.Admit.TheVariants as admissions
 use Rattle.hwp_cpu_row.specs.hwp_law.Settings.{arguments}
 use Rattle.hwp_cpu_control.specs.declared.Denial.{Denial}
 use Rattle.hwp_cpu_control.specs.declared.Denial.TheVariants as denials

@@ -25,7 +25,7 @@ use Rattle.hwp_cpu_row.specs.hwp_claim.declared.FailAnswer.TheVariants as fail_a
 use Rattle.hwp_cpu_row.specs.hwp_claim.declared.Inject.{Inject}
 use Rattle.hwp_cpu_row.specs.hwp_claim.Injects as injects
 use Rattle.hwp_cpu_row.specs.hwp_banks.Banks.{Banks, empty_banks}
-use Rattle.hwp_cpu_row.specs.hwp_cpu_check.declared.EventOutcome.{EventOutcome}
+use Rattle.hwp_cpu_row.specs.hwp_claim.declared.EventOutcome.{EventOutcome}
 use Rattle.hwp_cpu_access.specs.declared.Instruction.{Instruction}
 use Rattle.hwp_cpu_access.specs.Costs as instruction_costs
 use Rattle.hwp_cpu_access.specs.Fits as instruction_fits

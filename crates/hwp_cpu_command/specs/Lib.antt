@@ -13,7 +13,6 @@ pub use Rattle.hwp_cpu_row.specs.hwp_claim_frame as hwp_claim_frame
 pub use Rattle.hwp_evict.specs.hwp_core as hwp_core
 pub use Rattle.hwp_cpu_control.specs.hwp_core_rule as hwp_core_rule
 pub use Rattle.hwp_cpu_access.specs as hwp_cpu_access
-pub use Rattle.hwp_cpu_row.specs.hwp_cpu_check as hwp_cpu_check
 pub use Rattle.hwp_cpu_control.specs as hwp_cpu_control
 pub use Rattle.hwp_evict.specs as hwp_evict
 pub use Rattle.hwp_cpu_access.specs.hwp_fault as hwp_fault

@@ -33,9 +33,9 @@ use Rattle.hwp_cpu_row.specs.hwp_claim.declared.fail.Fail.{Fail}
 use Rattle.hwp_cpu_row.specs.hwp_claim.declared.fail.FailAt.TheVariants as fail_at
 use Rattle.hwp_cpu_row.specs.hwp_claim.declared.FailAnswer.TheVariants as fail_answers
 use Rattle.hwp_cpu_row.specs.hwp_claim.declared.inject.InjectAt.TheVariants as inject_at
-use Rattle.hwp_cpu_row.specs.hwp_cpu_check.declared.Handler.{Handler}
-use Rattle.hwp_cpu_row.specs.hwp_cpu_check.declared.handler.HandlerAt.TheVariants as handler_at
-use Rattle.hwp_cpu_row.specs.hwp_cpu_check.Told.{halts}
+use Rattle.hwp_cpu_row.specs.hwp_claim.declared.Handler.{Handler}
+use Rattle.hwp_cpu_row.specs.hwp_claim.declared.handler.HandlerAt.TheVariants as handler_at
+use Rattle.hwp_cpu_row.specs.hwp_claim.Told.{halts}
 use Rattle.hwp_cpu_access.specs.declared.InstructionAnswer.TheVariants as instruction_answers
 use Rattle.hwp_cpu_access.specs.declared.instruction.InstructionAt.TheVariants as instruction_at
 use Rattle.hwp_cpu_access.specs.Instructions as instructions

@@ -2,7 +2,7 @@
 use Rattle.std.proofs.Common.{◌≡◌, ◌≢◌, ◌⊎◌, inl, inr, ℕ, suc, ◌+◌, ◌==◌, ◌≤◌, ◌<◌, Bool, true, false, List, [], ◌∷◌, ◌++◌, map, length, if◌then◌else◌, refl, sym, ap, ◌∙◌, append-nil, subst, arith, true≢false}
 use Rattle.std.proofs.lemmas.Bool.{cases_lt, eq-eqb, eqb-true, ne_eqb}
 use Rattle.std.proofs.lemmas.List.{map-append}
-use Rattle.hwp_cpu_check.specs.declared.told.EventOutcome.{EventOutcome}
+use Rattle.hwp_claim.specs.declared.told.EventOutcome.{EventOutcome}
 use Rattle.hwp_cpu_row.specs.declared.row.Offlining.{Offlining}
 use Rattle.hwp_cpu_row.specs.Acts.{Act, AreInTime, Offlined, Told, acts, acts_from}
 

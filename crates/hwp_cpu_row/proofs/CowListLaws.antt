@@ -5,18 +5,18 @@ use Rattle.std.specs.Option.{option_map_or}
 use Rattle.std.proofs.lemmas.Bool.{cases_eq, cases_lt, eq-eqb, ne_eqb}
 use Rattle.std.proofs.lemmas.Option.{slice_get_past}
 use Rattle.std.proofs.lemmas.List.{drop_all, drop_more, get_or-set_other, get_or-set_same, get_or_at, get_or_past, length-replicate, length-set, length-take-le, set_at, set_past, take_all, take_more, append-nil, append_assoc}
-use Rattle.hwp_cpu_check.specs.hwp_geom.declared.Layout.{Layout}
-use Rattle.hwp_cpu_check.specs.hwp_geom.declared.Thread.{Thread}
-use Rattle.hwp_cpu_check.specs.hwp_geom.declared.ThreadDecl.{ThreadDecl}
-use Rattle.hwp_cpu_check.specs.hwp_geom.declared.TransDecl.{TransDecl}
-use Rattle.hwp_cpu_check.specs.hwp_geom.declared.VSlot.{VSlot}
-use Rattle.hwp_cpu_check.specs.hwp_script_lines.declared.Command.{Command}
-use Rattle.hwp_cpu_check.specs.hwp_script_lines.declared.Command.TheVariants as commands
-use Rattle.hwp_cpu_check.specs.hwp_script_read.Forks.{freezes, is_cow, slots}
-use Rattle.hwp_cpu_check.specs.hwp_report_text.declared.Answer.{Answer}
-use Rattle.hwp_cpu_check.specs.hwp_report_text.declared.Answer.TheVariants as answers
-use Rattle.hwp_cpu_check.specs.hwp_law.Cows.{Cow, acting, copied_from, cow_after, cow_of, own_page, twin_or}
-use Rattle.hwp_cpu_check.proofs.of_hwp_law.CowLaws.{both-false, cow-more}
+use Rattle.hwp_claim.specs.hwp_geom.declared.Layout.{Layout}
+use Rattle.hwp_claim.specs.hwp_geom.declared.Thread.{Thread}
+use Rattle.hwp_claim.specs.hwp_geom.declared.ThreadDecl.{ThreadDecl}
+use Rattle.hwp_claim.specs.hwp_geom.declared.TransDecl.{TransDecl}
+use Rattle.hwp_claim.specs.hwp_geom.declared.VSlot.{VSlot}
+use Rattle.hwp_claim.specs.hwp_script_lines.declared.Command.{Command}
+use Rattle.hwp_claim.specs.hwp_script_lines.declared.Command.TheVariants as commands
+use Rattle.hwp_claim.specs.hwp_script_read.Forks.{freezes, is_cow, slots}
+use Rattle.hwp_claim.specs.hwp_report_text.declared.Answer.{Answer}
+use Rattle.hwp_claim.specs.hwp_report_text.declared.Answer.TheVariants as answers
+use Rattle.hwp_claim.specs.hwp_law.Cows.{Cow, acting, copied_from, cow_after, cow_of, own_page, twin_or}
+use Rattle.hwp_claim.proofs.of_hwp_law.CowLaws.{both-false, cow-more}
 use Rattle.hwp_cpu_row.specs.CowLists.{AreCowsOf, KnowsCows, acting_in, copied_in, cow_in, first_cows, freezes_at, frozen_by, frozen_from, frozen_in, switched_by, switched_in, told_in}
 
 -- ---- at first

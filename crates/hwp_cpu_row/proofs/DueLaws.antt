@@ -4,19 +4,19 @@ use Rattle.std.specs.List.{cons_option, list_any}
 use Rattle.std.proofs.lemmas.Bool.{both_ways, ltb-true}
 use Rattle.std.proofs.lemmas.List.{length-append, length-map, length-set, map-append, take_all, take_more}
 use Rattle.std.proofs.lemmas.Option.{get_or_from_slice_get, none-some, same_Some, slice_get-get_or, slice_get_within}
-use Rattle.hwp_cpu_check.specs.hwp_geom.declared.Frame.{Frame}
-use Rattle.hwp_cpu_check.specs.hwp_geom.declared.Layout.{Layout}
-use Rattle.hwp_cpu_check.specs.hwp_report_text.declared.EventLine.{EventLine}
-use Rattle.hwp_cpu_check.specs.hwp_core_rule.Lists.{EachMember}
-use Rattle.hwp_cpu_check.specs.declared.EventOutcome.{EventOutcome}
-use Rattle.hwp_cpu_check.specs.hwp_law.hwp_cec.declared.Noted.{Noted}
-use Rattle.hwp_cpu_check.specs.hwp_law.hwp_cec.declared.Noted.TheVariants.{Counted, Offline}
-use Rattle.hwp_cpu_check.specs.hwp_law.hwp_cec.Ages.{CecEvent, Note, live}
-use Rattle.hwp_cpu_check.specs.hwp_law.hwp_cec.Counters.{Counters, StandsFor, answer, noted_in}
-use Rattle.hwp_cpu_check.specs.hwp_law.Commands.{is_kernels}
-use Rattle.hwp_cpu_check.specs.hwp_law.Notes.{AreApart, IsRising, checks, ends_machine, frame_of, is_corrected, is_for_pages, noted_frame, notes, notes_of_check, with_line}
-use Rattle.hwp_cpu_check.specs.hwp_law.Watched.{Watched, offlining, told}
-use Rattle.hwp_cpu_check.proofs.of_hwp_law.NoteLaws.{notes-append, notes-rising, offlining-append}
+use Rattle.hwp_claim.specs.hwp_geom.declared.Frame.{Frame}
+use Rattle.hwp_claim.specs.hwp_geom.declared.Layout.{Layout}
+use Rattle.hwp_claim.specs.hwp_report_text.declared.EventLine.{EventLine}
+use Rattle.hwp_claim.specs.hwp_core_rule.Lists.{EachMember}
+use Rattle.hwp_claim.specs.declared.EventOutcome.{EventOutcome}
+use Rattle.hwp_claim.specs.hwp_law.hwp_cec.declared.Noted.{Noted}
+use Rattle.hwp_claim.specs.hwp_law.hwp_cec.declared.Noted.TheVariants.{Counted, Offline}
+use Rattle.hwp_claim.specs.hwp_law.hwp_cec.Ages.{CecEvent, Note, live}
+use Rattle.hwp_claim.specs.hwp_law.hwp_cec.Counters.{Counters, StandsFor, answer, noted_in}
+use Rattle.hwp_claim.specs.hwp_law.Commands.{is_kernels}
+use Rattle.hwp_claim.specs.hwp_law.Notes.{AreApart, IsRising, checks, ends_machine, frame_of, is_corrected, is_for_pages, noted_frame, notes, notes_of_check, with_line}
+use Rattle.hwp_claim.specs.hwp_law.Watched.{Watched, offlining, told}
+use Rattle.hwp_claim.proofs.of_hwp_law.NoteLaws.{notes-append, notes-rising, offlining-append}
 use Rattle.hwp_cpu_row.specs.declared.row.Offlining.{Offlining}
 use Rattle.hwp_cpu_row.specs.Acts.{event_at, told_notes}
 use Rattle.hwp_cpu_row.specs.Locals.{Collects}

@@ -9,26 +9,26 @@ use Rattle.std.proofs.lemmas.Bool.{cases_eq, eq-eqb, ne_eqb}
 use Rattle.std.proofs.lemmas.List.{get_or_past, get_or-set_other, get_or-set_same, length-replicate, length-set}
 use Rattle.std.proofs.lemmas.List.Sums.{fold-append}
 use Rattle.std.proofs.lemmas.Option.{none-some, same_Some, slice_get_within}
-use Rattle.hwp_cpu_check.specs.hwp_geom.Layout.{has_guests, is_guest}
-use Rattle.hwp_cpu_check.specs.hwp_geom.declared.Layout.{Layout}
-use Rattle.hwp_cpu_check.specs.hwp_geom.Limits.{translation_limit}
-use Rattle.hwp_cpu_check.specs.hwp_geom.declared.Proc.{Proc}
-use Rattle.hwp_cpu_check.specs.hwp_geom.declared.Thread.{Thread}
-use Rattle.hwp_cpu_check.specs.hwp_geom.declared.ThreadDecl.{ThreadDecl}
-use Rattle.hwp_cpu_check.specs.hwp_geom.declared.TransDecl.{TransDecl}
-use Rattle.hwp_cpu_check.specs.hwp_geom.declared.VSlot.{VSlot}
-use Rattle.hwp_cpu_check.specs.hwp_script_lines.declared.Command.{Command}
-use Rattle.hwp_cpu_check.specs.hwp_script_lines.declared.Command.TheVariants as commands
-use Rattle.hwp_cpu_check.specs.hwp_script_read.Valid.{IsAccess, IsCommandOf}
-use Rattle.hwp_cpu_check.specs.hwp_report_text.declared.Answer.{Answer}
-use Rattle.hwp_cpu_check.specs.hwp_report_text.declared.Answer.TheVariants as answers
-use Rattle.hwp_cpu_check.specs.hwp_guest.declared.Admit.{Admit}
-use Rattle.hwp_cpu_check.specs.hwp_guest.declared.Admit.TheVariants as admissions
-use Rattle.hwp_cpu_check.specs.hwp_guest.GuestState.{GuestState, admitted, after}
-use Rattle.hwp_cpu_check.specs.hwp_law.Commands as access
-use Rattle.hwp_cpu_check.specs.hwp_law.Commands.{access_of, arrival_of, process_of_thread}
-use Rattle.hwp_cpu_check.specs.hwp_law.declared.GuestAccess.{GuestAccess}
-use Rattle.hwp_cpu_check.specs.hwp_law.GuestRule.{denial, denied, guest_access, guest_after, guest_taken, guest_of, kind_of, new_guest}
+use Rattle.hwp_claim.specs.hwp_geom.Layout.{has_guests, is_guest}
+use Rattle.hwp_claim.specs.hwp_geom.declared.Layout.{Layout}
+use Rattle.hwp_claim.specs.hwp_geom.Limits.{translation_limit}
+use Rattle.hwp_claim.specs.hwp_geom.declared.Proc.{Proc}
+use Rattle.hwp_claim.specs.hwp_geom.declared.Thread.{Thread}
+use Rattle.hwp_claim.specs.hwp_geom.declared.ThreadDecl.{ThreadDecl}
+use Rattle.hwp_claim.specs.hwp_geom.declared.TransDecl.{TransDecl}
+use Rattle.hwp_claim.specs.hwp_geom.declared.VSlot.{VSlot}
+use Rattle.hwp_claim.specs.hwp_script_lines.declared.Command.{Command}
+use Rattle.hwp_claim.specs.hwp_script_lines.declared.Command.TheVariants as commands
+use Rattle.hwp_claim.specs.hwp_script_read.Valid.{IsAccess, IsCommandOf}
+use Rattle.hwp_claim.specs.hwp_report_text.declared.Answer.{Answer}
+use Rattle.hwp_claim.specs.hwp_report_text.declared.Answer.TheVariants as answers
+use Rattle.hwp_claim.specs.hwp_guest.declared.Admit.{Admit}
+use Rattle.hwp_claim.specs.hwp_guest.declared.Admit.TheVariants as admissions
+use Rattle.hwp_claim.specs.hwp_guest.GuestState.{GuestState, admitted, after}
+use Rattle.hwp_claim.specs.hwp_law.Commands as access
+use Rattle.hwp_claim.specs.hwp_law.Commands.{access_of, arrival_of, process_of_thread}
+use Rattle.hwp_claim.specs.hwp_law.declared.GuestAccess.{GuestAccess}
+use Rattle.hwp_claim.specs.hwp_law.GuestRule.{denial, denied, guest_access, guest_after, guest_taken, guest_of, kind_of, new_guest}
 use Rattle.hwp_cpu_row.specs.GuestLists.{AreGuestsOf, KnowsGuests, MayTake, MayTell, admission_in, first_guests, guest_in, taken_in, told_in}
 
 -- ---- at first

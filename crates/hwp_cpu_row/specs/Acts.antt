@@ -1,11 +1,11 @@
 -- What a command did beside its answer, in the order of time: the events that its machine checks told of, and the frames that were taken
 -- out of use beside it.
 use Rattle.std.specs.Prelude.{ℕ, ◌+◌, ◌==◌, ◌≤◌, List, [], ◌∷◌, map, if◌then◌else◌}
-use Rattle.hwp_cpu_check.specs.hwp_geom.declared.Frame.{Frame}
-use Rattle.hwp_cpu_check.specs.hwp_geom.declared.Layout.{Layout}
-use Rattle.hwp_cpu_check.specs.hwp_report_text.declared.EventLine.{EventLine}
-use Rattle.hwp_cpu_check.specs.hwp_law.Notes.{notes}
-use Rattle.hwp_cpu_check.specs.declared.told.EventOutcome.{EventOutcome}
+use Rattle.hwp_claim.specs.hwp_geom.declared.Frame.{Frame}
+use Rattle.hwp_claim.specs.hwp_geom.declared.Layout.{Layout}
+use Rattle.hwp_claim.specs.hwp_report_text.declared.EventLine.{EventLine}
+use Rattle.hwp_claim.specs.hwp_law.Notes.{notes}
+use Rattle.hwp_claim.specs.declared.told.EventOutcome.{EventOutcome}
 use Rattle.hwp_cpu_row.specs.declared.row.Offlining.{Offlining}
 
 pub data Act : Type 0 where

@@ -3,17 +3,17 @@
 use Rattle.std.specs.Prelude.{◌≡◌, ◌+◌, ◌&&◌, ◌||◌, ℕ, Bool, true, false, not, List, [], ◌∷◌, length, replicate, get_or, slice_get, slice_set, Option, None, Some, is_some, if◌then◌else◌}
 use Rattle.std.specs.List.{list_any}
 use Rattle.std.specs.Option.{option_map_or}
-use Rattle.hwp_cpu_check.specs.hwp_geom.declared.Layout.{Layout}
-use Rattle.hwp_cpu_check.specs.hwp_geom.declared.Thread.{Thread}
-use Rattle.hwp_cpu_check.specs.hwp_geom.declared.ThreadDecl.{ThreadDecl}
-use Rattle.hwp_cpu_check.specs.hwp_geom.declared.TransDecl.{TransDecl}
-use Rattle.hwp_cpu_check.specs.hwp_geom.declared.VSlot.{VSlot}
-use Rattle.hwp_cpu_check.specs.hwp_script_lines.declared.Command.{Command}
-use Rattle.hwp_cpu_check.specs.hwp_script_lines.declared.Command.TheVariants as commands
-use Rattle.hwp_cpu_check.specs.hwp_script_read.Forks.{freezes}
-use Rattle.hwp_cpu_check.specs.hwp_report_text.declared.Answer.{Answer}
-use Rattle.hwp_cpu_check.specs.hwp_report_text.declared.Answer.TheVariants as answers
-use Rattle.hwp_cpu_check.specs.hwp_law.Cows.{Cow, cow_of, own_page, twin_or}
+use Rattle.hwp_claim.specs.hwp_geom.declared.Layout.{Layout}
+use Rattle.hwp_claim.specs.hwp_geom.declared.Thread.{Thread}
+use Rattle.hwp_claim.specs.hwp_geom.declared.ThreadDecl.{ThreadDecl}
+use Rattle.hwp_claim.specs.hwp_geom.declared.TransDecl.{TransDecl}
+use Rattle.hwp_claim.specs.hwp_geom.declared.VSlot.{VSlot}
+use Rattle.hwp_claim.specs.hwp_script_lines.declared.Command.{Command}
+use Rattle.hwp_claim.specs.hwp_script_lines.declared.Command.TheVariants as commands
+use Rattle.hwp_claim.specs.hwp_script_read.Forks.{freezes}
+use Rattle.hwp_claim.specs.hwp_report_text.declared.Answer.{Answer}
+use Rattle.hwp_claim.specs.hwp_report_text.declared.Answer.TheVariants as answers
+use Rattle.hwp_claim.specs.hwp_law.Cows.{Cow, cow_of, own_page, twin_or}
 
 -- what the list says of a translation; one that it doesn't hold has its own page
 abbrev pub cow_in : List Cow → VSlot → Cow

@@ -1,11 +1,11 @@
 -- The frames that are taken out of use beside a command, and how the collector of corrected errors makes them due.
 use Rattle.std.specs.Prelude.{◌≡◌, ℕ, suc, ◌-◌, ◌≤◌, nat_lt, List, [], ◌∷◌, ◌++◌, Option, cond, length, map, slice_get}
 use Rattle.std.specs.List.{cons_option}
-use Rattle.hwp_cpu_check.specs.hwp_geom.declared.Frame.{Frame}
-use Rattle.hwp_cpu_check.specs.hwp_geom.declared.Layout.{Layout}
-use Rattle.hwp_cpu_check.specs.declared.EventOutcome.{EventOutcome}
-use Rattle.hwp_cpu_check.specs.hwp_law.hwp_cec.Counters.{Counters}
-use Rattle.hwp_cpu_check.specs.hwp_law.Notes.{noted_frame, notes_of_check}
+use Rattle.hwp_claim.specs.hwp_geom.declared.Frame.{Frame}
+use Rattle.hwp_claim.specs.hwp_geom.declared.Layout.{Layout}
+use Rattle.hwp_claim.specs.declared.EventOutcome.{EventOutcome}
+use Rattle.hwp_claim.specs.hwp_law.hwp_cec.Counters.{Counters}
+use Rattle.hwp_claim.specs.hwp_law.Notes.{noted_frame, notes_of_check}
 use Rattle.hwp_cpu_row.specs.declared.row.Offlining.{Offlining}
 use Rattle.hwp_cpu_row.specs.Acts.{event_at, told_notes}
 use Rattle.hwp_cpu_row.specs.Locals.{Collects}

@@ -2,19 +2,19 @@
 -- hwp_law/specs/GuestRule says, with the list for the earlier commands and their answers.
 use Rattle.std.specs.Prelude.{◌≡◌, ℕ, ◌<◌, true, List, [], length, replicate, get_or, slice_set, Option, None, Some, option_map, if◌then◌else◌}
 use Rattle.std.specs.Option.{option_map_or}
-use Rattle.hwp_cpu_check.specs.hwp_geom.Layout.{has_guests, is_guest}
-use Rattle.hwp_cpu_check.specs.hwp_geom.Limits.{translation_limit}
-use Rattle.hwp_cpu_check.specs.hwp_geom.declared.Layout.{Layout}
-use Rattle.hwp_cpu_check.specs.hwp_geom.declared.Proc.{Proc}
-use Rattle.hwp_cpu_check.specs.hwp_script_lines.declared.Command.{Command}
-use Rattle.hwp_cpu_check.specs.hwp_report_text.declared.Answer.{Answer}
-use Rattle.hwp_cpu_check.specs.hwp_report_text.declared.Answer.TheVariants as answers
-use Rattle.hwp_cpu_check.specs.hwp_report_text.declared.GuestLine.{GuestLine}
-use Rattle.hwp_cpu_check.specs.hwp_guest.declared.Admit.{Admit}
-use Rattle.hwp_cpu_check.specs.hwp_guest.declared.Admit.TheVariants as admissions
-use Rattle.hwp_cpu_check.specs.hwp_guest.GuestState.{GuestState, admitted, after}
-use Rattle.hwp_cpu_check.specs.hwp_law.declared.GuestAccess.{GuestAccess}
-use Rattle.hwp_cpu_check.specs.hwp_law.GuestRule.{guest_access, guest_line, guest_of, new_guest}
+use Rattle.hwp_claim.specs.hwp_geom.Layout.{has_guests, is_guest}
+use Rattle.hwp_claim.specs.hwp_geom.Limits.{translation_limit}
+use Rattle.hwp_claim.specs.hwp_geom.declared.Layout.{Layout}
+use Rattle.hwp_claim.specs.hwp_geom.declared.Proc.{Proc}
+use Rattle.hwp_claim.specs.hwp_script_lines.declared.Command.{Command}
+use Rattle.hwp_claim.specs.hwp_report_text.declared.Answer.{Answer}
+use Rattle.hwp_claim.specs.hwp_report_text.declared.Answer.TheVariants as answers
+use Rattle.hwp_claim.specs.hwp_report_text.declared.GuestLine.{GuestLine}
+use Rattle.hwp_claim.specs.hwp_guest.declared.Admit.{Admit}
+use Rattle.hwp_claim.specs.hwp_guest.declared.Admit.TheVariants as admissions
+use Rattle.hwp_claim.specs.hwp_guest.GuestState.{GuestState, admitted, after}
+use Rattle.hwp_claim.specs.hwp_law.declared.GuestAccess.{GuestAccess}
+use Rattle.hwp_claim.specs.hwp_law.GuestRule.{guest_access, guest_line, guest_of, new_guest}
 
 -- what each process is as a guest
 abbrev pub States : Type 0

@@ -1,13 +1,13 @@
 -- What a processor carries from one command to the next.
 use Rattle.std.specs.Prelude.{◌≡◌, ℕ, ◌<◌, ◌≤◌, Bool, true, false, List, ◌++◌, map, length, replicate, slice_get, unwrap_or, Option, Some, None}
-use Rattle.hwp_cpu_check.specs.hwp_geom.declared.FileNo.{FileNo}
-use Rattle.hwp_cpu_check.specs.hwp_geom.declared.Frame.{Frame}
-use Rattle.hwp_cpu_check.specs.hwp_geom.declared.Layout.{Layout}
-use Rattle.hwp_cpu_check.specs.hwp_banks.Banks.{empty_banks}
-use Rattle.hwp_cpu_check.specs.hwp_core_rule.Lists.{EachMember}
-use Rattle.hwp_cpu_check.specs.hwp_law.hwp_cec.Ages.{CecEvent, Note}
-use Rattle.hwp_cpu_check.specs.hwp_law.hwp_cec.Counters.{Counters, StandsFor}
-use Rattle.hwp_cpu_check.specs.hwp_law.Watched.{Watched, offlining}
+use Rattle.hwp_claim.specs.hwp_geom.declared.FileNo.{FileNo}
+use Rattle.hwp_claim.specs.hwp_geom.declared.Frame.{Frame}
+use Rattle.hwp_claim.specs.hwp_geom.declared.Layout.{Layout}
+use Rattle.hwp_claim.specs.hwp_banks.Banks.{empty_banks}
+use Rattle.hwp_claim.specs.hwp_core_rule.Lists.{EachMember}
+use Rattle.hwp_claim.specs.hwp_law.hwp_cec.Ages.{CecEvent, Note}
+use Rattle.hwp_claim.specs.hwp_law.hwp_cec.Counters.{Counters, StandsFor}
+use Rattle.hwp_claim.specs.hwp_law.Watched.{Watched, offlining}
 use Rattle.hwp_cpu_row.specs.declared.local.Local.{Local}
 use Rattle.hwp_cpu_row.specs.declared.local.Watching.{Watching}
 use Rattle.hwp_cpu_row.specs.CowLists.{first_cows}

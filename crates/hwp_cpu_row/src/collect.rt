@@ -1,11 +1,11 @@
 ghost use Rattle.std.specs.Prelude.{◌≡◌, ◌+◌, ◌<◌, ◌≤◌, length, vec_len, vec_capacity};
 ghost use Rattle.std.specs.List.{list_any};
 ghost use Rattle.hwp_cpu_row.specs.Acts.{event_at, told_notes};
-ghost use Rattle.hwp_cpu_check.specs.hwp_law.Commands.{is_kernels};
-ghost use Rattle.hwp_cpu_check.specs.hwp_law.Notes.{ends_machine, is_corrected, noted_frame};
+ghost use Rattle.hwp_claim.specs.hwp_law.Commands.{is_kernels};
+ghost use Rattle.hwp_claim.specs.hwp_law.Notes.{ends_machine, is_corrected, noted_frame};
 ghost use Rattle.hwp_cpu_row.specs.Dues.{HasNoted, first_check, notes_of_event, notes_of_lines};
 
-use hwp_cpu_check::{Acted, Collector, EventOutcome, Frame, Layout, Noted};
+use hwp_claim::{Acted, Collector, EventOutcome, Frame, Layout, Noted};
 
 /// The bit of a bank's status by which its address is valid.
 const ADDRESS_VALID: u64 = 1 << 58;

@@ -1,11 +1,11 @@
 ghost use Rattle.std.specs.Prelude.{◌≡◌, ◌&&◌, ◌==◌, false, get_or, is_some, vec_len, IfOk, IsOk, slice_get, slice_set};
 ghost use Rattle.std.specs.List.{list_any};
 ghost use Rattle.std.specs.Option.{option_map_or};
-ghost use Rattle.hwp_cpu_check.specs.hwp_law.Cows.{own_page, twin_or};
-ghost use Rattle.hwp_cpu_check.specs.hwp_script_read.Forks.{freezes};
+ghost use Rattle.hwp_claim.specs.hwp_law.Cows.{own_page, twin_or};
+ghost use Rattle.hwp_claim.specs.hwp_script_read.Forks.{freezes};
 ghost use Rattle.hwp_cpu_row.specs.CowLists.{acting_in, copied_by, copied_in, cow_in, first_cows, freezes_at, frozen_by, frozen_from, frozen_in, switched_by, switched_in, through_in, told_in, written_in};
 
-use hwp_cpu_check::{Answer, Command, Layout, OutOfMemory, Page, Proc, Thread, VSlot};
+use hwp_claim::{Answer, Command, Layout, OutOfMemory, Page, Proc, Thread, VSlot};
 use std::alloc::Global;
 use std::marker::Model;
 
@@ -17,7 +17,7 @@ pub struct Cow {
 }
 
 impl Model for Cow {
-    ghost use Rattle.hwp_cpu_check.specs.hwp_law.Cows.{Cow as LawCow};
+    ghost use Rattle.hwp_claim.specs.hwp_law.Cows.{Cow as LawCow};
 
     ghost Value = { LawCow };
 
@@ -41,7 +41,7 @@ pub struct Cows {
 
 impl Model for Cows {
     ghost use Rattle.std.specs.Prelude.{List};
-    ghost use Rattle.hwp_cpu_check.specs.hwp_law.Cows.{Cow as LawCow};
+    ghost use Rattle.hwp_claim.specs.hwp_law.Cows.{Cow as LawCow};
 
     ghost Value = { List LawCow };
 

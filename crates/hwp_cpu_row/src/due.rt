@@ -3,7 +3,7 @@ ghost use Rattle.hwp_cpu_row.specs.Dues.{HasCollected, next_due, no_due, with_of
 
 use crate::collect::collect;
 use crate::row::Offlining;
-use hwp_cpu_check::{Collector, EventOutcome, Frame, Layout, List, OutOfMemory};
+use hwp_claim::{Collector, EventOutcome, Frame, Layout, List, OutOfMemory};
 use std::alloc::Global;
 use std::marker::Model;
 use std::mem;

@@ -1,10 +1,10 @@
 ghost use Rattle.std.specs.Prelude.{◌≡◌, false, None, Some, replicate, IfOk, IsOk};
-ghost use Rattle.hwp_cpu_check.specs.hwp_guest.GuestState.{admitted};
-ghost use Rattle.hwp_cpu_check.specs.hwp_law.GuestRule.{guest_line, new_guest, stops};
-ghost use Rattle.hwp_cpu_check.specs.hwp_geom.Layout.{has_guests};
+ghost use Rattle.hwp_claim.specs.hwp_guest.GuestState.{admitted};
+ghost use Rattle.hwp_claim.specs.hwp_law.GuestRule.{guest_line, new_guest, stops};
+ghost use Rattle.hwp_claim.specs.hwp_geom.Layout.{has_guests};
 ghost use Rattle.hwp_cpu_row.specs.GuestLists.{CanTake, MayTell, admission_in, first_guests, guest_in, line_in, taken_in, told_in};
 
-use hwp_cpu_check::{
+use hwp_claim::{
     Admit, Answer, Command, Guest, GuestAccess, GuestLine, Layout, OutOfMemory, Proc, Taken, VSlot,
     guest_access,
 };
@@ -20,7 +20,7 @@ pub struct Guests {
 impl Model for Guests {
     ghost use Rattle.std.specs.Prelude.{List};
     ghost use Rattle.std.specs.Coded.{coded_list};
-    ghost use Rattle.hwp_cpu_check.specs.hwp_guest.GuestState.{GuestState, state_code};
+    ghost use Rattle.hwp_claim.specs.hwp_guest.GuestState.{GuestState, state_code};
 
     ghost Value = { List GuestState };
 

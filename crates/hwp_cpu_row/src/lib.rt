@@ -12,7 +12,7 @@ mod row;
 pub use cows::{Cow, Cows};
 pub use due::DueFrames;
 pub use guests::Guests;
-pub use hwp_cpu_check::{
+pub use hwp_claim::{
     Acted, Admit, Answer, BANKS, Bank, Board, Body, CacheWord, Collector, Command, CounterWord,
     Cpu, CpuLine, Decision, Entry, Event, EventLine, EventOutcome, FailAnswer, FileNo, Found,
     Frame, FrameLine, FrameWord, GuestLine, Held, How, Inject, Kind, Layout, List, MAX_SCRIPT,

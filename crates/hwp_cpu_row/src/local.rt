@@ -3,7 +3,7 @@ ghost use Rattle.hwp_cpu_row.specs.Locals.{IsFirst, IsOff, number_in};
 
 use crate::cows::Cows;
 use crate::guests::Guests;
-use hwp_cpu_check::{BANKS, Bank, Collector, FileNo, Layout, OutOfMemory, no_events};
+use hwp_claim::{BANKS, Bank, Collector, FileNo, Layout, OutOfMemory, no_events};
 use std::alloc::Global;
 use std::marker::Model;
 

@@ -1,4 +1,4 @@
-use hwp_cpu_check::{Answer, EventOutcome, Found, Frame, GuestLine, List, OfflineResult};
+use hwp_claim::{Answer, EventOutcome, Found, Frame, GuestLine, List, OfflineResult};
 
 /// What a command did to a frame itself, beside the failures that its machine checks told (this project's rule).
 #[derive(Clone, Copy)]

@@ -28,10 +28,10 @@ use Rattle.hwp_law.specs.hwp_severity.Handling.{has_stop}
 use Rattle.hwp_law.specs.Commands.{arrival_of, is_check}
 use Rattle.hwp_law.specs.hwp_severity.declared.Arrival.{Arrival}
 use Rattle.hwp_cpu_row.specs.hwp_claim.declared.Found.{Found}
-use Rattle.hwp_cpu_row.specs.hwp_cpu_check.declared.EventOutcome.{EventOutcome}
-use Rattle.hwp_cpu_row.specs.hwp_cpu_check.Checks.{AreChecks, Check, IsActedOn, IsCheck}
-use Rattle.hwp_cpu_row.specs.hwp_cpu_check.Fits.{IsEntered}
-use Rattle.hwp_cpu_row.proofs.of_hwp_cpu_check.FailureKeeps.{Stay, told-stays}
+use Rattle.hwp_cpu_row.specs.hwp_claim.declared.EventOutcome.{EventOutcome}
+use Rattle.hwp_cpu_row.specs.hwp_claim.Checks.{AreChecks, Check, IsActedOn, IsCheck}
+use Rattle.hwp_cpu_row.specs.hwp_claim.Fits.{IsEntered}
+use Rattle.hwp_cpu_row.proofs.of_hwp_claim.FailureKeeps.{Stay, told-stays}
 use Rattle.hwp_scrub.proofs.VisitLaws.{bad-stays, visits-stay}
 use Rattle.hwp_law_served.specs.Told.{AreToldBy, IsAccessTold, IsCutShort, IsRaiseTold, IsScrubTold, IsUntold, is_raised}
 use Rattle.hwp_law_served.proofs.AccountKeeps.{marks-stay}

@@ -46,7 +46,7 @@ use Rattle.hwp_cpu_row.specs.hwp_claim.declared.Found.{Found}
 use Rattle.hwp_cpu_row.specs.declared.FrameChange.{FrameChange}
 use Rattle.hwp_cpu_row.specs.declared.Offlining.{Offlining}
 use Rattle.hwp_cpu_row.specs.declared.Row.{Row}
-use Rattle.hwp_cpu_row.specs.hwp_cpu_check.declared.EventOutcome.{EventOutcome}
+use Rattle.hwp_cpu_row.specs.hwp_claim.declared.EventOutcome.{EventOutcome}
 use Rattle.hwp_law_served.specs.Causes.{FoundGone, FoundNoFrame, FoundPoisoned, FoundState, FoundStopped, FoundBadLines, HasCome, HasFailed, HasMoved, HasOnlyBegun, HasOnlyMet, HasSpoiledLine, HasTaken, IsAnswerCaused, IsCausedWith, IsCopiedOut, IsInjectCaused, IsLoadCaused, IsOfflineCaused, IsPageCaused, IsReplied, IsSoftCaused, IsStoreCaused, IsTableCaused, MadeOne, Reached, SawBadLines, SawProcess, WasDenied, WasRaised, WasSignalled, IsUnpoisonCaused}
 use Rattle.hwp_law_served.specs.Offlinings.{AreBeside, IsOfflineServed, left_among}
 use Rattle.hwp_law_served.specs.Served.{IsOffliningServed, IsRowServed, SawRunning}

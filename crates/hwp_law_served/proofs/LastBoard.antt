@@ -35,7 +35,7 @@ use Rattle.hwp_law_served.proofs.Legal.{run-legal}
 use Rattle.hwp_law_served.proofs.turns.SightOrder.{run-rises}
 use Rattle.hwp_cpu_row.specs.declared.FrameChange.{FrameChange}
 use Rattle.hwp_cpu_row.specs.declared.Row.{Row}
-use Rattle.hwp_cpu_row.specs.hwp_cpu_check.declared.EventOutcome.{EventOutcome}
+use Rattle.hwp_cpu_row.specs.hwp_claim.declared.EventOutcome.{EventOutcome}
 use Rattle.hwp_law_served.specs.Causes.{FoundNoFrame, IsAnswerCaused, IsCausedWith, IsCopyingCaused}
 use Rattle.hwp_law_served.specs.Runs.{IsRunOf}
 use Rattle.hwp_law_served.proofs.RunKeeps.{run-keeps}

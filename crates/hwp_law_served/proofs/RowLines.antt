@@ -27,7 +27,7 @@ use Rattle.hwp_law.specs.Lines.{AnswerLine, answer_among, answer_in, answer_of, 
 use Rattle.hwp_law.specs.Policies.{answered_on}
 use Rattle.hwp_cpu_row.specs.declared.Offlining.{Offlining}
 use Rattle.hwp_cpu_row.specs.declared.Row.{Row}
-use Rattle.hwp_cpu_row.specs.hwp_cpu_check.declared.EventOutcome.{EventOutcome}
+use Rattle.hwp_cpu_row.specs.hwp_claim.declared.EventOutcome.{EventOutcome}
 use Rattle.hwp_law_served.specs.Handles.{answers_by}
 use Rattle.hwp_law_served.specs.Rows.{end_lines, event_line, guest_at, lines_from, offlined_at, offlined_line, row_lines}
 use Rattle.hwp_cpu_row.specs.Acts.{event_at}

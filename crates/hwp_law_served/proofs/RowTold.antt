@@ -23,10 +23,10 @@ use Rattle.hwp_law.specs.hwp_banks.Banks.{Banks, empty_banks, held_from}
 use Rattle.hwp_law.specs.hwp_severity.Handling.{has_stop}
 use Rattle.hwp_law.specs.Commands.{arrival_of, current_thread}
 use Rattle.hwp_law.specs.hwp_severity.declared.Arrival.{Arrival}
-use Rattle.hwp_cpu_row.specs.hwp_cpu_check.declared.EventOutcome.{EventOutcome}
-use Rattle.hwp_cpu_row.specs.hwp_cpu_check.Checks.{AreChecks, Check, IsActedOn, lines_of}
-use Rattle.hwp_cpu_row.specs.hwp_cpu_check.Events.{graded_in}
-use Rattle.hwp_cpu_row.specs.hwp_cpu_check.Fits.{AreTold, IsTold}
+use Rattle.hwp_cpu_row.specs.hwp_claim.declared.EventOutcome.{EventOutcome}
+use Rattle.hwp_cpu_row.specs.hwp_claim.Checks.{AreChecks, Check, IsActedOn, lines_of}
+use Rattle.hwp_cpu_row.specs.hwp_claim.Events.{graded_in}
+use Rattle.hwp_cpu_row.specs.hwp_claim.Fits.{AreTold, IsTold}
 use Rattle.hwp_scrub.specs.Visits as scrubs
 use Rattle.hwp_scrub.specs.Visits.{AreVisits, IsBadMet, IsWeakMet, Visit, left_by_bad, left_by_visit, lines_of_visit, scrub_bank, scrubbing, with_bad}
 use Rattle.hwp_law_served.specs.Told.{AreToldBy, IsCutShort, IsRaiseTold, IsScrubTold, IsUntold, is_raised}

@@ -38,11 +38,11 @@ use Rattle.hwp_law.specs.States.{place_named, state_named}
 use Rattle.hwp_cpu_row.specs.hwp_claim.declared.Found.{Found}
 use Rattle.hwp_cpu_row.specs.declared.FrameChange.{FrameChange}
 use Rattle.hwp_cpu_row.specs.declared.Row.{Row}
-use Rattle.hwp_cpu_row.specs.hwp_cpu_check.declared.EventOutcome.{EventOutcome}
+use Rattle.hwp_cpu_row.specs.hwp_claim.declared.EventOutcome.{EventOutcome}
 use Rattle.hwp_cpu_row.specs.hwp_claim.Done.{entered_by}
-use Rattle.hwp_cpu_row.specs.hwp_cpu_check.Done.{failed_by}
-use Rattle.hwp_cpu_row.specs.hwp_cpu_check.Done as done
-use Rattle.hwp_cpu_row.specs.hwp_cpu_check.Told.{first_signal, required_by, signal_of}
+use Rattle.hwp_cpu_row.specs.hwp_claim.CheckDone.{failed_by}
+use Rattle.hwp_cpu_row.specs.hwp_claim.CheckDone as done
+use Rattle.hwp_cpu_row.specs.hwp_claim.Told.{first_signal, required_by, signal_of}
 use Rattle.hwp_law_served.specs.Accounts.{IsAccounted, failures_in, own_failure}
 use Rattle.hwp_law_served.specs.Causes.{IsAnswerCaused, IsOfflineCaused, IsSoftCaused, IsTableCaused, WasSignalled, IsUnpoisonCaused}
 use Rattle.hwp_law_served.proofs.Picked.{picked-has, picked-is}

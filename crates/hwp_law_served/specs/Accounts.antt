@@ -35,7 +35,7 @@ use Rattle.hwp_cpu_row.specs.declared.FrameChange.{FrameChange}
 use Rattle.hwp_cpu_row.specs.declared.FrameChange.TheVariants as owns
 use Rattle.hwp_cpu_row.specs.declared.Row.{Row}
 use Rattle.hwp_cpu_row.specs.Acts.{Act, Offlined, Told, acts}
-use Rattle.hwp_cpu_row.specs.hwp_cpu_check.Done.{failed_by, failed_in, marked_in}
+use Rattle.hwp_cpu_row.specs.hwp_claim.CheckDone.{failed_by, failed_in, marked_in}
 use Rattle.hwp_law_served.specs.Rows.{Note}
 
 abbrev pub is_same : Who → Who → Bool

@@ -48,9 +48,9 @@ use Rattle.hwp_soft.specs.hwp_soft_move.Seizes.{IsUsers, SawKernel}
 use Rattle.hwp_cpu_row.specs.declared.FrameChange.{FrameChange}
 use Rattle.hwp_cpu_row.specs.declared.FrameChange.TheVariants as owns
 use Rattle.hwp_cpu_row.specs.declared.Row.{Row}
-use Rattle.hwp_cpu_row.specs.hwp_cpu_check.declared.EventOutcome.{EventOutcome}
-use Rattle.hwp_cpu_row.specs.hwp_cpu_check.Fits.{IsEntered}
-use Rattle.hwp_cpu_row.specs.hwp_cpu_check.Told.{first_signal}
+use Rattle.hwp_cpu_row.specs.hwp_claim.declared.EventOutcome.{EventOutcome}
+use Rattle.hwp_cpu_row.specs.hwp_claim.Fits.{IsEntered}
+use Rattle.hwp_cpu_row.specs.hwp_claim.Told.{first_signal}
 use Rattle.hwp_law_served.specs.Copied.{IsCopyCaused}
 
 -- a step of the command showed this word of its thread's process

@@ -20,7 +20,6 @@ pub use Rattle.hwp_cpu_row.specs.hwp_claim_act as hwp_claim_act
 pub use Rattle.hwp_cpu_row.specs.hwp_claim_frame as hwp_claim_frame
 pub use Rattle.hwp_plain.specs.hwp_core_rule as hwp_core_rule
 pub use Rattle.hwp_cpu_access.specs as hwp_cpu_access
-pub use Rattle.hwp_cpu_row.specs.hwp_cpu_check as hwp_cpu_check
 pub use Rattle.hwp_cpu_control.specs as hwp_cpu_control
 pub use Rattle.hwp_cpu_row.specs as hwp_cpu_row
 pub use Rattle.hwp_cpu_access.specs.hwp_evict as hwp_evict

@@ -32,8 +32,8 @@ use Rattle.hwp_law.specs.Records.{cycle_in, is_poisoning}
 use Rattle.hwp_law_served.specs.Ends.{EndsWith}
 use Rattle.hwp_law_served.specs.Turns.{Leads}
 use Rattle.hwp_cpu_row.specs.declared.Row.{Row}
-use Rattle.hwp_cpu_row.specs.hwp_cpu_check.declared.EventOutcome.{EventOutcome}
-use Rattle.hwp_cpu_row.specs.hwp_cpu_check.Told.{frame_of}
+use Rattle.hwp_cpu_row.specs.hwp_claim.declared.EventOutcome.{EventOutcome}
+use Rattle.hwp_cpu_row.specs.hwp_claim.Told.{frame_of}
 use Rattle.hwp_law_served.specs.Rows.{Note, lines_from, notes_from, record_of}
 use Rattle.hwp_law_served.specs.Served.{HasServed, IsServed}
 

@@ -30,8 +30,8 @@ use Rattle.hwp_plain.specs.hwp_words.Stops.{is_stopped}
 use Rattle.hwp_law.specs.hwp_report_text.declared.OfflineResult.TheVariants as results
 use Rattle.hwp_cpu_row.specs.declared.Offlining.{Offlining}
 use Rattle.hwp_cpu_row.specs.declared.Row.{Row}
-use Rattle.hwp_cpu_row.specs.hwp_cpu_check.declared.EventOutcome.{EventOutcome}
-use Rattle.hwp_cpu_row.specs.hwp_cpu_check.Told.{halts}
+use Rattle.hwp_cpu_row.specs.hwp_claim.declared.EventOutcome.{EventOutcome}
+use Rattle.hwp_cpu_row.specs.hwp_claim.Told.{halts}
 use Rattle.hwp_law_served.specs.Accounts.{IsAccounted, IsNote}
 use Rattle.hwp_law_served.specs.Causes.{IsCaused}
 use Rattle.hwp_law_served.specs.Guests.{KnowsGuests}

@@ -15,20 +15,20 @@ use Rattle.hwp_cpu_control.specs.hwp_core_rule.declared.Turn.{Turn}
 use Rattle.hwp_cpu_control.specs.hwp_core_rule.Calls.{Steps, logs}
 use Rattle.hwp_cpu_control.proofs.of_hwp_core_rule.tasks.StepLeaves.{steps-planned}
 use Rattle.hwp_cpu_control.proofs.of_hwp_core_rule.tasks.MadeEntries.{ListsNone, deeds-same}
-use Rattle.hwp_cpu_check.specs.hwp_claim_act.declared.Failed.{Failed}
-use Rattle.hwp_cpu_check.specs.hwp_claim_act.Abandoned.{AddsFailure}
-use Rattle.hwp_cpu_check.specs.hwp_claim_frame.Done.{Grows, Marking, counts_owed, marking_of}
-use Rattle.hwp_cpu_check.specs.hwp_severity.Handling.{has_stop}
-use Rattle.hwp_cpu_check.specs.declared.Handler.{Handler}
-use Rattle.hwp_cpu_check.specs.declared.EventOutcome.{EventOutcome}
-use Rattle.hwp_cpu_check.specs.declared.handler.HandlerAt.{HandlerAt}
-use Rattle.hwp_cpu_check.specs.declared.handler.HandlerAt.TheVariants as handler_at
-use Rattle.hwp_cpu_check.specs.Done as handler_done
-use Rattle.hwp_cpu_check.specs.Done.{failed_in, marked_in}
-use Rattle.hwp_cpu_check.specs.Events.{held_in}
-use Rattle.hwp_cpu_check.specs.Handlers as handlers
-use Rattle.hwp_cpu_check.proofs.HandlerAdds.{handler-adds}
-use Rattle.hwp_cpu_check.proofs.EventTells.{kept, tell-done, tell-idle}
+use Rattle.hwp_claim.specs.hwp_claim_act.declared.Failed.{Failed}
+use Rattle.hwp_claim.specs.hwp_claim_act.Abandoned.{AddsFailure}
+use Rattle.hwp_claim.specs.hwp_claim_frame.Done.{Grows, Marking, counts_owed, marking_of}
+use Rattle.hwp_claim.specs.hwp_severity.Handling.{has_stop}
+use Rattle.hwp_claim.specs.declared.Handler.{Handler}
+use Rattle.hwp_claim.specs.declared.EventOutcome.{EventOutcome}
+use Rattle.hwp_claim.specs.declared.handler.HandlerAt.{HandlerAt}
+use Rattle.hwp_claim.specs.declared.handler.HandlerAt.TheVariants as handler_at
+use Rattle.hwp_claim.specs.CheckDone as handler_done
+use Rattle.hwp_claim.specs.CheckDone.{failed_in, marked_in}
+use Rattle.hwp_claim.specs.Events.{held_in}
+use Rattle.hwp_claim.specs.Handlers as handlers
+use Rattle.hwp_claim.proofs.HandlerAdds.{handler-adds}
+use Rattle.hwp_claim.proofs.EventTells.{kept, tell-done, tell-idle}
 use Rattle.hwp_scrub.specs.RaiseDone.{Adds, failed_at, failed_now, marked_at, marked_now, owed_at, owed_now}
 use Rattle.hwp_scrub.specs.RaiseFits.{Fits, FitsAt, HasHandler}
 use Rattle.hwp_scrub.specs.Raises.{AfterProcessBy, AfterStopBy, BeginsCheck, Follows, FollowsAt, after_handler, after_handler_by, bare, bare_at, emptied, handler_of, how_of, plan, plan_at, put, put_at, thread_of}

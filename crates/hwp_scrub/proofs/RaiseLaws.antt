@@ -7,7 +7,7 @@ use Rattle.hwp_cpu_control.specs.hwp_geom.declared.Thread.{Thread}
 use Rattle.hwp_cpu_control.specs.hwp_geom.declared.Who.{Who}
 use Rattle.hwp_cpu_control.specs.hwp_geom.Layout.{IsSound}
 use Rattle.hwp_cpu_control.specs.hwp_geom.Limits.{page_limit}
-use Rattle.hwp_cpu_check.specs.hwp_banks.Events.{bank_count}
+use Rattle.hwp_claim.specs.hwp_banks.Events.{bank_count}
 use Rattle.hwp_cpu_control.specs.hwp_page.History.{BodyValue}
 use Rattle.hwp_cpu_control.specs.hwp_words.Names.{page_named}
 use Rattle.hwp_cpu_control.specs.hwp_words.Stops.{is_stopped}
@@ -25,27 +25,27 @@ use Rattle.hwp_cpu_control.specs.hwp_core_rule.Known.{HasMadeNone, Saw, is_failu
 use Rattle.hwp_cpu_control.proofs.of_hwp_core_rule.tasks.MadeEntries.{ListsNone, deeds-same}
 use Rattle.hwp_cpu_control.proofs.of_hwp_core_rule.tasks.StepOwes.{losses-same}
 use Rattle.hwp_cpu_control.proofs.of_hwp_core_rule.tasks.SightKeeps.{saw-load, saw-stays}
-use Rattle.hwp_cpu_check.specs.hwp_claim_act.Abandoned.{AddsFailure}
-use Rattle.hwp_cpu_check.proofs.of_hwp_claim_act.ActAdds.{only-failed-stays}
+use Rattle.hwp_claim.specs.hwp_claim_act.Abandoned.{AddsFailure}
+use Rattle.hwp_claim.proofs.of_hwp_claim_act.ActAdds.{only-failed-stays}
 use Rattle.hwp_cpu_control.proofs.PrctlLaws.{ended-by, no-page-back, page-back}
 use Rattle.hwp_cpu_control.proofs.EmptyHands.{saw-stop}
-use Rattle.hwp_cpu_check.specs.hwp_severity.Handling.{has_stop}
-use Rattle.hwp_cpu_check.specs.declared.Handler.{Handler}
-use Rattle.hwp_cpu_check.specs.declared.Held.{Held}
-use Rattle.hwp_cpu_check.specs.declared.EventOutcome.{EventOutcome}
-use Rattle.hwp_cpu_check.specs.declared.handler.HandlerAt.{HandlerAt}
-use Rattle.hwp_cpu_check.specs.declared.handler.HandlerAt.TheVariants as handler_at
-use Rattle.hwp_cpu_check.specs.Checks.{IsActedOn}
-use Rattle.hwp_cpu_check.specs.Done as handler_done
-use Rattle.hwp_cpu_check.specs.Events.{held_in}
-use Rattle.hwp_cpu_check.specs.Fits as handler_fits
-use Rattle.hwp_cpu_check.specs.Fits.{AreTold, IsAllTold, IsAtRest, IsStoppedIf}
-use Rattle.hwp_cpu_check.specs.Handlers as handlers
-use Rattle.hwp_cpu_check.specs.Told.{halts}
-use Rattle.hwp_cpu_check.proofs.HandlerAdds.{handler-adds}
-use Rattle.hwp_cpu_check.proofs.HandlerLaws.{begins-fit, can as handler-can, stays as handler-stays}
-use Rattle.hwp_cpu_check.proofs.EventTells.{events-stay, kept}
-use Rattle.hwp_cpu_check.proofs.CheckRoom.{shows-within}
+use Rattle.hwp_claim.specs.hwp_severity.Handling.{has_stop}
+use Rattle.hwp_claim.specs.declared.Handler.{Handler}
+use Rattle.hwp_claim.specs.declared.Held.{Held}
+use Rattle.hwp_claim.specs.declared.EventOutcome.{EventOutcome}
+use Rattle.hwp_claim.specs.declared.handler.HandlerAt.{HandlerAt}
+use Rattle.hwp_claim.specs.declared.handler.HandlerAt.TheVariants as handler_at
+use Rattle.hwp_claim.specs.Checks.{IsActedOn}
+use Rattle.hwp_claim.specs.CheckDone as handler_done
+use Rattle.hwp_claim.specs.Events.{held_in}
+use Rattle.hwp_claim.specs.Fits as handler_fits
+use Rattle.hwp_claim.specs.Fits.{AreTold, IsAllTold, IsAtRest, IsStoppedIf}
+use Rattle.hwp_claim.specs.Handlers as handlers
+use Rattle.hwp_claim.specs.Told.{halts}
+use Rattle.hwp_claim.proofs.HandlerAdds.{handler-adds}
+use Rattle.hwp_claim.proofs.HandlerLaws.{begins-fit, can as handler-can, stays as handler-stays}
+use Rattle.hwp_claim.proofs.EventTells.{events-stay, kept}
+use Rattle.hwp_claim.proofs.CheckRoom.{shows-within}
 use Rattle.hwp_scrub.specs.RaiseFits.{Fits, FitsAt, GoesOn, HasHandler, HasOnlyFailed, IsChecked, IsGone, IsRaiser, IsUnbegun, IsUnchecked}
 use Rattle.hwp_scrub.specs.Raises.{AfterProcess, AfterProcessBy, AfterStop, AfterStopBy, BeginsCheck, Follows, FollowsAt, Shows, ShowsAt, after_handler, after_handler_by, bare, bare_at, begin, emptied, handler_of, how_of, plan, plan_at, put, put_at, thread_of}
 use Rattle.hwp_scrub.specs.declared.raise.Raise.{Raise}

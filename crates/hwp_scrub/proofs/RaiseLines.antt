@@ -4,10 +4,10 @@ use Rattle.std.proofs.lemmas.List.{length-map}
 use Rattle.std.proofs.lemmas.Option.{none-some}
 use Rattle.hwp_cpu_control.specs.hwp_geom.declared.Layout.{Layout}
 use Rattle.hwp_cpu_control.specs.hwp_core_rule.declared.View.{View}
-use Rattle.hwp_cpu_check.specs.hwp_banks.Events.{bank_count}
-use Rattle.hwp_cpu_check.specs.declared.EventOutcome.{EventOutcome}
-use Rattle.hwp_cpu_check.specs.Events.{held_in}
-use Rattle.hwp_cpu_check.proofs.BankGrades.{found-in}
+use Rattle.hwp_claim.specs.hwp_banks.Events.{bank_count}
+use Rattle.hwp_claim.specs.declared.EventOutcome.{EventOutcome}
+use Rattle.hwp_claim.specs.Events.{held_in}
+use Rattle.hwp_claim.proofs.BankGrades.{found-in}
 use Rattle.hwp_scrub.specs.RaiseFits.{Fits, FitsAt, IsChecked, IsEnd, IsUnchecked}
 use Rattle.hwp_scrub.specs.Raises.{answer, answer_at, how_of}
 use Rattle.hwp_scrub.specs.declared.raise.Raise.{Raise}

@@ -5,7 +5,7 @@ use Rattle.std.proofs.lemmas.Option.{none-some, same_Some}
 use Rattle.hwp_cpu_control.specs.hwp_geom.declared.Frame.{Frame}
 use Rattle.hwp_cpu_control.specs.hwp_geom.declared.Layout.{Layout}
 use Rattle.hwp_cpu_control.specs.hwp_geom.declared.Page.{Page}
-use Rattle.hwp_cpu_check.specs.hwp_banks.Events.{bank_count}
+use Rattle.hwp_claim.specs.hwp_banks.Events.{bank_count}
 use Rattle.hwp_cpu_control.specs.hwp_words.Names.{page_named}
 use Rattle.hwp_cpu_control.specs.hwp_words.Stops.{is_stopped}
 use Rattle.hwp_cpu_control.specs.hwp_core_rule.declared.SharedWord.TheVariants as places
@@ -25,16 +25,16 @@ use Rattle.hwp_cpu_control.specs.hwp_core_rule.Hands.{hand_of, empty}
 use Rattle.hwp_cpu_control.specs.hwp_core_rule.Ranks.{CostFalls, HasFailed, HasFrame, HasPage, IsRanked, Made, OtherHand, Pending, Quiet, failure_weight, failures_left, is_refused, is_waits, top, words_at}
 use Rattle.hwp_cpu_control.proofs.of_hwp_core_rule.tasks.StepRanks.{part-made, pending-kept}
 use Rattle.hwp_cpu_control.proofs.EmptyHands.{no-frame, no-page}
-use Rattle.hwp_cpu_check.specs.hwp_severity.Handling.{has_stop}
-use Rattle.hwp_cpu_check.specs.declared.Handler.{Handler}
-use Rattle.hwp_cpu_check.specs.declared.handler.HandlerAt.{HandlerAt}
-use Rattle.hwp_cpu_check.specs.declared.handler.HandlerAt.TheVariants as handler_at
-use Rattle.hwp_cpu_check.specs.Events.{held_in}
-use Rattle.hwp_cpu_check.specs.Handlers as handlers
-use Rattle.hwp_cpu_check.specs.Fits.{task as handler-task}
-use Rattle.hwp_cpu_check.proofs.BankGrades.{found-in}
-use Rattle.hwp_cpu_check.proofs.HandlerRank.{handler-lasting, handler-ranked, handler-tells}
-use Rattle.hwp_cpu_check.proofs.EventTells.{tell-cost, tell-idle}
+use Rattle.hwp_claim.specs.hwp_severity.Handling.{has_stop}
+use Rattle.hwp_claim.specs.declared.Handler.{Handler}
+use Rattle.hwp_claim.specs.declared.handler.HandlerAt.{HandlerAt}
+use Rattle.hwp_claim.specs.declared.handler.HandlerAt.TheVariants as handler_at
+use Rattle.hwp_claim.specs.Events.{held_in}
+use Rattle.hwp_claim.specs.Handlers as handlers
+use Rattle.hwp_claim.specs.Fits.{task as handler-task}
+use Rattle.hwp_claim.proofs.BankGrades.{found-in}
+use Rattle.hwp_claim.proofs.HandlerRank.{handler-lasting, handler-ranked, handler-tells}
+use Rattle.hwp_claim.proofs.EventTells.{tell-cost, tell-idle}
 use Rattle.hwp_scrub.specs.RaiseCosts.{aborts, aborts_at, claims, claims_at, class, class_at, cost, cost_at}
 use Rattle.hwp_scrub.specs.RaiseFits.{Fits, FitsAt, task as raise-task}
 use Rattle.hwp_scrub.specs.Raises.{AfterProcessBy, AfterStopBy, BeginsCheck, Follows, FollowsAt, after_handler, after_handler_by, bare, bare_at, emptied, handler_of, how_of, plan, plan_at, put_at, thread_of}

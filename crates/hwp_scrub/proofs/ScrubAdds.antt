@@ -2,38 +2,38 @@
 use Rattle.std.proofs.Common.{◌≡◌, inl, inr, ℕ, ◌+◌, nat_lt, Bool, true, false, cond, List, [], ◌∷◌, ◌++◌, Option, Some, None, filter_map, slice_index_or, append-nil, append_assoc, refl, sym, ap, ◌∙◌, subst}
 use Rattle.std.proofs.lemmas.List.Elements.{filter_map-append}
 use Rattle.std.proofs.lemmas.Option.{none-some}
-use Rattle.hwp_cpu_check.specs.hwp_geom.declared.Frame.{Frame}
-use Rattle.hwp_cpu_check.specs.hwp_geom.declared.Layout.{Layout}
-use Rattle.hwp_cpu_check.specs.hwp_geom.declared.Thread.{Thread}
-use Rattle.hwp_cpu_check.specs.hwp_geom.declared.Who.{Who}
-use Rattle.hwp_cpu_check.specs.hwp_banks.declared.Event.{Event}
-use Rattle.hwp_cpu_check.specs.hwp_banks.declared.Origin.TheVariants as origins
-use Rattle.hwp_cpu_check.specs.hwp_banks.Events.{own_event}
-use Rattle.hwp_cpu_check.specs.hwp_banks.Logged.{logged}
-use Rattle.hwp_cpu_check.specs.hwp_page.History.{BodyValue}
-use Rattle.hwp_cpu_check.specs.hwp_words.Stops.{is_stopped}
-use Rattle.hwp_cpu_check.specs.hwp_core_rule.declared.Mark.{Mark}
-use Rattle.hwp_cpu_check.specs.hwp_core_rule.declared.Step.{Step}
-use Rattle.hwp_cpu_check.specs.hwp_core_rule.declared.View.{View}
-use Rattle.hwp_cpu_check.specs.hwp_core_rule.declared.Turn.{Turn}
-use Rattle.hwp_cpu_check.specs.hwp_core_rule.Calls.{Steps, logs}
-use Rattle.hwp_cpu_check.proofs.of_hwp_core_rule.tasks.StepLeaves.{steps-planned}
-use Rattle.hwp_cpu_check.proofs.of_hwp_core_rule.tasks.MadeEntries.{ListsNone, deeds-same}
-use Rattle.hwp_cpu_check.specs.hwp_claim_act.declared.Failed.{Failed}
-use Rattle.hwp_cpu_check.specs.hwp_claim_act.Abandoned.{AddsFailure}
-use Rattle.hwp_cpu_check.specs.hwp_claim_frame.Done.{Grows, Marking, counts_owed, marking_of}
-use Rattle.hwp_cpu_check.specs.hwp_banks.Banks.{Banks}
-use Rattle.hwp_cpu_check.specs.hwp_severity.Handling.{has_stop}
-use Rattle.hwp_cpu_check.specs.declared.Handler.{Handler}
-use Rattle.hwp_cpu_check.specs.declared.EventOutcome.{EventOutcome}
-use Rattle.hwp_cpu_check.specs.declared.handler.HandlerAt.{HandlerAt}
-use Rattle.hwp_cpu_check.specs.declared.handler.HandlerAt.TheVariants as handler_at
-use Rattle.hwp_cpu_check.specs.Done as handler_done
-use Rattle.hwp_cpu_check.specs.Done.{failed_in, marked_in}
-use Rattle.hwp_cpu_check.specs.Events.{held_in}
-use Rattle.hwp_cpu_check.specs.Handlers as handlers
-use Rattle.hwp_cpu_check.proofs.HandlerAdds.{grows-behind, handler-adds}
-use Rattle.hwp_cpu_check.proofs.EventTells.{kept as handler-kept, tell-done, tell-idle}
+use Rattle.hwp_claim.specs.hwp_geom.declared.Frame.{Frame}
+use Rattle.hwp_claim.specs.hwp_geom.declared.Layout.{Layout}
+use Rattle.hwp_claim.specs.hwp_geom.declared.Thread.{Thread}
+use Rattle.hwp_claim.specs.hwp_geom.declared.Who.{Who}
+use Rattle.hwp_claim.specs.hwp_banks.declared.Event.{Event}
+use Rattle.hwp_claim.specs.hwp_banks.declared.Origin.TheVariants as origins
+use Rattle.hwp_claim.specs.hwp_banks.Events.{own_event}
+use Rattle.hwp_claim.specs.hwp_banks.Logged.{logged}
+use Rattle.hwp_claim.specs.hwp_page.History.{BodyValue}
+use Rattle.hwp_claim.specs.hwp_words.Stops.{is_stopped}
+use Rattle.hwp_claim.specs.hwp_core_rule.declared.Mark.{Mark}
+use Rattle.hwp_claim.specs.hwp_core_rule.declared.Step.{Step}
+use Rattle.hwp_claim.specs.hwp_core_rule.declared.View.{View}
+use Rattle.hwp_claim.specs.hwp_core_rule.declared.Turn.{Turn}
+use Rattle.hwp_claim.specs.hwp_core_rule.Calls.{Steps, logs}
+use Rattle.hwp_claim.proofs.of_hwp_core_rule.tasks.StepLeaves.{steps-planned}
+use Rattle.hwp_claim.proofs.of_hwp_core_rule.tasks.MadeEntries.{ListsNone, deeds-same}
+use Rattle.hwp_claim.specs.hwp_claim_act.declared.Failed.{Failed}
+use Rattle.hwp_claim.specs.hwp_claim_act.Abandoned.{AddsFailure}
+use Rattle.hwp_claim.specs.hwp_claim_frame.Done.{Grows, Marking, counts_owed, marking_of}
+use Rattle.hwp_claim.specs.hwp_banks.Banks.{Banks}
+use Rattle.hwp_claim.specs.hwp_severity.Handling.{has_stop}
+use Rattle.hwp_claim.specs.declared.Handler.{Handler}
+use Rattle.hwp_claim.specs.declared.EventOutcome.{EventOutcome}
+use Rattle.hwp_claim.specs.declared.handler.HandlerAt.{HandlerAt}
+use Rattle.hwp_claim.specs.declared.handler.HandlerAt.TheVariants as handler_at
+use Rattle.hwp_claim.specs.CheckDone as handler_done
+use Rattle.hwp_claim.specs.CheckDone.{failed_in, marked_in}
+use Rattle.hwp_claim.specs.Events.{held_in}
+use Rattle.hwp_claim.specs.Handlers as handlers
+use Rattle.hwp_claim.proofs.HandlerAdds.{grows-behind, handler-adds}
+use Rattle.hwp_claim.proofs.EventTells.{kept as handler-kept, tell-done, tell-idle}
 use Rattle.hwp_scrub.specs.Done.{Adds, failed_at, failed_now, marked_at, marked_now, owed_at, owed_now}
 use Rattle.hwp_scrub.specs.Fits.{Fits, FitsAt, HasHandler}
 use Rattle.hwp_scrub.specs.Scrubs.{AfterBadBy, AfterWeakBy, BeginsCheck, Follows, FollowsAt, after_handler, after_handler_by, bare, bare_at, emptied, gone_on, handler_of, kept, kept_line, kept_lines, plan, plan_at, put, put_at, with_room}

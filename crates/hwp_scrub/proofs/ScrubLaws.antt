@@ -3,53 +3,53 @@ use Rattle.std.proofs.Common.{◌≡◌, inl, inr, ℕ, ◌+◌, ◌<◌, ◌≤
 use Rattle.std.proofs.lemmas.Bool.{ltb-false, ltb-true}
 use Rattle.std.proofs.lemmas.List.{length-set}
 use Rattle.std.proofs.lemmas.Option.{none-some}
-use Rattle.hwp_cpu_check.specs.hwp_geom.declared.Frame.{Frame}
-use Rattle.hwp_cpu_check.specs.hwp_geom.declared.Layout.{Layout}
-use Rattle.hwp_cpu_check.specs.hwp_geom.declared.Thread.{Thread}
-use Rattle.hwp_cpu_check.specs.hwp_geom.declared.Who.{Who}
-use Rattle.hwp_cpu_check.specs.hwp_geom.Layout.{IsSound}
-use Rattle.hwp_cpu_check.specs.hwp_banks.declared.Origin.TheVariants as origins
-use Rattle.hwp_cpu_check.specs.hwp_banks.Events.{bank_count, bank_of, own_event}
-use Rattle.hwp_cpu_check.specs.hwp_banks.Logged.{logged}
-use Rattle.hwp_cpu_check.specs.hwp_page.History.{BodyValue}
-use Rattle.hwp_cpu_check.specs.hwp_words.Stops.{is_stopped}
-use Rattle.hwp_cpu_check.specs.hwp_core_rule.declared.Made.{Made}
-use Rattle.hwp_cpu_check.specs.hwp_core_rule.declared.SharedWord.{SharedWord}
-use Rattle.hwp_cpu_check.specs.hwp_core_rule.declared.SharedWord.TheVariants as places
-use Rattle.hwp_cpu_check.specs.hwp_core_rule.declared.Step.{Step}
-use Rattle.hwp_cpu_check.specs.hwp_core_rule.declared.Step.TheVariants as steps
-use Rattle.hwp_cpu_check.specs.hwp_core_rule.declared.View.{View}
-use Rattle.hwp_cpu_check.specs.hwp_core_rule.Lists.{EachMember}
-use Rattle.hwp_cpu_check.specs.hwp_core_rule.declared.Turn.{Turn}
-use Rattle.hwp_cpu_check.specs.hwp_core_rule.Calls.{CanMake, IsOnTurn, Steps, logs}
-use Rattle.hwp_cpu_check.specs.hwp_core_rule.Hands.{hand_of, empty}
-use Rattle.hwp_cpu_check.proofs.of_hwp_core_rule.tasks.StepLeaves.{can-make, hand-planned, on-turn-after, steps-planned}
-use Rattle.hwp_cpu_check.specs.hwp_core_rule.Known.{HasMadeNone, is_failure}
-use Rattle.hwp_cpu_check.proofs.of_hwp_core_rule.tasks.MadeEntries.{deeds-same}
-use Rattle.hwp_cpu_check.proofs.of_hwp_core_rule.tasks.StepOwes.{losses-same}
-use Rattle.hwp_cpu_check.proofs.of_hwp_core_rule.tasks.SightKeeps.{saw-load, saw-stays}
-use Rattle.hwp_cpu_check.specs.hwp_claim_act.Abandoned.{AddsFailure}
-use Rattle.hwp_cpu_check.proofs.of_hwp_claim_act.ActAdds.{only-failed-stays}
-use Rattle.hwp_cpu_check.specs.hwp_banks.Banks.{Banks}
-use Rattle.hwp_cpu_check.specs.hwp_severity.Handling.{has_stop}
-use Rattle.hwp_cpu_check.specs.declared.Handler.{Handler}
-use Rattle.hwp_cpu_check.specs.declared.Held.{Held}
-use Rattle.hwp_cpu_check.specs.declared.EventOutcome.{EventOutcome}
-use Rattle.hwp_cpu_check.specs.declared.handler.HandlerAt.{HandlerAt}
-use Rattle.hwp_cpu_check.specs.declared.handler.HandlerAt.TheVariants as handler_at
-use Rattle.hwp_cpu_check.specs.Checks.{IsActedOn}
-use Rattle.hwp_cpu_check.specs.Done as handler_done
-use Rattle.hwp_cpu_check.specs.Events.{held_in}
-use Rattle.hwp_cpu_check.specs.Fits as handler_fits
-use Rattle.hwp_cpu_check.specs.Fits.{AreTold, IsAllTold, IsAtRest, IsStoppedIf}
-use Rattle.hwp_cpu_check.specs.Handlers as handlers
-use Rattle.hwp_cpu_check.specs.Lines.{with_lines}
-use Rattle.hwp_cpu_check.specs.Told.{halts}
-use Rattle.hwp_cpu_check.proofs.HandlerAdds.{handler-adds}
-use Rattle.hwp_cpu_check.proofs.HandlerLaws.{begins-fit, can as handler-can, stays as handler-stays}
-use Rattle.hwp_cpu_check.proofs.FailureKeeps.{Stay, fail-stay, quiet-stay}
-use Rattle.hwp_cpu_check.proofs.EventTells.{events-stay, kept as handler-kept}
-use Rattle.hwp_cpu_check.proofs.CheckRoom.{shows-within}
+use Rattle.hwp_claim.specs.hwp_geom.declared.Frame.{Frame}
+use Rattle.hwp_claim.specs.hwp_geom.declared.Layout.{Layout}
+use Rattle.hwp_claim.specs.hwp_geom.declared.Thread.{Thread}
+use Rattle.hwp_claim.specs.hwp_geom.declared.Who.{Who}
+use Rattle.hwp_claim.specs.hwp_geom.Layout.{IsSound}
+use Rattle.hwp_claim.specs.hwp_banks.declared.Origin.TheVariants as origins
+use Rattle.hwp_claim.specs.hwp_banks.Events.{bank_count, bank_of, own_event}
+use Rattle.hwp_claim.specs.hwp_banks.Logged.{logged}
+use Rattle.hwp_claim.specs.hwp_page.History.{BodyValue}
+use Rattle.hwp_claim.specs.hwp_words.Stops.{is_stopped}
+use Rattle.hwp_claim.specs.hwp_core_rule.declared.Made.{Made}
+use Rattle.hwp_claim.specs.hwp_core_rule.declared.SharedWord.{SharedWord}
+use Rattle.hwp_claim.specs.hwp_core_rule.declared.SharedWord.TheVariants as places
+use Rattle.hwp_claim.specs.hwp_core_rule.declared.Step.{Step}
+use Rattle.hwp_claim.specs.hwp_core_rule.declared.Step.TheVariants as steps
+use Rattle.hwp_claim.specs.hwp_core_rule.declared.View.{View}
+use Rattle.hwp_claim.specs.hwp_core_rule.Lists.{EachMember}
+use Rattle.hwp_claim.specs.hwp_core_rule.declared.Turn.{Turn}
+use Rattle.hwp_claim.specs.hwp_core_rule.Calls.{CanMake, IsOnTurn, Steps, logs}
+use Rattle.hwp_claim.specs.hwp_core_rule.Hands.{hand_of, empty}
+use Rattle.hwp_claim.proofs.of_hwp_core_rule.tasks.StepLeaves.{can-make, hand-planned, on-turn-after, steps-planned}
+use Rattle.hwp_claim.specs.hwp_core_rule.Known.{HasMadeNone, is_failure}
+use Rattle.hwp_claim.proofs.of_hwp_core_rule.tasks.MadeEntries.{deeds-same}
+use Rattle.hwp_claim.proofs.of_hwp_core_rule.tasks.StepOwes.{losses-same}
+use Rattle.hwp_claim.proofs.of_hwp_core_rule.tasks.SightKeeps.{saw-load, saw-stays}
+use Rattle.hwp_claim.specs.hwp_claim_act.Abandoned.{AddsFailure}
+use Rattle.hwp_claim.proofs.of_hwp_claim_act.ActAdds.{only-failed-stays}
+use Rattle.hwp_claim.specs.hwp_banks.Banks.{Banks}
+use Rattle.hwp_claim.specs.hwp_severity.Handling.{has_stop}
+use Rattle.hwp_claim.specs.declared.Handler.{Handler}
+use Rattle.hwp_claim.specs.declared.Held.{Held}
+use Rattle.hwp_claim.specs.declared.EventOutcome.{EventOutcome}
+use Rattle.hwp_claim.specs.declared.handler.HandlerAt.{HandlerAt}
+use Rattle.hwp_claim.specs.declared.handler.HandlerAt.TheVariants as handler_at
+use Rattle.hwp_claim.specs.Checks.{IsActedOn}
+use Rattle.hwp_claim.specs.CheckDone as handler_done
+use Rattle.hwp_claim.specs.Events.{held_in}
+use Rattle.hwp_claim.specs.Fits as handler_fits
+use Rattle.hwp_claim.specs.Fits.{AreTold, IsAllTold, IsAtRest, IsStoppedIf}
+use Rattle.hwp_claim.specs.Handlers as handlers
+use Rattle.hwp_claim.specs.Lines.{with_lines}
+use Rattle.hwp_claim.specs.Told.{halts}
+use Rattle.hwp_claim.proofs.HandlerAdds.{handler-adds}
+use Rattle.hwp_claim.proofs.HandlerLaws.{begins-fit, can as handler-can, stays as handler-stays}
+use Rattle.hwp_claim.proofs.FailureKeeps.{Stay, fail-stay, quiet-stay}
+use Rattle.hwp_claim.proofs.EventTells.{events-stay, kept as handler-kept}
+use Rattle.hwp_claim.proofs.CheckRoom.{shows-within}
 use Rattle.hwp_scrub.specs.Fits.{AreFrames, Fits, FitsAt, HasHandler, HasVisited, IsBefore, IsHalfway, IsUnbegun}
 use Rattle.hwp_scrub.specs.Scrubs.{AfterBad, AfterBadBy, AfterWeak, AfterWeakBy, BeginsCheck, Follows, FollowsAt, MeetsWeak, Shows, ShowsAt, after_handler, after_handler_by, bare, bare_at, begin, emptied, gone_on, handler_of, kept, kept_line, kept_lines, plan, plan_at, put, put_at, with_room}
 use Rattle.hwp_scrub.specs.Visits.{AreBanks, Find, IsLowest, IsVisit, SawLowest, Visit, left_by, left_by_bad, left_by_visit, lines_of, lines_of_visit, scrub_bank, scrubbing, with_bad}

@@ -2,16 +2,16 @@
 use Rattle.std.proofs.Common.{◌≡◌, inl, inr, ℕ, ◌+◌, ◌*◌, ◌<◌, ◌≤◌, List, [], ◌∷◌, Option, Some, None, length, sym, ap, ◌∙◌, arith}
 use Rattle.std.proofs.lemmas.List.{length-append, length-map, length-set}
 use Rattle.std.proofs.lemmas.Option.{none-some}
-use Rattle.hwp_cpu_check.specs.hwp_geom.declared.Frame.{Frame}
-use Rattle.hwp_cpu_check.specs.hwp_geom.declared.Layout.{Layout}
-use Rattle.hwp_cpu_check.specs.hwp_geom.declared.Who.{Who}
-use Rattle.hwp_cpu_check.specs.hwp_banks.declared.Origin.TheVariants as origins
-use Rattle.hwp_cpu_check.specs.hwp_banks.Banks.{Banks}
-use Rattle.hwp_cpu_check.specs.hwp_banks.Events.{bank_count, bank_of}
-use Rattle.hwp_cpu_check.specs.hwp_core_rule.declared.View.{View}
-use Rattle.hwp_cpu_check.specs.declared.EventOutcome.{EventOutcome}
-use Rattle.hwp_cpu_check.specs.Events.{held_in}
-use Rattle.hwp_cpu_check.proofs.BankGrades.{found-in}
+use Rattle.hwp_claim.specs.hwp_geom.declared.Frame.{Frame}
+use Rattle.hwp_claim.specs.hwp_geom.declared.Layout.{Layout}
+use Rattle.hwp_claim.specs.hwp_geom.declared.Who.{Who}
+use Rattle.hwp_claim.specs.hwp_banks.declared.Origin.TheVariants as origins
+use Rattle.hwp_claim.specs.hwp_banks.Banks.{Banks}
+use Rattle.hwp_claim.specs.hwp_banks.Events.{bank_count, bank_of}
+use Rattle.hwp_claim.specs.hwp_core_rule.declared.View.{View}
+use Rattle.hwp_claim.specs.declared.EventOutcome.{EventOutcome}
+use Rattle.hwp_claim.specs.Events.{held_in}
+use Rattle.hwp_claim.proofs.BankGrades.{found-in}
 use Rattle.hwp_scrub.specs.Fits.{Fits, FitsAt, IsEnd}
 use Rattle.hwp_scrub.specs.Scrubs.{answer, answer_at}
 use Rattle.hwp_scrub.specs.Visits.{AreBanks, AreVisits, IsBadMet, IsWeakMet, Visit, left_by, left_by_bad, left_by_visit, lines_of, lines_of_visit, scrubbing, with_bad}

@@ -3,44 +3,44 @@ use Rattle.std.proofs.Common.{◌≡◌, ◌≢◌, ◌⊎◌, inl, inr, ℕ, �
 use Rattle.std.proofs.lemmas.Bool.{both_ways, ltb-true}
 use Rattle.std.proofs.lemmas.List.{length-append, length-set}
 use Rattle.std.proofs.lemmas.Option.{none-some, same_Some}
-use Rattle.hwp_cpu_check.specs.hwp_geom.declared.Frame.{Frame}
-use Rattle.hwp_cpu_check.specs.hwp_geom.declared.Layout.{Layout}
-use Rattle.hwp_cpu_check.specs.hwp_banks.declared.Origin.TheVariants as origins
-use Rattle.hwp_cpu_check.specs.hwp_banks.Events.{bank_count, bank_of}
-use Rattle.hwp_cpu_check.specs.hwp_words.Stops.{is_stopped}
-use Rattle.hwp_cpu_check.specs.hwp_core_rule.declared.SharedWord.TheVariants as places
-use Rattle.hwp_cpu_check.specs.hwp_core_rule.declared.State.{State}
-use Rattle.hwp_cpu_check.specs.hwp_core_rule.declared.Step.{Step}
-use Rattle.hwp_cpu_check.specs.hwp_core_rule.declared.Step.TheVariants as steps
-use Rattle.hwp_cpu_check.specs.hwp_core_rule.declared.View.{View}
-use Rattle.hwp_cpu_check.specs.hwp_core_rule.Moves.{Move}
-use Rattle.hwp_cpu_check.specs.hwp_core_rule.Rule.{Holds}
-use Rattle.hwp_cpu_check.specs.hwp_core_rule.Lasting.{IsMild, LeavesPoison}
-use Rattle.hwp_cpu_check.specs.hwp_core_rule.Words.{Words}
-use Rattle.hwp_cpu_check.specs.hwp_core_rule.declared.Turn.{Turn}
-use Rattle.hwp_cpu_check.specs.hwp_core_rule.Boards.{view_of}
-use Rattle.hwp_cpu_check.specs.hwp_core_rule.Calls.{logs, rec_of}
-use Rattle.hwp_cpu_check.specs.hwp_core_rule.Classes.{TellsClass}
-use Rattle.hwp_cpu_check.specs.hwp_core_rule.Hands.{hand_of, empty}
-use Rattle.hwp_cpu_check.specs.hwp_core_rule.Ranks.{CostFalls, HasFailed, HasFrame, HasPage, IsRanked, Made, OtherHand, Pending, Quiet, failure_weight, failures_left, is_refused, is_waits, top, words_at}
-use Rattle.hwp_cpu_check.proofs.of_hwp_core_rule.tasks.StepRanks.{part-made, pending-kept}
-use Rattle.hwp_cpu_check.proofs.of_hwp_core.TaskTells.{no-frame, no-page}
-use Rattle.hwp_cpu_check.specs.hwp_claim.Fails as fails
-use Rattle.hwp_cpu_check.proofs.of_hwp_claim.FailRank.{fail-small}
-use Rattle.hwp_cpu_check.specs.hwp_banks.Banks.{Banks}
-use Rattle.hwp_cpu_check.specs.hwp_severity.Handling.{has_stop}
-use Rattle.hwp_cpu_check.specs.declared.Handler.{Handler}
-use Rattle.hwp_cpu_check.specs.declared.EventOutcome.{EventOutcome}
-use Rattle.hwp_cpu_check.specs.declared.handler.HandlerAt.{HandlerAt}
-use Rattle.hwp_cpu_check.specs.declared.handler.HandlerAt.TheVariants as handler_at
-use Rattle.hwp_cpu_check.specs.Events.{held_in}
-use Rattle.hwp_cpu_check.specs.Fits as handler_fits
-use Rattle.hwp_cpu_check.specs.Fits.{events_of}
-use Rattle.hwp_cpu_check.specs.Handlers as handlers
-use Rattle.hwp_cpu_check.specs.hwp_geom.Limits.{frame_limit}
-use Rattle.hwp_cpu_check.proofs.BankGrades.{found-in}
-use Rattle.hwp_cpu_check.proofs.HandlerRank.{handler-lasting, handler-ranked, handler-tells}
-use Rattle.hwp_cpu_check.proofs.EventTells.{tell-cost, tell-idle}
+use Rattle.hwp_claim.specs.hwp_geom.declared.Frame.{Frame}
+use Rattle.hwp_claim.specs.hwp_geom.declared.Layout.{Layout}
+use Rattle.hwp_claim.specs.hwp_banks.declared.Origin.TheVariants as origins
+use Rattle.hwp_claim.specs.hwp_banks.Events.{bank_count, bank_of}
+use Rattle.hwp_claim.specs.hwp_words.Stops.{is_stopped}
+use Rattle.hwp_claim.specs.hwp_core_rule.declared.SharedWord.TheVariants as places
+use Rattle.hwp_claim.specs.hwp_core_rule.declared.State.{State}
+use Rattle.hwp_claim.specs.hwp_core_rule.declared.Step.{Step}
+use Rattle.hwp_claim.specs.hwp_core_rule.declared.Step.TheVariants as steps
+use Rattle.hwp_claim.specs.hwp_core_rule.declared.View.{View}
+use Rattle.hwp_claim.specs.hwp_core_rule.Moves.{Move}
+use Rattle.hwp_claim.specs.hwp_core_rule.Rule.{Holds}
+use Rattle.hwp_claim.specs.hwp_core_rule.Lasting.{IsMild, LeavesPoison}
+use Rattle.hwp_claim.specs.hwp_core_rule.Words.{Words}
+use Rattle.hwp_claim.specs.hwp_core_rule.declared.Turn.{Turn}
+use Rattle.hwp_claim.specs.hwp_core_rule.Boards.{view_of}
+use Rattle.hwp_claim.specs.hwp_core_rule.Calls.{logs, rec_of}
+use Rattle.hwp_claim.specs.hwp_core_rule.Classes.{TellsClass}
+use Rattle.hwp_claim.specs.hwp_core_rule.Hands.{hand_of, empty}
+use Rattle.hwp_claim.specs.hwp_core_rule.Ranks.{CostFalls, HasFailed, HasFrame, HasPage, IsRanked, Made, OtherHand, Pending, Quiet, failure_weight, failures_left, is_refused, is_waits, top, words_at}
+use Rattle.hwp_claim.proofs.of_hwp_core_rule.tasks.StepRanks.{part-made, pending-kept}
+use Rattle.hwp_claim.proofs.of_hwp_core.TaskTells.{no-frame, no-page}
+use Rattle.hwp_claim.specs.Fails as fails
+use Rattle.hwp_claim.proofs.FailRank.{fail-small}
+use Rattle.hwp_claim.specs.hwp_banks.Banks.{Banks}
+use Rattle.hwp_claim.specs.hwp_severity.Handling.{has_stop}
+use Rattle.hwp_claim.specs.declared.Handler.{Handler}
+use Rattle.hwp_claim.specs.declared.EventOutcome.{EventOutcome}
+use Rattle.hwp_claim.specs.declared.handler.HandlerAt.{HandlerAt}
+use Rattle.hwp_claim.specs.declared.handler.HandlerAt.TheVariants as handler_at
+use Rattle.hwp_claim.specs.Events.{held_in}
+use Rattle.hwp_claim.specs.Fits as handler_fits
+use Rattle.hwp_claim.specs.Fits.{events_of}
+use Rattle.hwp_claim.specs.Handlers as handlers
+use Rattle.hwp_claim.specs.hwp_geom.Limits.{frame_limit}
+use Rattle.hwp_claim.proofs.BankGrades.{found-in}
+use Rattle.hwp_claim.proofs.HandlerRank.{handler-lasting, handler-ranked, handler-tells}
+use Rattle.hwp_claim.proofs.EventTells.{tell-cost, tell-idle}
 use Rattle.hwp_scrub.specs.Costs.{aborts, aborts_at, claims, claims_at, class, class_at, cost, cost_at, rest_cost}
 use Rattle.hwp_scrub.specs.Fits.{Fits, FitsAt, task as scrub-task}
 use Rattle.hwp_scrub.specs.Scrubs.{AfterBadBy, AfterWeakBy, BeginsCheck, Follows, FollowsAt, after_handler, after_handler_by, bare, bare_at, emptied, gone_on, handler_of, kept, plan, plan_at, put_at, with_room}

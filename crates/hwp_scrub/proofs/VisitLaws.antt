@@ -4,24 +4,24 @@ use Rattle.std.proofs.lemmas.List.{length-append, length-set}
 use Rattle.std.proofs.lemmas.List.Concat.{flat_map-append}
 use Rattle.std.proofs.lemmas.List.Folds.{list_any-append}
 use Rattle.std.proofs.lemmas.Option.{get_or_from_slice_get}
-use Rattle.hwp_cpu_check.specs.hwp_geom.declared.Frame.{Frame}
-use Rattle.hwp_cpu_check.specs.hwp_geom.declared.Layout.{Layout}
-use Rattle.hwp_cpu_check.specs.hwp_geom.declared.Who.{Who}
-use Rattle.hwp_cpu_check.specs.hwp_banks.declared.Event.{Event}
-use Rattle.hwp_cpu_check.specs.hwp_banks.declared.Origin.TheVariants as origins
-use Rattle.hwp_cpu_check.specs.hwp_banks.Events.{own_event}
-use Rattle.hwp_cpu_check.specs.hwp_banks.Logged.{logged, without_over}
-use Rattle.hwp_cpu_check.specs.hwp_core_rule.declared.SharedWord.{SharedWord}
-use Rattle.hwp_cpu_check.specs.hwp_core_rule.declared.SharedWord.TheVariants as places
-use Rattle.hwp_cpu_check.specs.hwp_core_rule.declared.View.{View}
-use Rattle.hwp_cpu_check.proofs.of_hwp_core_rule.Lists.{set_here}
-use Rattle.hwp_cpu_check.specs.hwp_core_rule.Known.{Saw}
-use Rattle.hwp_cpu_check.specs.hwp_report_text.Acts.{is_panic, is_stopping}
-use Rattle.hwp_cpu_check.specs.hwp_banks.Banks.{Banks, empty_banks}
-use Rattle.hwp_cpu_check.specs.hwp_severity.Handling.{has_stop}
-use Rattle.hwp_cpu_check.specs.declared.EventOutcome.{EventOutcome}
-use Rattle.hwp_cpu_check.specs.Told.{halts}
-use Rattle.hwp_cpu_check.proofs.FailureKeeps.{Stay, told-stays}
+use Rattle.hwp_claim.specs.hwp_geom.declared.Frame.{Frame}
+use Rattle.hwp_claim.specs.hwp_geom.declared.Layout.{Layout}
+use Rattle.hwp_claim.specs.hwp_geom.declared.Who.{Who}
+use Rattle.hwp_claim.specs.hwp_banks.declared.Event.{Event}
+use Rattle.hwp_claim.specs.hwp_banks.declared.Origin.TheVariants as origins
+use Rattle.hwp_claim.specs.hwp_banks.Events.{own_event}
+use Rattle.hwp_claim.specs.hwp_banks.Logged.{logged, without_over}
+use Rattle.hwp_claim.specs.hwp_core_rule.declared.SharedWord.{SharedWord}
+use Rattle.hwp_claim.specs.hwp_core_rule.declared.SharedWord.TheVariants as places
+use Rattle.hwp_claim.specs.hwp_core_rule.declared.View.{View}
+use Rattle.hwp_claim.proofs.of_hwp_core_rule.Lists.{set_here}
+use Rattle.hwp_claim.specs.hwp_core_rule.Known.{Saw}
+use Rattle.hwp_claim.specs.hwp_report_text.Acts.{is_panic, is_stopping}
+use Rattle.hwp_claim.specs.hwp_banks.Banks.{Banks, empty_banks}
+use Rattle.hwp_claim.specs.hwp_severity.Handling.{has_stop}
+use Rattle.hwp_claim.specs.declared.EventOutcome.{EventOutcome}
+use Rattle.hwp_claim.specs.Told.{halts}
+use Rattle.hwp_claim.proofs.FailureKeeps.{Stay, told-stays}
 use Rattle.hwp_scrub.specs.Scrubs.{kept_line, kept_lines}
 use Rattle.hwp_scrub.specs.Visits.{AreBanks, AreVisits, Find, IsBadFind, IsBadMet, IsKept, IsVisit, IsWeakFind, IsWeakMet, SawLowest, Visit, left_by, left_by_bad, left_by_visit, left_by_weak, lines_of, lines_of_visit, scrub_bank, scrubbing, with_bad}
 

@@ -1,8 +1,8 @@
 -- Why a scrub ends.
 use Rattle.std.specs.Prelude.{ℕ, ◌+◌, ◌-◌, ◌*◌, Bool, false, Option, None}
-use Rattle.hwp_cpu_check.specs.hwp_geom.declared.Frame.{Frame}
-use Rattle.hwp_cpu_check.specs.hwp_core_rule.Words.{Words}
-use Rattle.hwp_cpu_check.specs.Handlers as handlers
+use Rattle.hwp_claim.specs.hwp_geom.declared.Frame.{Frame}
+use Rattle.hwp_claim.specs.hwp_core_rule.Words.{Words}
+use Rattle.hwp_claim.specs.Handlers as handlers
 use Rattle.hwp_scrub.specs.declared.scrub.Scrub.{Scrub}
 use Rattle.hwp_scrub.specs.declared.scrub.ScrubAt.{ScrubAt}
 use Rattle.hwp_scrub.specs.declared.scrub.ScrubAt.TheVariants as at

@@ -1,13 +1,13 @@
 -- What a scrub has done so far by the failures of its machine checks: the poisonings that it made, the failures that its entries tell,
 -- and the counts that it owes.
 use Rattle.std.specs.Prelude.{◌≡◌, ℕ, ◌+◌, List, [], ◌++◌, None, filter_map}
-use Rattle.hwp_cpu_check.specs.hwp_core_rule.declared.Mark.{Mark}
-use Rattle.hwp_cpu_check.specs.hwp_core_rule.declared.View.{View}
-use Rattle.hwp_cpu_check.specs.hwp_claim_act.declared.Failed.{Failed}
-use Rattle.hwp_cpu_check.specs.hwp_claim_act.Abandoned.{AddsFailure}
-use Rattle.hwp_cpu_check.specs.hwp_claim_frame.Done.{Grows, Marking, counts_owed, marking_of}
-use Rattle.hwp_cpu_check.specs.Done as handler_done
-use Rattle.hwp_cpu_check.specs.Done.{failed_in, marked_in}
+use Rattle.hwp_claim.specs.hwp_core_rule.declared.Mark.{Mark}
+use Rattle.hwp_claim.specs.hwp_core_rule.declared.View.{View}
+use Rattle.hwp_claim.specs.hwp_claim_act.declared.Failed.{Failed}
+use Rattle.hwp_claim.specs.hwp_claim_act.Abandoned.{AddsFailure}
+use Rattle.hwp_claim.specs.hwp_claim_frame.Done.{Grows, Marking, counts_owed, marking_of}
+use Rattle.hwp_claim.specs.CheckDone as handler_done
+use Rattle.hwp_claim.specs.CheckDone.{failed_in, marked_in}
 use Rattle.hwp_scrub.specs.declared.scrub.Scrub.{Scrub}
 use Rattle.hwp_scrub.specs.declared.scrub.ScrubAt.{ScrubAt}
 use Rattle.hwp_scrub.specs.declared.scrub.ScrubAt.TheVariants as at

@@ -1,25 +1,25 @@
 -- What is held and known during a scrub.
 use Rattle.std.specs.Prelude.{◌≡◌, ◌⊎◌, ℕ, ◌+◌, ◌<◌, ◌≤◌, Bool, true, false, List, [], ◌++◌, Some, None, length}
-use Rattle.hwp_cpu_check.specs.hwp_geom.declared.Frame.{Frame}
-use Rattle.hwp_cpu_check.specs.hwp_geom.declared.Layout.{Layout}
-use Rattle.hwp_cpu_check.specs.hwp_geom.declared.Who.{Who}
-use Rattle.hwp_cpu_check.specs.hwp_geom.Layout.{IsSound}
-use Rattle.hwp_cpu_check.specs.hwp_banks.Events.{bank_count}
-use Rattle.hwp_cpu_check.specs.hwp_core_rule.declared.Made.{Made}
-use Rattle.hwp_cpu_check.specs.hwp_core_rule.declared.SharedWord.TheVariants as places
-use Rattle.hwp_cpu_check.specs.hwp_core_rule.declared.View.{View}
-use Rattle.hwp_cpu_check.specs.hwp_core_rule.Calls.{IsOnTurn}
-use Rattle.hwp_cpu_check.specs.hwp_core_rule.Hands.{hand_of, empty}
-use Rattle.hwp_cpu_check.specs.hwp_core_rule.Known.{HasMadeNone, HasOnly, SawStop, is_failure}
-use Rattle.hwp_cpu_check.specs.hwp_core_rule.Turns.{Member}
-use Rattle.hwp_cpu_check.specs.hwp_banks.Banks.{Banks, empty_banks}
-use Rattle.hwp_cpu_check.specs.hwp_severity.Handling.{has_stop}
-use Rattle.hwp_cpu_check.specs.declared.Handler.{Handler}
-use Rattle.hwp_cpu_check.specs.Events.{held_in}
-use Rattle.hwp_cpu_check.specs.Fits as handler_fits
-use Rattle.hwp_cpu_check.specs.Fits.{IsAtRest, IsStoppedIf, events_of}
-use Rattle.hwp_cpu_check.specs.Handlers as handlers
-use Rattle.hwp_cpu_check.specs.Told.{halts}
+use Rattle.hwp_claim.specs.hwp_geom.declared.Frame.{Frame}
+use Rattle.hwp_claim.specs.hwp_geom.declared.Layout.{Layout}
+use Rattle.hwp_claim.specs.hwp_geom.declared.Who.{Who}
+use Rattle.hwp_claim.specs.hwp_geom.Layout.{IsSound}
+use Rattle.hwp_claim.specs.hwp_banks.Events.{bank_count}
+use Rattle.hwp_claim.specs.hwp_core_rule.declared.Made.{Made}
+use Rattle.hwp_claim.specs.hwp_core_rule.declared.SharedWord.TheVariants as places
+use Rattle.hwp_claim.specs.hwp_core_rule.declared.View.{View}
+use Rattle.hwp_claim.specs.hwp_core_rule.Calls.{IsOnTurn}
+use Rattle.hwp_claim.specs.hwp_core_rule.Hands.{hand_of, empty}
+use Rattle.hwp_claim.specs.hwp_core_rule.Known.{HasMadeNone, HasOnly, SawStop, is_failure}
+use Rattle.hwp_claim.specs.hwp_core_rule.Turns.{Member}
+use Rattle.hwp_claim.specs.hwp_banks.Banks.{Banks, empty_banks}
+use Rattle.hwp_claim.specs.hwp_severity.Handling.{has_stop}
+use Rattle.hwp_claim.specs.declared.Handler.{Handler}
+use Rattle.hwp_claim.specs.Events.{held_in}
+use Rattle.hwp_claim.specs.Fits as handler_fits
+use Rattle.hwp_claim.specs.Fits.{IsAtRest, IsStoppedIf, events_of}
+use Rattle.hwp_claim.specs.Handlers as handlers
+use Rattle.hwp_claim.specs.Told.{halts}
 use Rattle.hwp_scrub.specs.Visits.{AreBanks, AreVisits, Find, IsBadFind, SawLowest, Visit, left_by, left_by_bad, lines_of, scrubbing, with_bad}
 use Rattle.hwp_scrub.specs.Scrubs.{Follows, Shows, bare, plan, put}
 use Rattle.hwp_scrub.specs.Costs.{aborts, claims, class, cost}

@@ -2,14 +2,14 @@
 use Rattle.std.specs.Prelude.{◌≡◌, ℕ, false, Option, Some, None, length}
 use Rattle.hwp_cpu_control.specs.hwp_geom.declared.Layout.{Layout}
 use Rattle.hwp_cpu_control.specs.hwp_geom.declared.Who.{Who}
-use Rattle.hwp_cpu_check.specs.hwp_banks.Events.{bank_count}
+use Rattle.hwp_claim.specs.hwp_banks.Events.{bank_count}
 use Rattle.hwp_cpu_control.specs.hwp_core_rule.declared.Step.{Step}
 use Rattle.hwp_cpu_control.specs.hwp_core_rule.declared.View.{View}
 use Rattle.hwp_cpu_control.specs.declared.ReadStopAnswer.{ReadStopAnswer}
 use Rattle.hwp_cpu_control.specs.declared.ReadStopAnswer.TheVariants as answers
 use Rattle.hwp_cpu_control.specs.ReadStops as reads
-use Rattle.hwp_cpu_check.specs.hwp_banks.Banks.{Banks, log_in}
-use Rattle.hwp_cpu_check.specs.hwp_banks.Banks.{raw_bank}
+use Rattle.hwp_claim.specs.hwp_banks.Banks.{Banks, log_in}
+use Rattle.hwp_claim.specs.hwp_banks.Banks.{raw_bank}
 use Rattle.hwp_scrub.specs.declared.log.LocalChange.{LocalChange}
 use Rattle.hwp_scrub.specs.declared.log.LocalChange.TheVariants as changes
 use Rattle.hwp_scrub.specs.declared.log.Log.{Log}

@@ -2,7 +2,7 @@
 use Rattle.std.specs.Prelude.{ℕ, Bool, false, Option, None}
 use Rattle.hwp_cpu_control.specs.hwp_geom.declared.Frame.{Frame}
 use Rattle.hwp_cpu_control.specs.hwp_core_rule.Words.{Words}
-use Rattle.hwp_cpu_check.specs.Handlers as handlers
+use Rattle.hwp_claim.specs.Handlers as handlers
 use Rattle.hwp_scrub.specs.declared.raise.Raise.{Raise}
 use Rattle.hwp_scrub.specs.declared.raise.RaiseAt.{RaiseAt}
 use Rattle.hwp_scrub.specs.declared.raise.RaiseAt.TheVariants as at

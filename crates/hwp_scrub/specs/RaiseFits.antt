@@ -5,7 +5,7 @@ use Rattle.hwp_cpu_control.specs.hwp_geom.declared.Page.{Page}
 use Rattle.hwp_cpu_control.specs.hwp_geom.declared.ThreadDecl.{ThreadDecl}
 use Rattle.hwp_cpu_control.specs.hwp_geom.declared.Who.{Who}
 use Rattle.hwp_cpu_control.specs.hwp_geom.Layout.{IsSound}
-use Rattle.hwp_cpu_check.specs.hwp_banks.Events.{bank_count}
+use Rattle.hwp_claim.specs.hwp_banks.Events.{bank_count}
 use Rattle.hwp_cpu_control.specs.hwp_core_rule.declared.Made.{Made}
 use Rattle.hwp_cpu_control.specs.hwp_core_rule.declared.SharedWord.TheVariants as places
 use Rattle.hwp_cpu_control.specs.hwp_core_rule.declared.View.{View}
@@ -13,15 +13,15 @@ use Rattle.hwp_cpu_control.specs.hwp_core_rule.Calls.{IsOnTurn}
 use Rattle.hwp_cpu_control.specs.hwp_core_rule.Hands.{hand_of, empty}
 use Rattle.hwp_cpu_control.specs.hwp_core_rule.Known.{HasMadeNone, HasOnly, Saw, SawStop, is_failure}
 use Rattle.hwp_cpu_control.specs.hwp_core_rule.Turns.{Member}
-use Rattle.hwp_cpu_check.specs.hwp_banks.Banks.{empty_banks}
-use Rattle.hwp_cpu_check.specs.hwp_severity.Handling.{has_stop}
-use Rattle.hwp_cpu_check.specs.declared.Handler.{Handler}
-use Rattle.hwp_cpu_check.specs.Checks.{IsActedOn}
-use Rattle.hwp_cpu_check.specs.Events.{held_in}
-use Rattle.hwp_cpu_check.specs.Fits as handler_fits
-use Rattle.hwp_cpu_check.specs.Fits.{IsAtRest, IsStoppedIf, events_of}
-use Rattle.hwp_cpu_check.specs.Handlers as handlers
-use Rattle.hwp_cpu_check.specs.Told.{halts}
+use Rattle.hwp_claim.specs.hwp_banks.Banks.{empty_banks}
+use Rattle.hwp_claim.specs.hwp_severity.Handling.{has_stop}
+use Rattle.hwp_claim.specs.declared.Handler.{Handler}
+use Rattle.hwp_claim.specs.Checks.{IsActedOn}
+use Rattle.hwp_claim.specs.Events.{held_in}
+use Rattle.hwp_claim.specs.Fits as handler_fits
+use Rattle.hwp_claim.specs.Fits.{IsAtRest, IsStoppedIf, events_of}
+use Rattle.hwp_claim.specs.Handlers as handlers
+use Rattle.hwp_claim.specs.Told.{halts}
 use Rattle.hwp_scrub.specs.Raises.{Follows, Shows, bare, how_of, plan, put, thread_of}
 use Rattle.hwp_scrub.specs.RaiseCosts.{aborts, claims, class, cost}
 use Rattle.hwp_scrub.specs.declared.raise.Raise.{Raise}

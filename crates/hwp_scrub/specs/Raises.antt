@@ -7,7 +7,7 @@ use Rattle.hwp_cpu_control.specs.hwp_geom.declared.Mode.TheVariants as modes
 use Rattle.hwp_cpu_control.specs.hwp_geom.declared.Page.{Page}
 use Rattle.hwp_cpu_control.specs.hwp_geom.declared.Thread.{Thread}
 use Rattle.hwp_cpu_control.specs.hwp_geom.declared.Who.{Who}
-use Rattle.hwp_cpu_check.specs.hwp_banks.Events.{bank_count}
+use Rattle.hwp_claim.specs.hwp_banks.Events.{bank_count}
 use Rattle.hwp_cpu_control.specs.hwp_page.History.{BodyValue}
 use Rattle.hwp_cpu_control.specs.hwp_words.Names.{page_named}
 use Rattle.hwp_cpu_control.specs.hwp_words.Stops.{is_stopped}
@@ -16,12 +16,12 @@ use Rattle.hwp_cpu_control.specs.hwp_core_rule.declared.Step.{Step}
 use Rattle.hwp_cpu_control.specs.hwp_core_rule.declared.Step.TheVariants as steps
 use Rattle.hwp_cpu_control.specs.hwp_core_rule.declared.Turn.{Turn}
 use Rattle.hwp_cpu_control.specs.hwp_core_rule.declared.Turn.TheVariants.{Moved, NoMemory}
-use Rattle.hwp_cpu_check.specs.hwp_severity.declared.McgBits.{McgBits}
-use Rattle.hwp_cpu_check.specs.hwp_banks.Banks.{Banks, empty_banks}
-use Rattle.hwp_cpu_check.specs.hwp_severity.declared.Arrival.{Arrival}
-use Rattle.hwp_cpu_check.specs.declared.Handler.{Handler}
-use Rattle.hwp_cpu_check.specs.Handlers as handlers
-use Rattle.hwp_cpu_check.specs.Lines.{no_lines, with_lines}
+use Rattle.hwp_claim.specs.hwp_severity.declared.McgBits.{McgBits}
+use Rattle.hwp_claim.specs.hwp_banks.Banks.{Banks, empty_banks}
+use Rattle.hwp_claim.specs.hwp_severity.declared.Arrival.{Arrival}
+use Rattle.hwp_claim.specs.declared.Handler.{Handler}
+use Rattle.hwp_claim.specs.Handlers as handlers
+use Rattle.hwp_claim.specs.Lines.{no_lines, with_lines}
 use Rattle.hwp_scrub.specs.declared.raise.Raise.{Raise}
 use Rattle.hwp_scrub.specs.declared.raise.RaiseAnswer.{RaiseAnswer}
 use Rattle.hwp_scrub.specs.declared.raise.RaiseAnswer.TheVariants as answers

@@ -1,27 +1,27 @@
 -- The scrubber: the task's states, its steps and what they come to.
 use Rattle.std.specs.Prelude.{◌≡◌, ◌⊎◌, ℕ, ◌+◌, ◌≤◌, nat_lt, Bool, cond, List, [], ◌∷◌, Option, Some, None, slice_index_or, slice_set}
 use Rattle.std.specs.declared.alloc.Global.{Global}
-use Rattle.hwp_cpu_check.specs.hwp_geom.declared.Frame.{Frame}
-use Rattle.hwp_cpu_check.specs.hwp_geom.declared.Layout.{Layout}
-use Rattle.hwp_cpu_check.specs.hwp_geom.declared.Who.{Who}
-use Rattle.hwp_cpu_check.specs.hwp_banks.declared.Event.{Event}
-use Rattle.hwp_cpu_check.specs.hwp_banks.declared.Origin.TheVariants as origins
-use Rattle.hwp_cpu_check.specs.hwp_banks.Events.{bank_count, own_event}
-use Rattle.hwp_cpu_check.specs.hwp_banks.Logged.{logged}
-use Rattle.hwp_cpu_check.specs.hwp_page.History.{BodyValue}
-use Rattle.hwp_cpu_check.specs.hwp_words.Stops.{is_stopped}
-use Rattle.hwp_cpu_check.specs.hwp_core_rule.declared.SharedWord.TheVariants as places
-use Rattle.hwp_cpu_check.specs.hwp_core_rule.declared.Step.{Step}
-use Rattle.hwp_cpu_check.specs.hwp_core_rule.declared.Step.TheVariants as steps
-use Rattle.hwp_cpu_check.specs.hwp_core_rule.declared.Turn.{Turn}
-use Rattle.hwp_cpu_check.specs.hwp_core_rule.declared.Turn.TheVariants.{Moved, NoMemory}
-use Rattle.hwp_cpu_check.specs.hwp_report_text.declared.Acted.TheVariants as acts
-use Rattle.hwp_cpu_check.specs.hwp_banks.Banks.{Banks, empty_banks}
-use Rattle.hwp_cpu_check.specs.declared.Handler.{Handler}
-use Rattle.hwp_cpu_check.specs.declared.EventOutcome.{EventOutcome}
-use Rattle.hwp_cpu_check.specs.Events.{graded_in}
-use Rattle.hwp_cpu_check.specs.Handlers as handlers
-use Rattle.hwp_cpu_check.specs.Lines.{no_lines, with_lines}
+use Rattle.hwp_claim.specs.hwp_geom.declared.Frame.{Frame}
+use Rattle.hwp_claim.specs.hwp_geom.declared.Layout.{Layout}
+use Rattle.hwp_claim.specs.hwp_geom.declared.Who.{Who}
+use Rattle.hwp_claim.specs.hwp_banks.declared.Event.{Event}
+use Rattle.hwp_claim.specs.hwp_banks.declared.Origin.TheVariants as origins
+use Rattle.hwp_claim.specs.hwp_banks.Events.{bank_count, own_event}
+use Rattle.hwp_claim.specs.hwp_banks.Logged.{logged}
+use Rattle.hwp_claim.specs.hwp_page.History.{BodyValue}
+use Rattle.hwp_claim.specs.hwp_words.Stops.{is_stopped}
+use Rattle.hwp_claim.specs.hwp_core_rule.declared.SharedWord.TheVariants as places
+use Rattle.hwp_claim.specs.hwp_core_rule.declared.Step.{Step}
+use Rattle.hwp_claim.specs.hwp_core_rule.declared.Step.TheVariants as steps
+use Rattle.hwp_claim.specs.hwp_core_rule.declared.Turn.{Turn}
+use Rattle.hwp_claim.specs.hwp_core_rule.declared.Turn.TheVariants.{Moved, NoMemory}
+use Rattle.hwp_claim.specs.hwp_report_text.declared.Acted.TheVariants as acts
+use Rattle.hwp_claim.specs.hwp_banks.Banks.{Banks, empty_banks}
+use Rattle.hwp_claim.specs.declared.Handler.{Handler}
+use Rattle.hwp_claim.specs.declared.EventOutcome.{EventOutcome}
+use Rattle.hwp_claim.specs.Events.{graded_in}
+use Rattle.hwp_claim.specs.Handlers as handlers
+use Rattle.hwp_claim.specs.Lines.{no_lines, with_lines}
 use Rattle.hwp_scrub.specs.Visits.{IsLowest, scrub_bank, scrubbing, with_bad}
 use Rattle.hwp_scrub.specs.declared.scrub.Scrub.{Scrub}
 use Rattle.hwp_scrub.specs.declared.scrub.ScrubAnswer.{ScrubAnswer}

@@ -1,23 +1,23 @@
 -- What the scrubber found of the frames that it went over, and what was done about that.
 use Rattle.std.specs.Prelude.{◌≡◌, ℕ, ◌+◌, false, List, [], ◌∷◌, ◌++◌, Option, Some, None, flat_map, length, map, slice_get, slice_set, MatchOption}
-use Rattle.hwp_cpu_check.specs.hwp_geom.declared.Frame.{Frame}
-use Rattle.hwp_cpu_check.specs.hwp_geom.declared.Layout.{Layout}
-use Rattle.hwp_cpu_check.specs.hwp_geom.declared.Mode.TheVariants as modes
-use Rattle.hwp_cpu_check.specs.hwp_geom.declared.Who.{Who}
-use Rattle.hwp_cpu_check.specs.hwp_geom.Bits.{HasNoBitFrom, IsLowestBit}
-use Rattle.hwp_cpu_check.specs.hwp_banks.declared.Event.{Event}
-use Rattle.hwp_cpu_check.specs.hwp_banks.declared.Origin.TheVariants as origins
-use Rattle.hwp_cpu_check.specs.hwp_banks.Events.{bank_count, bank_of}
-use Rattle.hwp_cpu_check.specs.hwp_core_rule.declared.SharedWord.{SharedWord}
-use Rattle.hwp_cpu_check.specs.hwp_core_rule.declared.SharedWord.TheVariants as places
-use Rattle.hwp_cpu_check.specs.hwp_core_rule.declared.View.{View}
-use Rattle.hwp_cpu_check.specs.hwp_core_rule.Known.{Saw}
-use Rattle.hwp_cpu_check.specs.hwp_banks.Banks.{Banks, empty_banks}
-use Rattle.hwp_cpu_check.specs.hwp_severity.declared.Arrival.{Arrival}
-use Rattle.hwp_cpu_check.specs.declared.EventOutcome.{EventOutcome}
-use Rattle.hwp_cpu_check.specs.Checks.{IsActedOn, restarting, with_own}
-use Rattle.hwp_cpu_check.specs.Events.{graded_in}
-use Rattle.hwp_cpu_check.specs.Fits.{AreTold}
+use Rattle.hwp_claim.specs.hwp_geom.declared.Frame.{Frame}
+use Rattle.hwp_claim.specs.hwp_geom.declared.Layout.{Layout}
+use Rattle.hwp_claim.specs.hwp_geom.declared.Mode.TheVariants as modes
+use Rattle.hwp_claim.specs.hwp_geom.declared.Who.{Who}
+use Rattle.hwp_claim.specs.hwp_geom.Bits.{HasNoBitFrom, IsLowestBit}
+use Rattle.hwp_claim.specs.hwp_banks.declared.Event.{Event}
+use Rattle.hwp_claim.specs.hwp_banks.declared.Origin.TheVariants as origins
+use Rattle.hwp_claim.specs.hwp_banks.Events.{bank_count, bank_of}
+use Rattle.hwp_claim.specs.hwp_core_rule.declared.SharedWord.{SharedWord}
+use Rattle.hwp_claim.specs.hwp_core_rule.declared.SharedWord.TheVariants as places
+use Rattle.hwp_claim.specs.hwp_core_rule.declared.View.{View}
+use Rattle.hwp_claim.specs.hwp_core_rule.Known.{Saw}
+use Rattle.hwp_claim.specs.hwp_banks.Banks.{Banks, empty_banks}
+use Rattle.hwp_claim.specs.hwp_severity.declared.Arrival.{Arrival}
+use Rattle.hwp_claim.specs.declared.EventOutcome.{EventOutcome}
+use Rattle.hwp_claim.specs.Checks.{IsActedOn, restarting, with_own}
+use Rattle.hwp_claim.specs.Events.{graded_in}
+use Rattle.hwp_claim.specs.Fits.{AreTold}
 
 -- the lowest line that the word marks, if it marks one
 abbrev pub IsLowest : ℕ → Option ℕ → Type 0

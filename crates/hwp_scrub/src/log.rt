@@ -1,7 +1,7 @@
 ghost use Rattle.std.specs.Prelude.{◌≡◌};
 ghost use Rattle.hwp_scrub.specs.Logs.{answer, begin, changed};
 
-use hwp_cpu_check::{BANKS, Bank, Body, Event, Layout, Ranked, Scheduled, Step, Task, Turn, Who};
+use hwp_claim::{BANKS, Bank, Body, Event, Layout, Ranked, Scheduled, Step, Task, Turn, Who};
 use hwp_cpu_control::{ReadStop, ReadStopAnswer};
 use std::mem;
 use std::snapshot::Snapshot;

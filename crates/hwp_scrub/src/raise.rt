@@ -1,7 +1,7 @@
 ghost use Rattle.std.specs.Prelude.{◌≡◌, ◌≤◌, length};
 ghost use Rattle.hwp_scrub.specs.Raises.{AfterProcess, AfterStop, BeginsCheck, after_handler, answer, begin, checked, ended, give_up, mode_of, thread_of};
 
-use hwp_cpu_check::{
+use hwp_claim::{
     BANKS, Bank, Body, EventOutcome, Handler, Layout, List, McgBits, Mode, Page, Proc, ProcessWord,
     Ranked, Scheduled, SharedWord, Step, Task, Thread, ToldLines, Turn, Who, is_stopped, let_go_of,
     no_events,

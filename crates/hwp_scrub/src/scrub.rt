@@ -1,11 +1,11 @@
 ghost use Rattle.std.specs.Prelude.{◌≡◌, ◌≤◌, length, MatchOption};
-ghost use Rattle.hwp_cpu_check.specs.hwp_geom.Bits.{HasNoBitFrom, IsLowestBit};
-ghost use Rattle.hwp_cpu_check.specs.hwp_banks.Events.{bank_count};
-ghost use Rattle.hwp_cpu_check.specs.hwp_banks.Banks.{empty_banks};
+ghost use Rattle.hwp_claim.specs.hwp_geom.Bits.{HasNoBitFrom, IsLowestBit};
+ghost use Rattle.hwp_claim.specs.hwp_banks.Events.{bank_count};
+ghost use Rattle.hwp_claim.specs.hwp_banks.Banks.{empty_banks};
 ghost use Rattle.hwp_scrub.specs.Visits.{with_bad};
 ghost use Rattle.hwp_scrub.specs.Scrubs.{AfterBad, AfterWeak, BeginsCheck, MeetsWeak, after_handler, after_stop, answer, begin, checked, give_up, gone_on, kept, kept_line};
 
-use hwp_cpu_check::{
+use hwp_claim::{
     Acted, BANKS, Bank, Body, Event, EventOutcome, Frame, Handler, Held, Layout, Line, List,
     McgBits, Mode, Origin, Ranked, Scheduled, SharedWord, Step, Task, ToldLines, Turn, Who, grade,
     is_stopped, let_go_of, lowest_bit, no_events,

@@ -11,7 +11,7 @@ use Rattle.hwp_top_report.specs.hwp_cpu_row.hwp_cec.contracts.collector.Collecto
 use Rattle.hwp_top_report.specs.hwp_cpu_row.contracts.local.Watching as Watching
 use Rattle.hwp_top_report.specs.hwp_cpu_row.contracts.local.Local as Local
 use Rattle.hwp_top_report.specs.hwp_report_text.contracts.lines.Answer as Answer
-use Rattle.hwp_top_report.specs.hwp_cpu_check.contracts.told.EventOutcome as EventOutcome
+use Rattle.hwp_top_report.specs.hwp_claim.contracts.told.EventOutcome as EventOutcome
 use Rattle.hwp_top_report.specs.hwp_cpu_row.contracts.row.FrameChange as FrameChange
 use Rattle.hwp_top_report.specs.hwp_cpu_row.contracts.row.Offlining as Offlining
 use Rattle.hwp_top_report.specs.hwp_cpu_row.contracts.row.Row as Row
@@ -23,7 +23,7 @@ use Rattle.hwp_cpu.specs.hwp_fault.contracts.access.AccessAt as AccessAt
 use Rattle.hwp_cpu.specs.hwp_fault.contracts.access.Request as Request
 use Rattle.hwp_top_report.specs.hwp_claim_frame.contracts.claim.ClaimAt as ClaimAt
 use Rattle.hwp_top_report.specs.hwp_claim_act.contracts.act.ActAt as ActAt
-use Rattle.hwp_top_report.specs.hwp_cpu_check.contracts.handler.Handler as Handler
+use Rattle.hwp_top_report.specs.hwp_claim.contracts.handler.Handler as Handler
 use Rattle.hwp_cpu.specs.hwp_cpu_access.contracts.instruction.Instruction as Instruction
 use Rattle.hwp_cpu.specs.hwp_cpu_command.hwp_evict.contracts.evict.EvictAt as EvictAt
 use Rattle.hwp_cpu.specs.hwp_cpu_command.hwp_evict.contracts.evict.Evict as Evict

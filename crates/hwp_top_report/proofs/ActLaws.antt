@@ -6,7 +6,7 @@ use Rattle.std.proofs.lemmas.Bool.{eqb-false, ne_eqb}
 use Rattle.std.proofs.lemmas.Option.{slice_get-get_or, slice_get_cases}
 use Rattle.hwp_plain.specs.hwp_geom.declared.Who.{Who}
 use Rattle.hwp_cpu_row.specs.declared.Offlining.{Offlining}
-use Rattle.hwp_cpu_row.specs.hwp_cpu_check.declared.EventOutcome.{EventOutcome}
+use Rattle.hwp_cpu_row.specs.hwp_claim.declared.EventOutcome.{EventOutcome}
 use Rattle.hwp_cpu_row.specs.Acts.{Offlined, Told, acts, acts_from}
 use Rattle.hwp_law_served.specs.Rows.{Note, act_note, own_note, told_note}
 use Rattle.hwp_top_report.specs.Closing.{is_frame_by, is_frame_next}

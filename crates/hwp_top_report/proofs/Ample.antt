@@ -40,8 +40,8 @@ use Rattle.hwp_law_served.specs.hwp_cpu_row.declared.FrameChange.TheVariants as 
 use Rattle.hwp_law_served.specs.hwp_cpu_row.declared.Offlining.{Offlining}
 use Rattle.hwp_law_served.specs.hwp_cpu_row.declared.Row.{Row}
 use Rattle.hwp_law_served.specs.hwp_cpu_row.Acts.{Act, acts, event_at, told_notes}
-use Rattle.hwp_law_served.specs.hwp_cpu_check.declared.EventOutcome.{EventOutcome}
-use Rattle.hwp_law_served.specs.hwp_cpu_check.Told.{frame_of}
+use Rattle.hwp_law_served.specs.hwp_claim.declared.EventOutcome.{EventOutcome}
+use Rattle.hwp_law_served.specs.hwp_claim.Told.{frame_of}
 use Rattle.hwp_law_served.specs.Accounts.{IsOwn, act_marking, is_same, marking_by, markings, markings_in, own_marking}
 use Rattle.hwp_law_served.specs.Offlinings.{IsOfflineServed, watched_at}
 use Rattle.hwp_law_served.specs.Served.{IsOffliningServed}

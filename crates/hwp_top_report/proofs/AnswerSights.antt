@@ -37,9 +37,9 @@ use Rattle.hwp_law_served.specs.hwp_law.Outcomes.{outcome_act}
 use Rattle.hwp_law_served.specs.hwp_claim.declared.Found.{Found}
 use Rattle.hwp_law_served.specs.hwp_cpu_row.declared.Offlining.{Offlining}
 use Rattle.hwp_law_served.specs.hwp_cpu_row.declared.Row.{Row}
-use Rattle.hwp_law_served.specs.hwp_cpu_check.declared.EventOutcome.{EventOutcome}
-use Rattle.hwp_law_served.specs.hwp_cpu_check.Fits.{IsDone, IsFailed}
-use Rattle.hwp_law_served.specs.hwp_cpu_check.Told.{at_once, frame_of, is_already, required_by, severity_at_once}
+use Rattle.hwp_law_served.specs.hwp_claim.declared.EventOutcome.{EventOutcome}
+use Rattle.hwp_law_served.specs.hwp_claim.Fits.{IsDone, IsFailed}
+use Rattle.hwp_law_served.specs.hwp_claim.Told.{at_once, frame_of, is_already, required_by, severity_at_once}
 use Rattle.hwp_law_served.specs.Scrubs.{ScrubsShown}
 use Rattle.hwp_law_served.specs.Shown.{AlreadyShown, IsShown, OfflineShown}
 use Rattle.hwp_law_served.proofs.turns.SeatKnows.{Said}

@@ -51,8 +51,8 @@ use Rattle.hwp_law_served.proofs.Homes.{there-is}
 use Rattle.hwp_law_served.proofs.Reported.{listed-entry}
 use Rattle.hwp_law_served.specs.hwp_cpu_row.declared.FrameChange.{FrameChange}
 use Rattle.hwp_law_served.specs.hwp_cpu_row.declared.FrameChange.TheVariants as owns
-use Rattle.hwp_law_served.specs.hwp_cpu_check.declared.EventOutcome.{EventOutcome}
-use Rattle.hwp_law_served.specs.hwp_cpu_check.Told.{first_signal}
+use Rattle.hwp_law_served.specs.hwp_claim.declared.EventOutcome.{EventOutcome}
+use Rattle.hwp_law_served.specs.hwp_claim.Told.{first_signal}
 use Rattle.hwp_law_served.specs.Causes.{HasCome, IsAnswerCaused, IsInjectCaused, IsOfflineCaused, IsSoftCaused, IsUnpoisonCaused, SawBadLines}
 use Rattle.hwp_law_served.specs.Offlinings.{IsOfflineServed, left_at}
 use Rattle.hwp_law_served.specs.Rows.{offlined}

@@ -24,7 +24,7 @@ use Rattle.hwp_law_served.specs.hwp_law.Halts.{CanStop as CanStopFor, IsStopOf, 
 use Rattle.hwp_law_served.specs.hwp_law.Stops.{StaysStopped}
 use Rattle.hwp_law_served.specs.hwp_cpu_row.declared.Offlining.{Offlining}
 use Rattle.hwp_law_served.specs.hwp_cpu_row.declared.Row.{Row}
-use Rattle.hwp_law_served.specs.hwp_cpu_check.declared.EventOutcome.{EventOutcome}
+use Rattle.hwp_law_served.specs.hwp_claim.declared.EventOutcome.{EventOutcome}
 use Rattle.hwp_law_served.specs.Rows.{end_lines, event_line, lines_from, offlined_line}
 use Rattle.hwp_law_served.specs.Runs.{IsCauseOf, IsRunOf, row_at}
 use Rattle.hwp_law_served.specs.Served.{CanStop}

@@ -28,9 +28,9 @@ use Rattle.hwp_cpu_row.specs.hwp_banks.Banks.{empty_banks}
 use Rattle.hwp_law_served.proofs.Homes.{there-is}
 use Rattle.hwp_cpu_row.specs.hwp_claim.declared.Found.{Found}
 use Rattle.hwp_cpu_row.specs.declared.Row.{Row}
-use Rattle.hwp_cpu_row.specs.hwp_cpu_check.declared.EventOutcome.{EventOutcome}
-use Rattle.hwp_cpu_row.specs.hwp_cpu_check.Fits.{IsDone, IsTold}
-use Rattle.hwp_cpu_row.specs.hwp_cpu_check.Told.{at_once, failure_at_once, frame_of, required_by, severity_at_once}
+use Rattle.hwp_cpu_row.specs.hwp_claim.declared.EventOutcome.{EventOutcome}
+use Rattle.hwp_cpu_row.specs.hwp_claim.Fits.{IsDone, IsTold}
+use Rattle.hwp_cpu_row.specs.hwp_claim.Told.{at_once, failure_at_once, frame_of, required_by, severity_at_once}
 use Rattle.hwp_law_served.specs.Accounts.{IsNote}
 use Rattle.hwp_law_served.specs.Rows.{Note, notes_from}
 use Rattle.hwp_law_served.specs.Runs.{HaveServed, notes_of}

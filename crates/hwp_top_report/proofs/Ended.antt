@@ -35,8 +35,8 @@ use Rattle.hwp_cpu_row.specs.hwp_law.Commands.{arrival_of}
 use Rattle.hwp_cpu_row.specs.hwp_severity.declared.Arrival.{Arrival}
 use Rattle.hwp_law_served.specs.Ends.{IsFrameOn, IsStopOn}
 use Rattle.hwp_cpu_row.specs.declared.Row.{Row}
-use Rattle.hwp_cpu_row.specs.hwp_cpu_check.declared.EventOutcome.{EventOutcome}
-use Rattle.hwp_cpu_row.specs.hwp_cpu_check.Told.{halts}
+use Rattle.hwp_cpu_row.specs.hwp_claim.declared.EventOutcome.{EventOutcome}
+use Rattle.hwp_cpu_row.specs.hwp_claim.Told.{halts}
 use Rattle.hwp_law_served.specs.Rows.{Note, record_of}
 use Rattle.hwp_law_served.specs.Runs.{IsCauseOf, notes_of, panic_cause, row_at, severity_cause, told_cause}
 use Rattle.hwp_law_served.specs.Served.{CanStop, IsFirstStopped}

@@ -13,7 +13,7 @@ use Rattle.hwp_cpu_row.specs.hwp_report_text.declared.CpuLine.{CpuLine}
 use Rattle.hwp_cpu_row.specs.hwp_report_text.declared.StopCause.{StopCause}
 use Rattle.hwp_cpu_row.specs.declared.Row.{Row}
 use Rattle.hwp_cpu_row.specs.Acts.{acts}
-use Rattle.hwp_cpu_row.specs.hwp_cpu_check.declared.EventOutcome.{EventOutcome}
+use Rattle.hwp_cpu_row.specs.hwp_claim.declared.EventOutcome.{EventOutcome}
 use Rattle.hwp_law_served.specs.Rows.{Note, act_note, lines_from, notes_from, own_note, row_lines, row_notes, at_number}
 use Rattle.hwp_law_served.specs.Runs.{notes_of}
 use Rattle.hwp_law_served.proofs.Rows.{notes-more}

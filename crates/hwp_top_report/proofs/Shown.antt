@@ -53,8 +53,8 @@ use Rattle.hwp_law_served.specs.hwp_law.Settings.{arguments, last_policy, settin
 use Rattle.hwp_law_served.specs.hwp_law.Runs.{slot_of}
 use Rattle.hwp_law_served.specs.hwp_cpu_row.declared.FrameChange.{FrameChange}
 use Rattle.hwp_law_served.specs.hwp_cpu_row.declared.Offlining.{Offlining}
-use Rattle.hwp_law_served.specs.hwp_cpu_check.declared.EventOutcome.{EventOutcome}
-use Rattle.hwp_law_served.specs.hwp_cpu_check.Told.{frame_of}
+use Rattle.hwp_law_served.specs.hwp_claim.declared.EventOutcome.{EventOutcome}
+use Rattle.hwp_law_served.specs.hwp_claim.Told.{frame_of}
 use Rattle.hwp_law_served.specs.Shown.{AdoptShown, AlreadyShown, AnswerShown, GoesOn, GoneShown, IsFree, LengthShown, NoFrameShown, OfflineShown, ProcessShown, RunningShown, StopShown, IsRevivable}
 use Rattle.hwp_law_served.specs.Turns.{Finds, FindsBad, HasFrameOf, SawPage, SeesPage, TurnBy}
 use Rattle.hwp_law_served.proofs.turns.SeatKnows.{IsUnder, Said}

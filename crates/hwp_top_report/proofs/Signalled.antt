@@ -36,7 +36,7 @@ use Rattle.hwp_law_served.specs.hwp_law.Causes.{IsSigbus, SendsSigbus}
 use Rattle.hwp_law_served.specs.hwp_law.Commands.{current_thread}
 use Rattle.hwp_law_served.specs.hwp_law.Places.{entry_at}
 use Rattle.hwp_law_served.proofs.Reported.{histories-lead, listed-entry}
-use Rattle.hwp_law_served.specs.hwp_cpu_check.Told.{required_by}
+use Rattle.hwp_law_served.specs.hwp_claim.Told.{required_by}
 use Rattle.hwp_top_report.proofs.AllowedThere.{allowed-there, had-so}
 use Rattle.hwp_law_served.proofs.deeds.Made.{some-so}
 use Rattle.hwp_law_served.proofs.RunEnds.{IsEnd}

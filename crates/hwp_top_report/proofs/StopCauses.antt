@@ -32,9 +32,9 @@ use Rattle.hwp_law_served.specs.hwp_law.Halts.{CanStop as CanStopFor, Panics, is
 use Rattle.hwp_law_served.specs.hwp_law.Lines.{events_of}
 use Rattle.hwp_law_served.specs.hwp_law.Outcomes.{outcome_act}
 use Rattle.hwp_law_served.specs.hwp_claim.declared.Found.{Found}
-use Rattle.hwp_law_served.specs.hwp_cpu_check.declared.EventOutcome.{EventOutcome}
-use Rattle.hwp_law_served.specs.hwp_cpu_check.Fits.{IsDone, IsFailed}
-use Rattle.hwp_law_served.specs.hwp_cpu_check.Told.{at_once, frame_of, halts, required_by, severity_at_once}
+use Rattle.hwp_law_served.specs.hwp_claim.declared.EventOutcome.{EventOutcome}
+use Rattle.hwp_law_served.specs.hwp_claim.Fits.{IsDone, IsFailed}
+use Rattle.hwp_law_served.specs.hwp_claim.Told.{at_once, frame_of, halts, required_by, severity_at_once}
 use Rattle.hwp_law_served.specs.hwp_cpu_row.Acts.{event_at}
 use Rattle.hwp_law_served.specs.Runs.{IsCauseOf, panic_cause, severity_cause, told_cause}
 use Rattle.hwp_law_served.specs.Served.{CanStop}

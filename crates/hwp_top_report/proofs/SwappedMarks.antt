@@ -20,7 +20,7 @@ use Rattle.hwp_cpu_row.specs.hwp_report_text.declared.MarkLine.{MarkLine}
 use Rattle.hwp_cpu_row.specs.hwp_report_text.declared.MarkLine.TheVariants as marks
 use Rattle.hwp_cpu_row.specs.hwp_report_text.declared.Report.{Report}
 use Rattle.hwp_cpu_row.specs.hwp_report_text.declared.Whereabouts.TheVariants as places
-use Rattle.hwp_cpu_row.specs.hwp_cpu_check.declared.EventOutcome.{EventOutcome}
+use Rattle.hwp_cpu_row.specs.hwp_claim.declared.EventOutcome.{EventOutcome}
 use Rattle.hwp_cpu_row.specs.declared.Row.{Row}
 use Rattle.hwp_law_served.specs.Rows.{record_of}
 use Rattle.hwp_law_served.specs.Runs.{AreRecords, IsRecord, notes_of, place_in}

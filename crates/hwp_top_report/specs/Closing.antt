@@ -29,8 +29,8 @@ use Rattle.hwp_law_served.specs.Ends.{AreMarks, EndsWith, place_in}
 use Rattle.hwp_cpu_row.specs.hwp_claim.declared.Found.{Found}
 use Rattle.hwp_cpu_row.specs.declared.Offlining.{Offlining}
 use Rattle.hwp_cpu_row.specs.declared.Row.{Row}
-use Rattle.hwp_cpu_row.specs.hwp_cpu_check.declared.EventOutcome.{EventOutcome}
-use Rattle.hwp_cpu_row.specs.hwp_cpu_check.Told.{frame_of}
+use Rattle.hwp_cpu_row.specs.hwp_claim.declared.EventOutcome.{EventOutcome}
+use Rattle.hwp_cpu_row.specs.hwp_claim.Told.{frame_of}
 use Rattle.hwp_law_served.specs.Rows.{Note, lines_from, record_of}
 use Rattle.hwp_law_served.specs.Runs.{AreSorted, IsCauseOf, notes_of, row_at, told_cause}
 use Rattle.hwp_law_served.specs.Served.{CanStop, IsFirstStopped}

@@ -12,7 +12,6 @@ pub use Rattle.hwp_cpu_row.specs.hwp_claim as hwp_claim
 pub use Rattle.hwp_cpu_row.specs.hwp_claim_act as hwp_claim_act
 pub use Rattle.hwp_cpu_row.specs.hwp_claim_frame as hwp_claim_frame
 pub use Rattle.hwp_cpu_row.specs.hwp_core as hwp_core
-pub use Rattle.hwp_cpu_row.specs.hwp_cpu_check as hwp_cpu_check
 pub use Rattle.hwp_cpu_row.specs as hwp_cpu_row
 pub use Rattle.hwp_law_served.specs.hwp_law as hwp_law
 pub use Rattle.hwp_law_served.specs as hwp_law_served

@@ -5,7 +5,7 @@ ghost use Rattle.hwp_plain.specs.hwp_core_rule.Lists.{EachMember};
 ghost use Rattle.hwp_law_served.specs.Rows.{act_note, note_by, note_of, notes_from, offlined, own_note, told_note};
 ghost use Rattle.hwp_law_served.specs.Runs.{notes_of};
 ghost use Rattle.hwp_cpu_row.specs.Acts.{acts};
-ghost use Rattle.hwp_cpu_row.specs.hwp_cpu_check.Told.{frame_of};
+ghost use Rattle.hwp_cpu_row.specs.hwp_claim.Told.{frame_of};
 ghost use Rattle.hwp_top_report.specs.Closing.{AreTellable, IsNamed, IsTellable, is_frame_next};
 
 use hwp_cpu_row::{

@@ -35,8 +35,8 @@ use Rattle.hwp_cpu_command.specs.hwp_fault.declared.AccessKind.TheVariants as ki
 use Rattle.hwp_cpu_command.specs.hwp_fault.declared.Request.{Request}
 use Rattle.hwp_cpu_command.specs.hwp_fault.Accesses.{Answered, IsDeclared, touch_of, what_by, what_of}
 use Rattle.hwp_cpu_command.specs.hwp_fault.Touches.{refusal, refusal_by}
-use Rattle.hwp_law_served.specs.hwp_cpu_check.declared.EventOutcome.{EventOutcome}
-use Rattle.hwp_law_served.specs.hwp_cpu_check.Told.{halts}
+use Rattle.hwp_law_served.specs.hwp_claim.declared.EventOutcome.{EventOutcome}
+use Rattle.hwp_law_served.specs.hwp_claim.Told.{halts}
 use Rattle.hwp_cpu_command.specs.hwp_cpu_access.declared.Instruction.{Instruction}
 use Rattle.hwp_cpu_command.specs.hwp_cpu_access.declared.InstructionAnswer.{InstructionAnswer}
 use Rattle.hwp_cpu_command.specs.hwp_cpu_access.declared.InstructionAnswer.TheVariants as answers

@@ -58,9 +58,9 @@ use Rattle.hwp_law_served.specs.hwp_claim_frame.Meets.{AsTaken}
 use Rattle.hwp_cpu_command.proofs.of_hwp_claim.of_hwp_claim_frame.ViewKeeps.{Account, account_of, kept, unlock-only}
 use Rattle.hwp_cpu_command.proofs.of_hwp_soft.SoftFits.{unhold-only}
 use Rattle.hwp_cpu_command.proofs.of_hwp_soft.SpareSteps.{free-stays}
-use Rattle.hwp_law_served.specs.hwp_cpu_check.declared.EventOutcome.{EventOutcome}
-use Rattle.hwp_law_served.specs.hwp_cpu_check.Checks.{IsActedOn}
-use Rattle.hwp_cpu_command.proofs.of_hwp_cpu_check.FailureKeeps.{told-stays}
+use Rattle.hwp_law_served.specs.hwp_claim.declared.EventOutcome.{EventOutcome}
+use Rattle.hwp_law_served.specs.hwp_claim.Checks.{IsActedOn}
+use Rattle.hwp_cpu_command.proofs.of_hwp_claim.FailureKeeps.{told-stays}
 use Rattle.hwp_cpu_command.proofs.of_hwp_cpu_access.CommandGrows.{made-more}
 use Rattle.hwp_cpu_command.proofs.of_hwp_cpu_access.Resting.{any-stay}
 use Rattle.hwp_law_served.specs.hwp_scrub.Visits as scrubs

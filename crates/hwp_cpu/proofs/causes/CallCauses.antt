@@ -56,7 +56,7 @@ use Rattle.hwp_law_served.specs.hwp_evict.declared.FsyncAnswer.{FsyncAnswer}
 use Rattle.hwp_law_served.specs.hwp_evict.declared.FsyncAnswer.TheVariants as fsync_answers
 use Rattle.hwp_law_served.specs.hwp_evict.declared.fsync.FsyncAt.TheVariants as fsync_at
 use Rattle.hwp_law_served.specs.hwp_evict.Fsyncs as fsyncs
-use Rattle.hwp_law_served.specs.hwp_cpu_check.declared.EventOutcome.{EventOutcome}
+use Rattle.hwp_law_served.specs.hwp_claim.declared.EventOutcome.{EventOutcome}
 use Rattle.hwp_cpu_command.specs.hwp_scrub.declared.LocalChange.{LocalChange}
 use Rattle.hwp_cpu_command.specs.hwp_scrub.declared.LocalChange.TheVariants as changes
 use Rattle.hwp_cpu_command.specs.hwp_scrub.declared.Log.{Log}

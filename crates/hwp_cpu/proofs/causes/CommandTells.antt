@@ -11,7 +11,7 @@ use Rattle.hwp_law_served.specs.hwp_report_text.declared.Answer.{Answer}
 use Rattle.hwp_law_served.specs.hwp_report_text.declared.Answer.TheVariants as report_answers
 use Rattle.hwp_law_served.specs.hwp_banks.Banks.{Banks, raw_event}
 use Rattle.hwp_law_served.specs.hwp_law.Events.{logged_if_done}
-use Rattle.hwp_law_served.specs.hwp_cpu_check.Told.{halts}
+use Rattle.hwp_law_served.specs.hwp_claim.Told.{halts}
 use Rattle.hwp_cpu_command.specs.hwp_cpu_control.declared.ReadStopAnswer.{ReadStopAnswer}
 use Rattle.hwp_cpu_command.specs.hwp_cpu_control.declared.ReadStopAnswer.TheVariants as read_answers
 use Rattle.hwp_cpu_command.specs.hwp_scrub.declared.LocalChange.{LocalChange}

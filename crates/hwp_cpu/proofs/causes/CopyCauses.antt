@@ -25,10 +25,10 @@ use Rattle.hwp_law_served.specs.hwp_core_rule.Pages.{SawState}
 use Rattle.hwp_law_served.specs.hwp_script_lines.declared.Command.{Command}
 use Rattle.hwp_law_served.specs.hwp_script_lines.declared.Command.TheVariants as commands
 use Rattle.hwp_law_served.specs.hwp_report_text.declared.Answer.{Answer}
-use Rattle.hwp_law_served.specs.hwp_cpu_check.declared.EventOutcome.{EventOutcome}
-use Rattle.hwp_law_served.specs.hwp_cpu_check.Checks.{Check, left_by, lines_of}
-use Rattle.hwp_law_served.specs.hwp_cpu_check.Done.{failed_in, marked_in}
-use Rattle.hwp_law_served.specs.hwp_cpu_check.Told.{halts}
+use Rattle.hwp_law_served.specs.hwp_claim.declared.EventOutcome.{EventOutcome}
+use Rattle.hwp_law_served.specs.hwp_claim.Checks.{Check, left_by, lines_of}
+use Rattle.hwp_law_served.specs.hwp_claim.CheckDone.{failed_in, marked_in}
+use Rattle.hwp_law_served.specs.hwp_claim.Told.{halts}
 use Rattle.hwp_cpu_command.specs.hwp_claim_act.declared.Failed.{Failed}
 use Rattle.hwp_cpu_command.specs.hwp_claim_frame.Done.{Marking}
 use Rattle.hwp_cpu_command.specs.hwp_fault.declared.AccessAnswer.TheVariants as access_answers

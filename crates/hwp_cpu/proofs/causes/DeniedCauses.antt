@@ -26,7 +26,7 @@ use Rattle.hwp_law_served.specs.hwp_banks.Banks.{Banks}
 use Rattle.hwp_law_served.specs.hwp_banks.declared.Origin.{Origin}
 use Rattle.hwp_law_served.specs.hwp_geom.declared.Mode.{Mode}
 use Rattle.hwp_law_served.specs.hwp_law.Commands.{Access, access_of, is_check, process_of_thread}
-use Rattle.hwp_law_served.specs.hwp_cpu_check.declared.EventOutcome.{EventOutcome}
+use Rattle.hwp_law_served.specs.hwp_claim.declared.EventOutcome.{EventOutcome}
 use Rattle.hwp_law_served.specs.Causes.{FoundGone, HasOnlyBegun, IsAnswerCaused, IsCausedWith, SawProcess}
 use Rattle.hwp_law_served.specs.Copied.{HasCopied, IsBehind, IsCopyCaused, IsCopyEnded, IsCopyTold, store_by, sub_next}
 use Rattle.hwp_law_served.specs.Told.{AreToldWith, IsAccessTold}

@@ -22,7 +22,7 @@ use Rattle.hwp_law_served.specs.hwp_evict.declared.Refusal.{Refusal}
 use Rattle.hwp_law_served.specs.hwp_evict.declared.Refusal.TheVariants as refusals
 use Rattle.hwp_law_served.specs.hwp_evict.Evictions.{IsCaused as IsEvictCaused, IsWhy, entry_of}
 use Rattle.hwp_law_served.specs.hwp_evict.Evicts as evicts
-use Rattle.hwp_law_served.specs.hwp_cpu_check.declared.EventOutcome.{EventOutcome}
+use Rattle.hwp_law_served.specs.hwp_claim.declared.EventOutcome.{EventOutcome}
 use Rattle.hwp_law_served.specs.hwp_cpu_row.declared.FrameChange.{FrameChange}
 use Rattle.hwp_cpu_command.specs.declared.Job.{Job}
 use Rattle.hwp_cpu_command.specs.declared.Job.TheVariants as jobs

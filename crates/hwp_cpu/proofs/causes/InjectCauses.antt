@@ -24,8 +24,8 @@ use Rattle.hwp_law_served.specs.hwp_claim.declared.FailAnswer.TheVariants as ans
 use Rattle.hwp_law_served.specs.hwp_claim.declared.Inject.{Inject}
 use Rattle.hwp_law_served.specs.hwp_claim.Injects as injects
 use Rattle.hwp_law_served.specs.hwp_claim.declared.Found.{Found}
-use Rattle.hwp_law_served.specs.hwp_cpu_check.declared.EventOutcome.{EventOutcome}
-use Rattle.hwp_law_served.specs.hwp_cpu_check.Fits.{IsEntered}
+use Rattle.hwp_law_served.specs.hwp_claim.declared.EventOutcome.{EventOutcome}
+use Rattle.hwp_law_served.specs.hwp_claim.Fits.{IsEntered}
 use Rattle.hwp_law_served.specs.hwp_cpu_row.declared.FrameChange.{FrameChange}
 use Rattle.hwp_cpu_command.specs.declared.Job.{Job}
 use Rattle.hwp_cpu_command.specs.declared.Job.TheVariants as jobs

@@ -29,12 +29,12 @@ use Rattle.hwp_law_served.specs.hwp_severity.declared.Arrival.{Arrival}
 use Rattle.hwp_law_served.specs.hwp_severity.declared.McgBits.{McgBits}
 use Rattle.hwp_law_served.specs.hwp_severity.declared.Severity.TheVariants as severities
 use Rattle.hwp_law_served.specs.hwp_severity.Graded.{Row, first_match, graded, rows}
-use Rattle.hwp_law_served.specs.hwp_cpu_check.declared.EventOutcome.{EventOutcome}
-use Rattle.hwp_law_served.specs.hwp_cpu_check.declared.Held.{Held}
-use Rattle.hwp_law_served.specs.hwp_cpu_check.Checks.{AreChecks, Check, IsCheck, left_by, lines_of, restarting, with_own}
-use Rattle.hwp_law_served.specs.hwp_cpu_check.Events.{graded_in, held_in}
-use Rattle.hwp_law_served.specs.hwp_cpu_check.Fits.{AreTold, IsDone, IsTold}
-use Rattle.hwp_law_served.specs.hwp_cpu_check.Told.{halts, has_kept, is_kept, required_by, severity_at_once}
+use Rattle.hwp_law_served.specs.hwp_claim.declared.EventOutcome.{EventOutcome}
+use Rattle.hwp_law_served.specs.hwp_claim.declared.Held.{Held}
+use Rattle.hwp_law_served.specs.hwp_claim.Checks.{AreChecks, Check, IsCheck, left_by, lines_of, restarting, with_own}
+use Rattle.hwp_law_served.specs.hwp_claim.Events.{graded_in, held_in}
+use Rattle.hwp_law_served.specs.hwp_claim.Fits.{AreTold, IsDone, IsTold}
+use Rattle.hwp_law_served.specs.hwp_claim.Told.{halts, has_kept, is_kept, required_by, severity_at_once}
 use Rattle.hwp_law_served.specs.hwp_cpu_row.Acts.{event_at, told_notes}
 use Rattle.hwp_cpu_command.specs.hwp_cpu_access.declared.Instruction.{Instruction}
 use Rattle.hwp_cpu_command.specs.hwp_cpu_access.Fits.{FitsBehind, FitsFrom, IsOfAccess}

@@ -14,9 +14,9 @@ use Rattle.hwp_law_served.specs.hwp_script_lines.declared.Command.TheVariants as
 use Rattle.hwp_law_served.specs.hwp_report_text.declared.Answer.{Answer}
 use Rattle.hwp_law_served.specs.hwp_banks.Banks.{Banks}
 use Rattle.hwp_law_served.specs.hwp_law.Commands.{can_fail, process_of_thread}
-use Rattle.hwp_law_served.specs.hwp_cpu_check.declared.EventOutcome.{EventOutcome}
-use Rattle.hwp_law_served.specs.hwp_cpu_check.Checks.{IsActedOn}
-use Rattle.hwp_law_served.specs.hwp_cpu_check.Told.{halts}
+use Rattle.hwp_law_served.specs.hwp_claim.declared.EventOutcome.{EventOutcome}
+use Rattle.hwp_law_served.specs.hwp_claim.Checks.{IsActedOn}
+use Rattle.hwp_law_served.specs.hwp_claim.Told.{halts}
 use Rattle.hwp_cpu_command.specs.hwp_scrub.declared.Raise.{Raise}
 use Rattle.hwp_cpu_command.specs.hwp_scrub.declared.RaiseAnswer.{RaiseAnswer}
 use Rattle.hwp_cpu_command.specs.hwp_scrub.declared.RaiseAnswer.TheVariants as answers

@@ -42,8 +42,8 @@ use Rattle.hwp_law_served.specs.hwp_claim.Fails as fails
 use Rattle.hwp_law_served.specs.hwp_claim.Injects as injects
 use Rattle.hwp_cpu_command.specs.hwp_fault.declared.AccessKind.{AccessKind}
 use Rattle.hwp_cpu_command.specs.hwp_fault.declared.Request.{Request}
-use Rattle.hwp_law_served.specs.hwp_cpu_check.declared.EventOutcome.{EventOutcome}
-use Rattle.hwp_law_served.specs.hwp_cpu_check.Done.{failed_in, marked_in}
+use Rattle.hwp_law_served.specs.hwp_claim.declared.EventOutcome.{EventOutcome}
+use Rattle.hwp_law_served.specs.hwp_claim.CheckDone.{failed_in, marked_in}
 use Rattle.hwp_cpu_command.specs.hwp_cpu_access.declared.instruction.InstructionAt.{InstructionAt}
 use Rattle.hwp_cpu_command.specs.hwp_cpu_access.declared.instruction.InstructionAt.TheVariants as instruction_at
 use Rattle.hwp_cpu_command.specs.hwp_cpu_access.Done as instruction_done

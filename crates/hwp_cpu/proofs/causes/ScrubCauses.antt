@@ -9,8 +9,8 @@ use Rattle.hwp_law_served.specs.hwp_script_lines.declared.Command.{Command}
 use Rattle.hwp_law_served.specs.hwp_script_lines.declared.Command.TheVariants as commands
 use Rattle.hwp_law_served.specs.hwp_report_text.declared.Answer.{Answer}
 use Rattle.hwp_law_served.specs.hwp_banks.Banks.{Banks}
-use Rattle.hwp_law_served.specs.hwp_cpu_check.declared.EventOutcome.{EventOutcome}
-use Rattle.hwp_law_served.specs.hwp_cpu_check.Told.{halts}
+use Rattle.hwp_law_served.specs.hwp_claim.declared.EventOutcome.{EventOutcome}
+use Rattle.hwp_law_served.specs.hwp_claim.Told.{halts}
 use Rattle.hwp_law_served.specs.hwp_scrub.declared.Scrub.{Scrub}
 use Rattle.hwp_law_served.specs.hwp_scrub.declared.ScrubAnswer.{ScrubAnswer}
 use Rattle.hwp_law_served.specs.hwp_scrub.declared.ScrubAnswer.TheVariants as answers

@@ -7,8 +7,8 @@ use Rattle.hwp_cpu_command.specs.hwp_geom.declared.VSlot.{VSlot}
 use Rattle.hwp_cpu_command.specs.hwp_geom.declared.Who.{Who}
 use Rattle.hwp_cpu_command.specs.hwp_banks.declared.Origin.{Origin}
 use Rattle.hwp_cpu_command.specs.hwp_banks.Events.{bank_count}
-use Rattle.hwp_cpu_command.specs.hwp_cpu_check.hwp_guest.declared.Admit.{Admit}
-use Rattle.hwp_cpu_command.specs.hwp_cpu_check.hwp_guest.declared.Admit.TheVariants as admissions
+use Rattle.hwp_cpu_command.specs.hwp_claim.hwp_guest.declared.Admit.{Admit}
+use Rattle.hwp_cpu_command.specs.hwp_claim.hwp_guest.declared.Admit.TheVariants as admissions
 use Rattle.hwp_cpu_command.specs.hwp_cpu_control.declared.Denial.{Denial}
 use Rattle.hwp_cpu_command.specs.hwp_cpu_control.declared.Denial.TheVariants as denials
 use Rattle.hwp_cpu_command.specs.hwp_script_lines.declared.Command.{Command}
@@ -37,10 +37,10 @@ use Rattle.hwp_cpu_command.proofs.of_hwp_claim.InjectRank.{inject-below}
 use Rattle.hwp_cpu_command.specs.hwp_fault.declared.AccessKind.{AccessKind}
 use Rattle.hwp_cpu_command.specs.hwp_fault.declared.AccessKind.TheVariants as access_kinds
 use Rattle.hwp_cpu_command.specs.hwp_fault.Accesses as accesses
-use Rattle.hwp_cpu_command.specs.hwp_cpu_check.declared.Handler.{Handler}
-use Rattle.hwp_cpu_command.specs.hwp_cpu_check.declared.handler.HandlerAt.{HandlerAt}
-use Rattle.hwp_cpu_command.specs.hwp_cpu_check.declared.handler.HandlerAt.TheVariants as handler_at
-use Rattle.hwp_cpu_command.specs.hwp_cpu_check.Handlers as handlers
+use Rattle.hwp_cpu_command.specs.hwp_claim.declared.Handler.{Handler}
+use Rattle.hwp_cpu_command.specs.hwp_claim.declared.handler.HandlerAt.{HandlerAt}
+use Rattle.hwp_cpu_command.specs.hwp_claim.declared.handler.HandlerAt.TheVariants as handler_at
+use Rattle.hwp_cpu_command.specs.hwp_claim.Handlers as handlers
 use Rattle.hwp_cpu_command.specs.hwp_cpu_access.declared.Instruction.{Instruction}
 use Rattle.hwp_cpu_command.specs.hwp_cpu_access.Costs as instruction_costs
 use Rattle.hwp_cpu_command.specs.hwp_cpu_access.Instructions as instructions

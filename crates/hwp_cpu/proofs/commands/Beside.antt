@@ -12,7 +12,7 @@ use Rattle.hwp_cpu_command.specs.hwp_claim_act.declared.Failed.{Failed}
 use Rattle.hwp_cpu_command.specs.hwp_report_text.declared.Answer.{Answer}
 use Rattle.hwp_cpu_command.specs.hwp_report_text.declared.Answer.TheVariants as answers
 use Rattle.hwp_cpu_command.specs.hwp_fault.declared.Request.{Request}
-use Rattle.hwp_cpu_command.specs.hwp_cpu_check.Done.{marked_in}
+use Rattle.hwp_cpu_command.specs.hwp_claim.CheckDone.{marked_in}
 use Rattle.hwp_cpu_command.specs.hwp_cpu_access.declared.Instruction.{Instruction}
 use Rattle.hwp_cpu_command.specs.hwp_cpu_access.declared.InstructionAnswer.{InstructionAnswer}
 use Rattle.hwp_cpu_command.specs.hwp_cpu_access.declared.instruction.InstructionAt.{InstructionAt}

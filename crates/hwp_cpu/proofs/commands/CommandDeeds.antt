@@ -77,9 +77,9 @@ use Rattle.hwp_cpu_command.specs.hwp_claim.Fails as fails
 use Rattle.hwp_cpu_command.specs.hwp_claim.Injects as injects
 use Rattle.hwp_cpu_command.proofs.of_hwp_claim.FailAdds.{fail-adds}
 use Rattle.hwp_cpu_command.proofs.of_hwp_claim.of_hwp_claim_frame.Quiet.{Alike, leaves}
-use Rattle.hwp_cpu_command.specs.hwp_cpu_check.declared.EventOutcome.{EventOutcome}
-use Rattle.hwp_cpu_command.specs.hwp_cpu_check.Done.{failed_in as failed_told, marked_in}
-use Rattle.hwp_cpu_command.proofs.of_hwp_cpu_check.HandlerLaws.{stop-leaves}
+use Rattle.hwp_cpu_command.specs.hwp_claim.declared.EventOutcome.{EventOutcome}
+use Rattle.hwp_cpu_command.specs.hwp_claim.CheckDone.{failed_in as failed_told, marked_in}
+use Rattle.hwp_cpu_command.proofs.of_hwp_claim.HandlerLaws.{stop-leaves}
 use Rattle.hwp_cpu_command.specs.hwp_cpu_access.declared.Instruction.{Instruction}
 use Rattle.hwp_cpu_command.specs.hwp_cpu_access.Done as instruction_done
 use Rattle.hwp_cpu_command.specs.hwp_cpu_access.Done.{FailuresGrow, failures_by}

@@ -55,10 +55,10 @@ use Rattle.hwp_cpu_command.specs.hwp_claim.Fails as fails
 use Rattle.hwp_cpu_command.specs.hwp_claim.Injects as injects
 use Rattle.hwp_cpu_command.proofs.of_hwp_claim.of_hwp_claim_frame.Quiet.{IsQuiet, PlansQuiet, leaves}
 use Rattle.hwp_cpu_command.specs.hwp_fault.Accesses as accesses
-use Rattle.hwp_cpu_command.specs.hwp_cpu_check.Checks.{Check}
-use Rattle.hwp_cpu_command.specs.hwp_cpu_check.declared.Handler.{Handler}
-use Rattle.hwp_cpu_command.specs.hwp_cpu_check.Handlers as handlers
-use Rattle.hwp_cpu_command.specs.hwp_cpu_check.Told.{halts}
+use Rattle.hwp_cpu_command.specs.hwp_claim.Checks.{Check}
+use Rattle.hwp_cpu_command.specs.hwp_claim.declared.Handler.{Handler}
+use Rattle.hwp_cpu_command.specs.hwp_claim.Handlers as handlers
+use Rattle.hwp_cpu_command.specs.hwp_claim.Told.{halts}
 use Rattle.hwp_cpu_command.specs.hwp_cpu_access.declared.Instruction.{Instruction}
 use Rattle.hwp_cpu_command.specs.hwp_cpu_access.declared.instruction.InstructionAt.{InstructionAt}
 use Rattle.hwp_cpu_command.specs.hwp_cpu_access.declared.instruction.InstructionAt.TheVariants as instruction_at

@@ -24,8 +24,8 @@ use Rattle.hwp_cpu_command.specs.hwp_core_rule.declared.View.{View}
 use Rattle.hwp_cpu_command.specs.hwp_core_rule.declared.Turn.{Turn}
 use Rattle.hwp_cpu_command.specs.hwp_banks.Banks.{Banks}
 use Rattle.hwp_cpu_command.specs.hwp_report_text.declared.Answer.{Answer}
-use Rattle.hwp_cpu_command.specs.hwp_cpu_check.hwp_guest.declared.Admit.{Admit}
-use Rattle.hwp_cpu_command.specs.hwp_cpu_check.hwp_guest.declared.Admit.TheVariants as admissions
+use Rattle.hwp_cpu_command.specs.hwp_claim.hwp_guest.declared.Admit.{Admit}
+use Rattle.hwp_cpu_command.specs.hwp_claim.hwp_guest.declared.Admit.TheVariants as admissions
 use Rattle.hwp_cpu_command.specs.hwp_law.GuestRule as guests
 use Rattle.hwp_cpu_command.specs.hwp_cpu_control.declared.Denial.{Denial}
 use Rattle.hwp_cpu_command.specs.hwp_cpu_control.declared.Denial.TheVariants as denials
@@ -42,8 +42,8 @@ use Rattle.hwp_cpu_command.specs.hwp_fault.declared.AccessKind.{AccessKind}
 use Rattle.hwp_cpu_command.specs.hwp_fault.declared.AccessKind.TheVariants as kinds
 use Rattle.hwp_cpu_command.specs.hwp_fault.declared.Request.{Request}
 use Rattle.hwp_cpu_command.specs.hwp_fault.Accesses as accesses
-use Rattle.hwp_cpu_command.specs.hwp_cpu_check.declared.Handler.{Handler}
-use Rattle.hwp_cpu_command.specs.hwp_cpu_check.Handlers as handlers
+use Rattle.hwp_cpu_command.specs.hwp_claim.declared.Handler.{Handler}
+use Rattle.hwp_cpu_command.specs.hwp_claim.Handlers as handlers
 use Rattle.hwp_cpu_command.specs.hwp_cpu_access.declared.Instruction.{Instruction}
 use Rattle.hwp_cpu_command.specs.hwp_cpu_access.declared.instruction.InstructionAt.{InstructionAt}
 use Rattle.hwp_cpu_command.specs.hwp_cpu_access.declared.instruction.InstructionAt.TheVariants as instruction_at

@@ -47,7 +47,7 @@ use Rattle.hwp_cpu_command.specs.hwp_cpu_access.declared.copying.CopyingAt.TheVa
 use Rattle.hwp_cpu_command.specs.hwp_cpu_access.Copyings as copyings
 use Rattle.hwp_cpu_command.specs.hwp_cpu_access.CopyFits as copying_fits
 use Rattle.hwp_cpu_command.specs.hwp_cpu_access.Runs.{Run, checks_by, made_by}
-use Rattle.hwp_cpu_command.specs.hwp_cpu_check.hwp_guest.declared.Admit.{Admit}
+use Rattle.hwp_cpu_command.specs.hwp_claim.hwp_guest.declared.Admit.{Admit}
 use Rattle.hwp_cpu_command.specs.hwp_cpu_control.declared.Denial.{Denial}
 use Rattle.hwp_cpu_command.specs.hwp_cpu_control.declared.Denial.TheVariants as denials
 use Rattle.hwp_cpu_command.specs.hwp_cpu_control.declared.Denied.{Denied}

@@ -27,13 +27,13 @@ use Rattle.hwp_cpu_command.specs.hwp_claim.Fails as fails
 use Rattle.hwp_cpu_command.specs.hwp_claim.Injects.{recovers_at, recovers_in}
 use Rattle.hwp_cpu_command.proofs.of_hwp_claim.ActQuiet.{act}
 use Rattle.hwp_cpu_command.proofs.of_hwp_claim.of_hwp_claim_frame.Quiet.{Alike, IsQuiet, PlansQuiet, give-up, leaves, release, unhold, unlock}
-use Rattle.hwp_cpu_command.specs.hwp_cpu_check.declared.Handler.{Handler}
-use Rattle.hwp_cpu_command.specs.hwp_cpu_check.declared.handler.HandlerAt.{HandlerAt}
-use Rattle.hwp_cpu_command.specs.hwp_cpu_check.declared.handler.HandlerAt.TheVariants as handler_at
-use Rattle.hwp_cpu_command.specs.hwp_cpu_check.Fits as handler_fits
-use Rattle.hwp_cpu_command.specs.hwp_cpu_check.Handlers as handlers
-use Rattle.hwp_cpu_command.specs.hwp_cpu_check.Told.{halts}
-use Rattle.hwp_cpu_command.proofs.of_hwp_cpu_check.HandlerLaws.{stop-leaves}
+use Rattle.hwp_cpu_command.specs.hwp_claim.declared.Handler.{Handler}
+use Rattle.hwp_cpu_command.specs.hwp_claim.declared.handler.HandlerAt.{HandlerAt}
+use Rattle.hwp_cpu_command.specs.hwp_claim.declared.handler.HandlerAt.TheVariants as handler_at
+use Rattle.hwp_cpu_command.specs.hwp_claim.Fits as handler_fits
+use Rattle.hwp_cpu_command.specs.hwp_claim.Handlers as handlers
+use Rattle.hwp_cpu_command.specs.hwp_claim.Told.{halts}
+use Rattle.hwp_cpu_command.proofs.of_hwp_claim.HandlerLaws.{stop-leaves}
 use Rattle.hwp_cpu_command.specs.hwp_soft_move.declared.discard.DiscardAt.{DiscardAt}
 use Rattle.hwp_cpu_command.specs.hwp_soft_move.declared.discard.DiscardAt.TheVariants as discard_at
 use Rattle.hwp_cpu_command.specs.hwp_soft_move.declared.relocate.RelocateAt.{RelocateAt}

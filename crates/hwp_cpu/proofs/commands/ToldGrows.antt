@@ -10,8 +10,8 @@ use Rattle.hwp_cpu_command.specs.hwp_core_rule.declared.Turn.{Turn}
 use Rattle.hwp_cpu_command.specs.hwp_fault.declared.AccessAnswer.{AccessAnswer}
 use Rattle.hwp_cpu_command.specs.hwp_fault.declared.AccessAnswer.TheVariants as access_answers
 use Rattle.hwp_cpu_command.specs.hwp_fault.Accesses as accesses
-use Rattle.hwp_cpu_command.specs.hwp_cpu_check.declared.Handler.{Handler}
-use Rattle.hwp_cpu_command.specs.hwp_cpu_check.Handlers as handlers
+use Rattle.hwp_cpu_command.specs.hwp_claim.declared.Handler.{Handler}
+use Rattle.hwp_cpu_command.specs.hwp_claim.Handlers as handlers
 use Rattle.hwp_cpu_command.specs.hwp_cpu_access.declared.Instruction.{Instruction}
 use Rattle.hwp_cpu_command.specs.hwp_cpu_access.declared.instruction.InstructionAt.{InstructionAt}
 use Rattle.hwp_cpu_command.specs.hwp_cpu_access.declared.instruction.InstructionAt.TheVariants as instruction_at
@@ -41,7 +41,7 @@ use Rattle.hwp_cpu_command.specs.hwp_scrub.declared.scrub.ScrubAt.TheVariants as
 use Rattle.hwp_cpu_command.specs.hwp_scrub.Scrubs as scrubs
 use Rattle.hwp_cpu_command.specs.declared.job.Job.{Job}
 use Rattle.hwp_cpu_command.specs.declared.job.Job.TheVariants as jobs
-use Rattle.hwp_cpu_command.specs.hwp_cpu_check.declared.EventOutcome.{EventOutcome}
+use Rattle.hwp_cpu_command.specs.hwp_claim.declared.EventOutcome.{EventOutcome}
 use Rattle.hwp_cpu_command.specs.Jobs.{Next, bare, told_of}
 
 abbrev pub IsLonger : List EventOutcome → List EventOutcome → Type 0

@@ -33,7 +33,7 @@ use Rattle.hwp_law.proofs.ActedLaws.{acted-at, set-acted}
 use Rattle.hwp_law.proofs.CowLaws.{acting-sets}
 use Rattle.hwp_cpu_row.specs.declared.Row.{Row}
 use Rattle.hwp_cpu_row.specs.Acts.{told_notes}
-use Rattle.hwp_cpu_row.specs.hwp_cpu_check.declared.EventOutcome.{EventOutcome}
+use Rattle.hwp_cpu_row.specs.hwp_claim.declared.EventOutcome.{EventOutcome}
 use Rattle.hwp_law_served.specs.Handles.{KnowsNumber, KnowsNumbers, answers_by, number_at}
 use Rattle.hwp_law_served.specs.Offlinings.{AreDue, KnowsDue, watched_along, watched_at}
 use Rattle.hwp_law_served.specs.Served.{AreRowsActed, AreRowsServed, CanStop, HasActed, IsBegun, IsOneOf, IsOwnSpoil, IsOwnStop, IsRowServed, IsServed, spoiling}

@@ -29,7 +29,7 @@ use Rattle.hwp_law.specs.Entries.{CanStandIn, Makes}
 use Rattle.hwp_law.specs.Pairings.{is_soft}
 use Rattle.hwp_law.specs.States.{entry_named}
 use Rattle.hwp_cpu_row.specs.declared.Row.{Row}
-use Rattle.hwp_cpu_row.specs.hwp_cpu_check.declared.EventOutcome.{EventOutcome}
+use Rattle.hwp_cpu_row.specs.hwp_claim.declared.EventOutcome.{EventOutcome}
 use Rattle.hwp_cpu_access.specs.hwp_fault.declared.Request.{Request}
 use Rattle.hwp_cpu_access.specs.hwp_fault.Accesses.{IsDeclared}
 use Rattle.hwp_cpu_access.specs.hwp_fault.Touches.{refusal_by}

@@ -19,7 +19,7 @@ use Rattle.hwp_law.specs.hwp_report_text.declared.Answer.{Answer}
 use Rattle.hwp_law.specs.hwp_report_text.declared.Answer.TheVariants as answers
 use Rattle.hwp_law.specs.States.{place_named, state_named}
 use Rattle.hwp_cpu_row.specs.declared.Row.{Row}
-use Rattle.hwp_cpu_row.specs.hwp_cpu_check.Told.{first_signal}
+use Rattle.hwp_cpu_row.specs.hwp_claim.Told.{first_signal}
 use Rattle.hwp_cpu_access.specs.Runs.{made_by}
 use Rattle.hwp_law_served.specs.Accounts.{IsAccounted}
 use Rattle.hwp_law_served.specs.Causes.{IsCausedWith}

@@ -18,8 +18,8 @@ use Rattle.hwp_plain.specs.hwp_core_rule.Known.{SawStop}
 use Rattle.hwp_plain.proofs.of_hwp_core_rule.tasks.SightKeeps.{saw-state-stays, saw-stays}
 use Rattle.hwp_law.specs.hwp_report_text.declared.Answer.{Answer}
 use Rattle.hwp_law.specs.hwp_report_text.declared.Answer.TheVariants as answers
-use Rattle.hwp_cpu_row.specs.hwp_cpu_check.declared.EventOutcome.{EventOutcome}
-use Rattle.hwp_cpu_row.specs.hwp_cpu_check.Checks.{AreChecks, Check, left_by}
+use Rattle.hwp_cpu_row.specs.hwp_claim.declared.EventOutcome.{EventOutcome}
+use Rattle.hwp_cpu_row.specs.hwp_claim.Checks.{AreChecks, Check, left_by}
 use Rattle.hwp_cpu_access.specs.hwp_fault.declared.Request.{Request}
 use Rattle.hwp_cpu_access.specs.hwp_fork.declared.cow.Cow.{Cow}
 use Rattle.hwp_cpu_access.specs.hwp_fork.declared.cow.Sub.{Sub}

@@ -18,8 +18,8 @@ use Rattle.hwp_law.specs.hwp_script_read.declared.Command.{Command}
 use Rattle.hwp_law.specs.hwp_script_read.declared.Command.TheVariants as commands
 use Rattle.hwp_law.specs.hwp_report_text.declared.Answer.{Answer}
 use Rattle.hwp_law.specs.Commands.{current_thread}
-use Rattle.hwp_cpu_row.specs.hwp_cpu_check.declared.EventOutcome.{EventOutcome}
-use Rattle.hwp_cpu_row.specs.hwp_cpu_check.Checks.{Check, left_by, lines_of}
+use Rattle.hwp_cpu_row.specs.hwp_claim.declared.EventOutcome.{EventOutcome}
+use Rattle.hwp_cpu_row.specs.hwp_claim.Checks.{Check, left_by, lines_of}
 use Rattle.hwp_cpu_access.specs.hwp_fork.declared.cow.Cow.{Cow}
 use Rattle.hwp_cpu_access.specs.hwp_fork.declared.cow.CowAt.{CowAt}
 use Rattle.hwp_cpu_access.specs.hwp_fork.declared.cow.CowAt.TheVariants as at

@@ -18,7 +18,7 @@ use Rattle.hwp_law.specs.Settings.{arguments, last_policy, settings}
 use Rattle.hwp_cpu_control.specs.Forks.{threads_of}
 use Rattle.hwp_cpu_row.specs.declared.FrameChange.{FrameChange}
 use Rattle.hwp_cpu_row.specs.declared.Row.{Row}
-use Rattle.hwp_cpu_row.specs.hwp_cpu_check.declared.EventOutcome.{EventOutcome}
+use Rattle.hwp_cpu_row.specs.hwp_claim.declared.EventOutcome.{EventOutcome}
 use Rattle.hwp_law_served.specs.Accounts.{set_by}
 use Rattle.hwp_law_served.specs.Causes.{IsAnswerCaused, IsCausedWith, IsTableCaused}
 use Rattle.hwp_law_served.specs.Served.{IsRowServed}

@@ -23,7 +23,7 @@ use Rattle.hwp_law.specs.Commands.{command_at}
 use Rattle.hwp_law.specs.hwp_report_text.declared.Answer.TheVariants as answers
 use Rattle.hwp_law.specs.hwp_report_text.declared.Report.{Report}
 use Rattle.hwp_law.specs.Copies.{ended_through, is_load, is_store, own_in}
-use Rattle.hwp_cpu_row.specs.hwp_cpu_check.declared.EventOutcome.{EventOutcome}
+use Rattle.hwp_cpu_row.specs.hwp_claim.declared.EventOutcome.{EventOutcome}
 use Rattle.hwp_cpu_access.specs.hwp_fault.declared.Request.{Request}
 use Rattle.hwp_cpu_access.specs.hwp_fork.declared.cow.Cow.{Cow}
 use Rattle.hwp_cpu_access.specs.hwp_fork.declared.cow.CowAt.{CowAt}

@@ -30,7 +30,7 @@ use Rattle.hwp_law.specs.Commands.{command_at}
 use Rattle.hwp_law.specs.Copies.{own_in}
 use Rattle.hwp_law.specs.Lines.{answer_of}
 use Rattle.hwp_law.specs.Private.{last_word, word_in}
-use Rattle.hwp_cpu_row.specs.hwp_cpu_check.declared.EventOutcome.{EventOutcome}
+use Rattle.hwp_cpu_row.specs.hwp_claim.declared.EventOutcome.{EventOutcome}
 use Rattle.hwp_cpu_access.specs.hwp_fault.declared.Request.{Request}
 use Rattle.hwp_cpu_access.specs.hwp_fork.Cows as cows
 use Rattle.hwp_cpu_access.specs.Copyings.{load_of}

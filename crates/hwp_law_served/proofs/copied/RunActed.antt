@@ -24,7 +24,7 @@ use Rattle.hwp_law.specs.Lines.{answered, answers_to}
 use Rattle.hwp_law.specs.Policies.{answered_before, answered_on}
 use Rattle.hwp_law.proofs.ActedLaws.{command-acted, list-at}
 use Rattle.hwp_cpu_row.specs.declared.Row.{Row}
-use Rattle.hwp_cpu_row.specs.hwp_cpu_check.declared.EventOutcome.{EventOutcome}
+use Rattle.hwp_cpu_row.specs.hwp_claim.declared.EventOutcome.{EventOutcome}
 use Rattle.hwp_law_served.specs.Handles.{answers_by}
 use Rattle.hwp_law_served.specs.Rows.{lines_from}
 use Rattle.hwp_law_served.specs.Runs.{AreServed, HasStopCause, HaveServed, IsCauseOf}

@@ -13,7 +13,7 @@ use Rattle.hwp_plain.specs.hwp_core_rule.Lists.{EachMember}
 use Rattle.hwp_plain.proofs.of_hwp_core_rule.Lists.{each-push}
 use Rattle.hwp_plain.proofs.of_hwp_core_rule.MoreEntries.{each-append}
 use Rattle.hwp_plain.specs.hwp_core_rule.Known.{IsAt}
-use Rattle.hwp_cpu_row.specs.hwp_cpu_check.Checks.{left_by}
+use Rattle.hwp_cpu_row.specs.hwp_claim.Checks.{left_by}
 use Rattle.hwp_cpu_access.specs.hwp_fault.declared.Request.{Request}
 use Rattle.hwp_cpu_access.specs.hwp_fault.Accesses.{what_of}
 use Rattle.hwp_cpu_access.specs.hwp_fork.declared.cow.Cow.{Cow}

@@ -14,8 +14,8 @@ use Rattle.hwp_plain.specs.hwp_core_rule.declared.Made.{Made}
 use Rattle.hwp_plain.specs.hwp_core_rule.declared.View.{View}
 use Rattle.hwp_plain.specs.hwp_core_rule.Lists.{EachMember}
 use Rattle.hwp_plain.specs.hwp_core_rule.Known.{IsAt, deeds}
-use Rattle.hwp_cpu_row.specs.hwp_cpu_check.declared.EventOutcome.{EventOutcome}
-use Rattle.hwp_cpu_row.specs.hwp_cpu_check.Checks.{left_by}
+use Rattle.hwp_cpu_row.specs.hwp_claim.declared.EventOutcome.{EventOutcome}
+use Rattle.hwp_cpu_row.specs.hwp_claim.Checks.{left_by}
 use Rattle.hwp_cpu_access.specs.hwp_fault.declared.Request.{Request}
 use Rattle.hwp_cpu_access.specs.hwp_fork.declared.cow.Cow.{Cow}
 use Rattle.hwp_cpu_access.specs.hwp_fork.declared.cow.CowAt.{CowAt}

@@ -10,7 +10,7 @@ use Rattle.hwp_law.specs.hwp_script_read.declared.Command.TheVariants as command
 use Rattle.hwp_law.specs.hwp_report_text.declared.Answer.{Answer}
 use Rattle.hwp_law.specs.Commands.{can_fail}
 use Rattle.hwp_cpu_row.specs.declared.FrameChange.{FrameChange}
-use Rattle.hwp_cpu_row.specs.hwp_cpu_check.declared.EventOutcome.{EventOutcome}
+use Rattle.hwp_cpu_row.specs.hwp_claim.declared.EventOutcome.{EventOutcome}
 use Rattle.hwp_law_served.specs.Accounts.{IsOwn}
 use Rattle.hwp_law_served.specs.Causes.{IsAnswerCaused, IsCausedWith}
 use Rattle.hwp_law_served.specs.Told.{AreToldBy, AreToldWith}

@@ -17,7 +17,7 @@ use Rattle.hwp_plain.specs.hwp_core_rule.Lists.{EachMember, SomeMember}
 use Rattle.hwp_plain.proofs.of_hwp_core_rule.Lists.{at_last, at_longer}
 use Rattle.hwp_law.specs.Copies.{is_store}
 use Rattle.hwp_law.specs.Private.{last_word, word_in}
-use Rattle.hwp_cpu_row.specs.hwp_cpu_check.Checks.{left_by}
+use Rattle.hwp_cpu_row.specs.hwp_claim.Checks.{left_by}
 use Rattle.hwp_cpu_access.specs.hwp_fault.declared.Request.{Request}
 use Rattle.hwp_cpu_access.specs.hwp_fault.Accesses.{what_of}
 use Rattle.hwp_cpu_access.specs.hwp_fork.declared.cow.Cow.{Cow}

@@ -28,7 +28,7 @@ use Rattle.hwp_law.specs.History.{Fits, Names}
 use Rattle.hwp_law.specs.States.{entry_named}
 use Rattle.hwp_cpu_row.specs.declared.FrameChange.{FrameChange}
 use Rattle.hwp_cpu_row.specs.declared.Row.{Row}
-use Rattle.hwp_cpu_row.specs.hwp_cpu_check.declared.EventOutcome.{EventOutcome}
+use Rattle.hwp_cpu_row.specs.hwp_claim.declared.EventOutcome.{EventOutcome}
 use Rattle.hwp_law_served.specs.Accounts.{IsAccounted}
 use Rattle.hwp_law_served.specs.Causes.{HasCome, HasOnlyMet, IsAnswerCaused, IsBefore, IsBeside, IsMet, IsSoftCaused, IsTableCaused, WasSignalled}
 use Rattle.hwp_law_served.proofs.deeds.Needed.{IsNeeded, needed}

@@ -25,10 +25,10 @@ use Rattle.hwp_law.specs.Commands.{current_thread}
 use Rattle.hwp_law.specs.Entries.{IsRequiredBy}
 use Rattle.hwp_cpu_row.specs.hwp_claim.declared.Found.{Found}
 use Rattle.hwp_cpu_row.specs.declared.Row.{Row}
-use Rattle.hwp_cpu_row.specs.hwp_cpu_check.declared.EventOutcome.{EventOutcome}
+use Rattle.hwp_cpu_row.specs.hwp_claim.declared.EventOutcome.{EventOutcome}
 use Rattle.hwp_cpu_row.specs.hwp_claim.Done.{entered_by}
-use Rattle.hwp_cpu_row.specs.hwp_cpu_check.Done.{failed_by, failed_in}
-use Rattle.hwp_cpu_row.specs.hwp_cpu_check.Told.{required_by}
+use Rattle.hwp_cpu_row.specs.hwp_claim.CheckDone.{failed_by, failed_in}
+use Rattle.hwp_cpu_row.specs.hwp_claim.Told.{required_by}
 use Rattle.hwp_law_served.specs.Accounts.{IsAccounted, failures_in, found_in, own_failure}
 use Rattle.hwp_law_served.proofs.Picked.{picked-has, picked-is}
 

@@ -37,8 +37,8 @@ use Rattle.hwp_cpu_row.specs.hwp_claim.declared.Found.{Found}
 use Rattle.hwp_cpu_row.specs.declared.FrameChange.{FrameChange}
 use Rattle.hwp_cpu_row.specs.declared.FrameChange.TheVariants as owns
 use Rattle.hwp_cpu_row.specs.declared.Row.{Row}
-use Rattle.hwp_cpu_row.specs.hwp_cpu_check.declared.EventOutcome.{EventOutcome}
-use Rattle.hwp_cpu_row.specs.hwp_cpu_check.Fits.{IsEntered}
+use Rattle.hwp_cpu_row.specs.hwp_claim.declared.EventOutcome.{EventOutcome}
+use Rattle.hwp_cpu_row.specs.hwp_claim.Fits.{IsEntered}
 use Rattle.hwp_law_served.specs.Accounts.{IsOfflined, IsOwn}
 use Rattle.hwp_law_served.specs.Causes.{HasCome, HasFailed, IsAnswerCaused, IsCausedWith}
 use Rattle.hwp_law_served.specs.Offlinings.{IsOfflineServed}

@@ -27,7 +27,7 @@ use Rattle.hwp_law.specs.Lines.{events_of, offlined_of, rows_of}
 use Rattle.hwp_law.specs.Offlined.{due_of, watched_before, watched_from}
 use Rattle.hwp_cpu_row.specs.declared.Offlining.{Offlining}
 use Rattle.hwp_cpu_row.specs.declared.Row.{Row}
-use Rattle.hwp_cpu_row.specs.hwp_cpu_check.declared.EventOutcome.{EventOutcome}
+use Rattle.hwp_cpu_row.specs.hwp_claim.declared.EventOutcome.{EventOutcome}
 use Rattle.hwp_law_served.specs.Handles.{answers_by}
 use Rattle.hwp_law_served.specs.Offlinings.{watched_along, watched_at}
 use Rattle.hwp_law_served.specs.Rows.{lines_from, offlined_at}

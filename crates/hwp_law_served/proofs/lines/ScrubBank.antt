@@ -23,12 +23,12 @@ use Rattle.hwp_law.specs.Commands.{arrival_of}
 use Rattle.hwp_law.specs.hwp_severity.declared.Arrival.{Arrival}
 use Rattle.hwp_law.specs.Events.{logged_if_done}
 use Rattle.hwp_law.specs.hwp_banks.Banks.{raw_bank, raw_event}
-use Rattle.hwp_cpu_row.specs.hwp_cpu_check.declared.Held.{Held}
-use Rattle.hwp_cpu_row.specs.hwp_cpu_check.declared.EventOutcome.{EventOutcome}
-use Rattle.hwp_cpu_row.specs.hwp_cpu_check.Checks.{Check, IsActedOn, left_by, with_own}
-use Rattle.hwp_cpu_row.specs.hwp_cpu_check.Events.{graded_in}
-use Rattle.hwp_cpu_row.specs.hwp_cpu_check.Fits.{AreTold, IsDone}
-use Rattle.hwp_cpu_row.specs.hwp_cpu_check.Told.{at_once, required_by}
+use Rattle.hwp_cpu_row.specs.hwp_claim.declared.Held.{Held}
+use Rattle.hwp_cpu_row.specs.hwp_claim.declared.EventOutcome.{EventOutcome}
+use Rattle.hwp_cpu_row.specs.hwp_claim.Checks.{Check, IsActedOn, left_by, with_own}
+use Rattle.hwp_cpu_row.specs.hwp_claim.Events.{graded_in}
+use Rattle.hwp_cpu_row.specs.hwp_claim.Fits.{AreTold, IsDone}
+use Rattle.hwp_cpu_row.specs.hwp_claim.Told.{at_once, required_by}
 use Rattle.hwp_scrub.specs.Visits as scrubs
 use Rattle.hwp_scrub.specs.Visits.{AreBanks, IsKept, scrub_bank, scrubbing}
 use Rattle.hwp_scrub.proofs.VisitLaws.{bad-leaves, left-banks}

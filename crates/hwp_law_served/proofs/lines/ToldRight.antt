@@ -32,11 +32,11 @@ use Rattle.hwp_law.specs.hwp_severity.declared.Arrival.{Arrival}
 use Rattle.hwp_law.specs.Outcomes.{outcome_act}
 use Rattle.hwp_law.specs.Records.{result_of}
 use Rattle.hwp_cpu_row.specs.hwp_claim.declared.Found.{Found}
-use Rattle.hwp_cpu_row.specs.hwp_cpu_check.declared.Held.{Held}
-use Rattle.hwp_cpu_row.specs.hwp_cpu_check.declared.EventOutcome.{EventOutcome}
-use Rattle.hwp_cpu_row.specs.hwp_cpu_check.Events.{graded_in}
-use Rattle.hwp_cpu_row.specs.hwp_cpu_check.Fits.{AreTold, HasPoisoned, IsDone, IsEntered, IsFailed, IsTold}
-use Rattle.hwp_cpu_row.specs.hwp_cpu_check.Told.{at_once, frame_of, required_by, severity_at_once}
+use Rattle.hwp_cpu_row.specs.hwp_claim.declared.Held.{Held}
+use Rattle.hwp_cpu_row.specs.hwp_claim.declared.EventOutcome.{EventOutcome}
+use Rattle.hwp_cpu_row.specs.hwp_claim.Events.{graded_in}
+use Rattle.hwp_cpu_row.specs.hwp_claim.Fits.{AreTold, HasPoisoned, IsDone, IsEntered, IsFailed, IsTold}
+use Rattle.hwp_cpu_row.specs.hwp_claim.Told.{at_once, frame_of, required_by, severity_at_once}
 use Rattle.hwp_law_served.specs.Told.{AreToldWith}
 use Rattle.hwp_law_served.proofs.RowTold.{IsToldRight, told-each}
 use Rattle.hwp_law_served.proofs.copied.CopyTells.{told-with}

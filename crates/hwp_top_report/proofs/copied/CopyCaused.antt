@@ -32,7 +32,7 @@ use Rattle.hwp_law_served.specs.hwp_law.Records.{how_in}
 use Rattle.hwp_law_served.specs.hwp_cpu_row.declared.FrameChange.{FrameChange}
 use Rattle.hwp_law_served.specs.hwp_cpu_row.declared.FrameChange.TheVariants as owns
 use Rattle.hwp_law_served.specs.hwp_cpu_row.declared.Row.{Row}
-use Rattle.hwp_law_served.specs.hwp_cpu_check.declared.EventOutcome.{EventOutcome}
+use Rattle.hwp_law_served.specs.hwp_claim.declared.EventOutcome.{EventOutcome}
 use Rattle.hwp_law_served.specs.hwp_fault.declared.Request.{Request}
 use Rattle.hwp_law_served.specs.hwp_fault.Touches.{refusal_by}
 use Rattle.hwp_law_served.specs.hwp_cpu_access.Runs.{made_by}

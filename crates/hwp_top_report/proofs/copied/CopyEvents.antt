@@ -24,8 +24,8 @@ use Rattle.hwp_law_served.specs.hwp_law.Commands.{command_at}
 use Rattle.hwp_law_served.specs.hwp_law.Copies.{copy_checks}
 use Rattle.hwp_law_served.specs.hwp_law.Events.{AreAccessChecks}
 use Rattle.hwp_law_served.specs.hwp_cpu_row.Acts.{event_at}
-use Rattle.hwp_law_served.specs.hwp_cpu_check.declared.EventOutcome.{EventOutcome}
-use Rattle.hwp_law_served.specs.hwp_cpu_check.Checks.{AreChecks, Check, left_by, lines_of, restarting}
+use Rattle.hwp_law_served.specs.hwp_claim.declared.EventOutcome.{EventOutcome}
+use Rattle.hwp_law_served.specs.hwp_claim.Checks.{AreChecks, Check, left_by, lines_of, restarting}
 use Rattle.hwp_law_served.specs.hwp_fork.declared.cow.Cow.{Cow}
 use Rattle.hwp_law_served.specs.hwp_fork.declared.cow.CowAt.{CowAt}
 use Rattle.hwp_law_served.specs.hwp_fork.declared.cow.CowAt.TheVariants as at

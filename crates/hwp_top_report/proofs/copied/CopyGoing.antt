@@ -18,7 +18,7 @@ use Rattle.hwp_law_served.specs.hwp_report_text.declared.Answer.{Answer}
 use Rattle.hwp_law_served.specs.hwp_report_text.declared.Answer.TheVariants as answers
 use Rattle.hwp_law_served.specs.hwp_law.Commands.{process_of_thread, thread_of}
 use Rattle.hwp_law_served.specs.hwp_law.Endings.{IsOver}
-use Rattle.hwp_law_served.specs.hwp_cpu_check.declared.EventOutcome.{EventOutcome}
+use Rattle.hwp_law_served.specs.hwp_claim.declared.EventOutcome.{EventOutcome}
 use Rattle.hwp_law_served.specs.hwp_cpu_row.declared.FrameChange.{FrameChange}
 use Rattle.hwp_law_served.specs.hwp_fault.declared.Request.{Request}
 use Rattle.hwp_law_served.specs.hwp_fork.declared.cow.Sub.{Sub}

@@ -29,7 +29,7 @@ use Rattle.hwp_law_served.specs.hwp_law.Runs.{slot_ended, slot_of}
 use Rattle.hwp_law_served.specs.Shown.{AnswerShown, GoesOn, ProcessShown}
 use Rattle.hwp_law_served.specs.Turns.{SawPage}
 use Rattle.hwp_law_served.specs.hwp_cpu_row.declared.FrameChange.{FrameChange}
-use Rattle.hwp_law_served.specs.hwp_cpu_check.declared.EventOutcome.{EventOutcome}
+use Rattle.hwp_law_served.specs.hwp_claim.declared.EventOutcome.{EventOutcome}
 use Rattle.hwp_law_served.specs.Causes.{IsCausedWith, SawProcess}
 use Rattle.hwp_law_served.specs.Copied.{FoundNone, IsCopyCaused, IsCopyEnded, store_by, sub_next}
 use Rattle.hwp_law_served.proofs.of_hwp_law.ActingLaws.{slot-uncopied}

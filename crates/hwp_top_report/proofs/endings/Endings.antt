@@ -29,7 +29,7 @@ use Rattle.hwp_law_served.specs.hwp_law.Commands.{Access, access_of, process_of_
 use Rattle.hwp_law_served.specs.hwp_law.Endings.{EndingsStay, HasEnded, IsOver, WasGone}
 use Rattle.hwp_law_served.proofs.Reported.{entry-listed}
 use Rattle.hwp_law_served.specs.hwp_cpu_row.declared.FrameChange.{FrameChange}
-use Rattle.hwp_law_served.specs.hwp_cpu_check.declared.EventOutcome.{EventOutcome}
+use Rattle.hwp_law_served.specs.hwp_claim.declared.EventOutcome.{EventOutcome}
 use Rattle.hwp_law_served.specs.hwp_banks.Banks.{Banks}
 use Rattle.hwp_law_served.specs.Causes.{IsAnswerCaused, IsCausedWith, IsTableCaused, SawProcess, WasSignalled}
 use Rattle.hwp_law_served.specs.Copied.{store_by, sub_next}

@@ -19,8 +19,8 @@ use Rattle.hwp_law_served.specs.hwp_cpu_row.declared.FrameChange.TheVariants as 
 use Rattle.hwp_law_served.specs.hwp_cpu_row.Acts.{Act, acts}
 use Rattle.hwp_law_served.specs.hwp_cpu_row.declared.Offlining.{Offlining}
 use Rattle.hwp_law_served.specs.hwp_cpu_row.declared.Row.{Row}
-use Rattle.hwp_law_served.specs.hwp_cpu_check.declared.EventOutcome.{EventOutcome}
-use Rattle.hwp_law_served.specs.hwp_cpu_check.Told.{frame_of}
+use Rattle.hwp_law_served.specs.hwp_claim.declared.EventOutcome.{EventOutcome}
+use Rattle.hwp_law_served.specs.hwp_claim.Told.{frame_of}
 use Rattle.hwp_law_served.specs.Rows.{Note, act_note, lines_of, note_by, note_of, notes_from, own_note, record_of, row_notes}
 use Rattle.hwp_law_served.proofs.Acts.{IsOneOf, act-of}
 use Rattle.hwp_law_served.proofs.Picked.{picked-is}

@@ -30,12 +30,12 @@ use Rattle.hwp_law_served.specs.hwp_law.Events.{AreAccessChecks, IsDamaged}
 use Rattle.hwp_law_served.specs.hwp_law.Lines.{marks_of}
 use Rattle.hwp_law_served.specs.hwp_law.Records.{WasPoisoned}
 use Rattle.hwp_law_served.specs.hwp_claim.declared.Found.{Found}
-use Rattle.hwp_law_served.specs.hwp_cpu_check.declared.Held.{Held}
-use Rattle.hwp_law_served.specs.hwp_cpu_check.declared.EventOutcome.{EventOutcome}
-use Rattle.hwp_law_served.specs.hwp_cpu_check.Checks.{AreChecks, Check, IsActedOn, SawBad, left_by, lines_of, restarting}
-use Rattle.hwp_law_served.specs.hwp_cpu_check.Events.{graded_in}
-use Rattle.hwp_law_served.specs.hwp_cpu_check.Fits.{AreTold, IsDone, IsFailed, IsTold}
-use Rattle.hwp_law_served.specs.hwp_cpu_check.Told.{frame_of, required_by, severity_at_once}
+use Rattle.hwp_law_served.specs.hwp_claim.declared.Held.{Held}
+use Rattle.hwp_law_served.specs.hwp_claim.declared.EventOutcome.{EventOutcome}
+use Rattle.hwp_law_served.specs.hwp_claim.Checks.{AreChecks, Check, IsActedOn, SawBad, left_by, lines_of, restarting}
+use Rattle.hwp_law_served.specs.hwp_claim.Events.{graded_in}
+use Rattle.hwp_law_served.specs.hwp_claim.Fits.{AreTold, IsDone, IsFailed, IsTold}
+use Rattle.hwp_law_served.specs.hwp_claim.Told.{frame_of, required_by, severity_at_once}
 use Rattle.hwp_law_served.specs.hwp_cpu_row.Acts.{event_at}
 use Rattle.hwp_law_served.proofs.RunEnds.{IsEnd}
 use Rattle.hwp_law_served.proofs.RowLines.{behind}

@@ -33,8 +33,8 @@ use Rattle.hwp_law_served.specs.hwp_law.Events as law
 use Rattle.hwp_law_served.specs.hwp_law.Lines.{answer_of, events_of}
 use Rattle.hwp_law_served.specs.hwp_law.Pairings.{entries_of}
 use Rattle.hwp_law_served.specs.hwp_cpu_row.declared.Row.{Row}
-use Rattle.hwp_law_served.specs.hwp_cpu_check.declared.EventOutcome.{EventOutcome}
-use Rattle.hwp_law_served.specs.hwp_cpu_check.Checks.{IsActedOn, SawBad, lines_of, restarting}
+use Rattle.hwp_law_served.specs.hwp_claim.declared.EventOutcome.{EventOutcome}
+use Rattle.hwp_law_served.specs.hwp_claim.Checks.{IsActedOn, SawBad, lines_of, restarting}
 use Rattle.hwp_law_served.specs.hwp_cpu_row.Acts.{event_at}
 use Rattle.hwp_law_served.specs.Runs.{IsRunOf, row_at}
 use Rattle.hwp_law_served.specs.Served.{AreRowsServed}

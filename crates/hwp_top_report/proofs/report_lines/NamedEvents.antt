@@ -61,11 +61,11 @@ use Rattle.hwp_law_served.specs.hwp_cpu_access.Runs.{AreRuns, IsRun, Run, checks
 use Rattle.hwp_law_served.specs.Copied.{AreChecksOf, IsCopyTold, store_by}
 use Rattle.hwp_top_report.proofs.copied.CopyEvents.{lines-behind}
 use Rattle.hwp_law_served.specs.hwp_claim.declared.Found.{Found}
-use Rattle.hwp_law_served.specs.hwp_cpu_check.declared.Held.{Held}
+use Rattle.hwp_law_served.specs.hwp_claim.declared.Held.{Held}
 use Rattle.hwp_law_served.specs.hwp_cpu_row.declared.Row.{Row}
-use Rattle.hwp_law_served.specs.hwp_cpu_check.declared.EventOutcome.{EventOutcome}
-use Rattle.hwp_law_served.specs.hwp_cpu_check.Checks.{AreChecks, Check, IsActedOn, SawBad, left_by, lines_of, with_own}
-use Rattle.hwp_law_served.specs.hwp_cpu_check.Events.{graded_in}
+use Rattle.hwp_law_served.specs.hwp_claim.declared.EventOutcome.{EventOutcome}
+use Rattle.hwp_law_served.specs.hwp_claim.Checks.{AreChecks, Check, IsActedOn, SawBad, left_by, lines_of, with_own}
+use Rattle.hwp_law_served.specs.hwp_claim.Events.{graded_in}
 use Rattle.hwp_law_served.specs.hwp_scrub.Visits as scrubs
 use Rattle.hwp_law_served.specs.hwp_scrub.Visits.{AreBanks, AreVisits, IsBadMet, IsWeakMet, SawLowest, Visit, left_by_bad, left_by_visit, left_by_weak, lines_of_visit, scrub_bank, scrubbing, with_bad}
 use Rattle.hwp_law_served.proofs.of_hwp_scrub.VisitLaws.{bad-leaves, left-banks}

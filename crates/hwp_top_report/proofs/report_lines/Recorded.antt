@@ -53,11 +53,11 @@ use Rattle.hwp_law_served.specs.hwp_cpu_row.declared.FrameChange.TheVariants as 
 use Rattle.hwp_law_served.specs.hwp_cpu_row.Acts.{Act, Offlined, Told, acts}
 use Rattle.hwp_law_served.specs.hwp_cpu_row.declared.Offlining.{Offlining}
 use Rattle.hwp_law_served.specs.hwp_cpu_row.declared.Row.{Row}
-use Rattle.hwp_law_served.specs.hwp_cpu_check.declared.EventOutcome.{EventOutcome}
+use Rattle.hwp_law_served.specs.hwp_claim.declared.EventOutcome.{EventOutcome}
 use Rattle.hwp_law_served.specs.hwp_claim.Done.{entered_by}
-use Rattle.hwp_law_served.specs.hwp_cpu_check.Done.{failed_by, failed_in}
-use Rattle.hwp_law_served.specs.hwp_cpu_check.Fits.{IsEntered}
-use Rattle.hwp_law_served.specs.hwp_cpu_check.Told.{frame_of, required_by}
+use Rattle.hwp_law_served.specs.hwp_claim.CheckDone.{failed_by, failed_in}
+use Rattle.hwp_law_served.specs.hwp_claim.Fits.{IsEntered}
+use Rattle.hwp_law_served.specs.hwp_claim.Told.{frame_of, required_by}
 use Rattle.hwp_law_served.specs.Accounts.{failures_in, own_failure}
 use Rattle.hwp_law_served.specs.Rows.{Note, act_note, note_by, note_of, offlined, offlined_at, own_note, told_note}
 use Rattle.hwp_law_served.specs.Offlinings.{IsOfflineServed}

@@ -42,9 +42,9 @@ use Rattle.hwp_law_served.specs.hwp_cpu_row.declared.FrameChange.TheVariants as 
 use Rattle.hwp_law_served.specs.hwp_cpu_row.Acts.{Offlined, acts}
 use Rattle.hwp_law_served.specs.hwp_cpu_row.declared.Offlining.{Offlining}
 use Rattle.hwp_law_served.specs.hwp_cpu_row.declared.Row.{Row}
-use Rattle.hwp_law_served.specs.hwp_cpu_check.declared.EventOutcome.{EventOutcome}
-use Rattle.hwp_law_served.specs.hwp_cpu_check.Fits.{IsEntered}
-use Rattle.hwp_law_served.specs.hwp_cpu_check.Told.{required_by}
+use Rattle.hwp_law_served.specs.hwp_claim.declared.EventOutcome.{EventOutcome}
+use Rattle.hwp_law_served.specs.hwp_claim.Fits.{IsEntered}
+use Rattle.hwp_law_served.specs.hwp_claim.Told.{required_by}
 use Rattle.hwp_law_served.specs.Accounts.{act_marking, marking_by, markings, markings_in, own_marking}
 use Rattle.hwp_law_served.specs.Rows.{Note, act_note, lines_of, note_by, offlined, own_note, record_of, row_notes}
 use Rattle.hwp_law_served.proofs.Acts.{offlined-act}

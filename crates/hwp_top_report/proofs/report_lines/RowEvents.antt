@@ -27,8 +27,8 @@ use Rattle.hwp_law_served.specs.hwp_cpu_row.declared.FrameChange.{FrameChange}
 use Rattle.hwp_law_served.specs.hwp_cpu_row.declared.FrameChange.TheVariants as owns
 use Rattle.hwp_law_served.specs.hwp_cpu_row.declared.Offlining.{Offlining}
 use Rattle.hwp_law_served.specs.hwp_cpu_row.declared.Row.{Row}
-use Rattle.hwp_law_served.specs.hwp_cpu_check.declared.EventOutcome.{EventOutcome}
-use Rattle.hwp_law_served.specs.hwp_cpu_check.Told.{frame_of}
+use Rattle.hwp_law_served.specs.hwp_claim.declared.EventOutcome.{EventOutcome}
+use Rattle.hwp_law_served.specs.hwp_claim.Told.{frame_of}
 use Rattle.hwp_law_served.specs.Rows.{Note, act_note, lines_of, note_by, note_of, own_note, row_notes, told_note}
 use Rattle.hwp_law_served.specs.hwp_cpu_row.Acts.{Offlined, Told, acts, acts_from, event_at}
 use Rattle.hwp_law_served.proofs.Sums.{below-one, sum-same}

@@ -16,9 +16,9 @@ use Rattle.hwp_law_served.specs.hwp_core_rule.Steps.{damage_place}
 use Rattle.hwp_law_served.proofs.of_hwp_core_rule.Lists.{at_longer, at_map, each-weaken, map-was}
 use Rattle.hwp_law_served.proofs.of_hwp_core_rule.MoreEntries.{each-append}
 use Rattle.hwp_law_served.specs.hwp_banks.Banks.{Banks, held_from}
-use Rattle.hwp_law_served.specs.hwp_cpu_check.declared.Held.{Held}
-use Rattle.hwp_law_served.specs.hwp_cpu_check.declared.EventOutcome.{EventOutcome}
-use Rattle.hwp_law_served.specs.hwp_cpu_check.Events.{graded_in}
+use Rattle.hwp_law_served.specs.hwp_claim.declared.Held.{Held}
+use Rattle.hwp_law_served.specs.hwp_claim.declared.EventOutcome.{EventOutcome}
+use Rattle.hwp_law_served.specs.hwp_claim.Events.{graded_in}
 use Rattle.hwp_law_served.specs.Scrubs.{IsFoundAt}
 use Rattle.hwp_law_served.specs.hwp_scrub.Visits as scrubs
 use Rattle.hwp_law_served.specs.hwp_scrub.Visits.{AreBanks, AreVisits, Find, IsBadMet, IsVisit, IsWeakMet, SawLowest, Visit, left_by_bad, left_by_visit, lines_of_visit, scrub_bank, scrubbing, with_bad}

@@ -23,7 +23,7 @@ use Rattle.hwp_law_served.specs.hwp_report_text.declared.EventLine.{EventLine}
 use Rattle.hwp_law_served.specs.hwp_report_text.declared.Report.{Report}
 use Rattle.hwp_law_served.specs.hwp_banks.Banks.{Banks}
 use Rattle.hwp_law_served.specs.hwp_law.Lines.{events_of}
-use Rattle.hwp_law_served.specs.hwp_cpu_check.declared.EventOutcome.{EventOutcome}
+use Rattle.hwp_law_served.specs.hwp_claim.declared.EventOutcome.{EventOutcome}
 use Rattle.hwp_law_served.specs.Scrubs.{AreFoundShown, AreLookedAt, HasFound, IsFoundAt}
 use Rattle.hwp_law_served.specs.Turns.{Finds}
 use Rattle.hwp_law_served.proofs.Homes.{there-is}

@@ -13,7 +13,7 @@ use Rattle.hwp_law_served.specs.hwp_law.Pairings.{is_soft_of, says_soft}
 use Rattle.hwp_law_served.specs.hwp_law.Records.{is_taken}
 use Rattle.hwp_law_served.specs.hwp_cpu_row.declared.FrameChange.{FrameChange}
 use Rattle.hwp_law_served.specs.hwp_cpu_row.declared.FrameChange.TheVariants as owns
-use Rattle.hwp_law_served.specs.hwp_cpu_check.declared.EventOutcome.{EventOutcome}
+use Rattle.hwp_law_served.specs.hwp_claim.declared.EventOutcome.{EventOutcome}
 use Rattle.hwp_law_served.specs.Accounts.{IsOwn}
 use Rattle.hwp_law_served.specs.hwp_geom.declared.VSlot.{VSlot}
 use Rattle.hwp_law_served.specs.hwp_banks.Banks.{Banks}

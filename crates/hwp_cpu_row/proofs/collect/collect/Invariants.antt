@@ -1,5 +1,5 @@
 use Rattle.std.proofs.Common.{◌≡◌, ◌+◌, ◌≤◌, List, ◌++◌, length, vec_capacity, vec_len}
-use Rattle.hwp_cpu_check.specs.hwp_geom.declared.Frame.{Frame}
+use Rattle.hwp_claim.specs.hwp_geom.declared.Frame.{Frame}
 use Rattle.hwp_cpu_row.specs.Acts.{told_notes}
 use Rattle.hwp_cpu_row.specs.Dues.{HasNoted}
 use Rattle.hwp_cpu_row.proofs.collect.collect.Given as goal

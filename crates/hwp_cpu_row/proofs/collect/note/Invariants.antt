@@ -1,6 +1,6 @@
 use Rattle.std.proofs.Common.{◌≡◌, ◌+◌, ◌≤◌, map, take, vec_capacity, vec_len, filter_map}
 use Rattle.hwp_cpu_row.specs.Acts.{event_at}
-use Rattle.hwp_cpu_check.specs.hwp_law.Notes.{noted_frame}
+use Rattle.hwp_claim.specs.hwp_law.Notes.{noted_frame}
 use Rattle.hwp_cpu_row.specs.Dues.{HasNoted}
 use Rattle.hwp_cpu_row.proofs.collect.note.Given as goal
 

@@ -4,7 +4,7 @@ use Rattle.hwp_plain.specs.hwp_core_rule.Lists.{EachMember}
 use Rattle.hwp_cpu_row.specs.declared.Offlining.{Offlining}
 use Rattle.hwp_cpu_row.specs.declared.Row.{Row}
 use Rattle.hwp_cpu_row.specs.Acts.{acts}
-use Rattle.hwp_cpu_row.specs.hwp_cpu_check.declared.EventOutcome.{EventOutcome}
+use Rattle.hwp_cpu_row.specs.hwp_claim.declared.EventOutcome.{EventOutcome}
 use Rattle.hwp_law_served.specs.Rows.{act_note, at_number}
 use Rattle.hwp_top_report.specs.Closing.{IsNamed}
 use Rattle.hwp_top_report.proofs.RowLines.{each-at, notes-next}

@@ -1,5 +1,5 @@
 use Rattle.std.proofs.Common.{◌-◌, ◌++◌, List, vec_capacity, vec_len, ap, arith, ◌∙◌}
-use Rattle.hwp_cpu_check.specs.hwp_geom.declared.Frame.{Frame}
+use Rattle.hwp_claim.specs.hwp_geom.declared.Frame.{Frame}
 use Rattle.hwp_cpu_row.specs.Dues.{DueValue}
 use Rattle.hwp_cpu_row.proofs.DueLaws.{due-same}
 use Rattle.hwp_cpu_row.proofs.due.DueFrames.collect.Goals as goal

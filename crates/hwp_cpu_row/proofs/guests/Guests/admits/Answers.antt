@@ -1,8 +1,8 @@
 use Rattle.std.proofs.Common.{◌≡◌, ◌≤◌, List, get_or, length, sym, subst, ◌∙◌, arith}
 use Rattle.std.proofs.lemmas.Bool.{ltb-false}
-use Rattle.hwp_cpu_check.specs.hwp_guest.declared.Admit.TheVariants as admissions
-use Rattle.hwp_cpu_check.specs.hwp_guest.GuestState.{GuestState, admitted}
-use Rattle.hwp_cpu_check.specs.hwp_law.GuestRule.{new_guest}
+use Rattle.hwp_claim.specs.hwp_guest.declared.Admit.TheVariants as admissions
+use Rattle.hwp_claim.specs.hwp_guest.GuestState.{GuestState, admitted}
+use Rattle.hwp_claim.specs.hwp_law.GuestRule.{new_guest}
 use Rattle.hwp_cpu_row.proofs.GuestListLaws.{new-admits}
 use Rattle.hwp_cpu_row.proofs.guests.Guests.admits.Goals as goal
 

@@ -1,5 +1,5 @@
 use Rattle.std.proofs.Common.{sym, ◌∙◌, subst}
-use Rattle.hwp_cpu_check.specs.hwp_report_text.declared.Answer.{Answer}
+use Rattle.hwp_claim.specs.hwp_report_text.declared.Answer.{Answer}
 use Rattle.hwp_cpu_row.specs.GuestLists.{MayTell}
 use Rattle.hwp_cpu_row.proofs.guests.Guests.told.Goals as goal
 

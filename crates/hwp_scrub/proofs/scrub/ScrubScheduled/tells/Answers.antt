@@ -1,5 +1,5 @@
 use Rattle.hwp_scrub.proofs.scrub.ScrubScheduled.tells.Goals as goal
-use Rattle.hwp_cpu_check.proofs.of_hwp_core_rule.tasks.Revivals.{lasting-pays}
+use Rattle.hwp_claim.proofs.of_hwp_core_rule.tasks.Revivals.{lasting-pays}
 use Rattle.hwp_scrub.proofs.ScrubRank.{scrub-lasting, scrub-tells}
 use Rattle.hwp_scrub.specs.Fits.{task as scrub-task}
 
