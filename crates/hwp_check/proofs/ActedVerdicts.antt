@@ -13,7 +13,7 @@ use Rattle.hwp_check_rules.specs.Rules.{AnswersFit, AreAllAnswered, AreLegal, Co
 use Rattle.hwp_check_rules.specs.Verdicts.{HoldBelow, IsVerdict}
 use Rattle.hwp_check_rules.specs.declared.Rule.TheVariants.{Shape, Histories, Answers, Seen, Marks, Count, Losses, Stop, Frames}
 use Rattle.hwp_check_rules.specs.declared.Verdict.TheVariants as verdicts
-use Rattle.hwp_check_rules.specs.hwp_check_acting.ActedOn.{copies_in}
+use Rattle.hwp_check_rules.specs.hwp_check_event_line.Reading.{copies_in}
 use Rattle.hwp_check.specs.Acting.{IsActedOn}
 use Rattle.hwp_check.proofs.InOrder.{one-more}
 

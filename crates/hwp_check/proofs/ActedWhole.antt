@@ -7,10 +7,10 @@ use Rattle.hwp_check_rules.specs.hwp_law.Commands.{has_fork}
 use Rattle.hwp_check_rules.specs.hwp_report_text.declared.Report.{Report}
 use Rattle.hwp_check_rules.specs.hwp_script_read.Valid.{IsValid}
 use Rattle.hwp_check_rules.specs.hwp_script_read.declared.Script.{Script}
-use Rattle.hwp_check_rules.specs.hwp_check_acting.ActedOn.{copies_in}
-use Rattle.hwp_check_rules.specs.hwp_check_acting.Scripts.{IsDeclared}
+use Rattle.hwp_check_rules.specs.hwp_check_event_line.Reading.{copies_in}
+use Rattle.hwp_check_rules.specs.hwp_check_event_line.Scripts.{IsDeclared}
 use Rattle.hwp_check_rules.proofs.of_hwp_law.ActingLaws.{acting-script-unforked, copied-at-unforked}
-use Rattle.hwp_check_rules.proofs.of_hwp_check_acting.DeclaredLaws.{acted-declared, valid-declared}
+use Rattle.hwp_check_rules.proofs.DeclaredLaws.{acted-declared, valid-declared}
 use Rattle.hwp_check.specs.Acting.{IsActedOn}
 
 pub unforked-whole : (script : Script) (report : Report) → IsValid script → has_fork script ≡ false → IsActedOn script report script []

@@ -9,7 +9,7 @@ use Rattle.hwp_check_evidence.specs.hwp_geom.declared.Cpu.{Cpu}
 use Rattle.hwp_check_evidence.specs.hwp_page.declared.Entry.{Entry}
 use Rattle.hwp_check_evidence.specs.hwp_page.declared.What.{What}
 use Rattle.hwp_check_evidence.specs.hwp_page.declared.What.TheVariants as entries
-use Rattle.hwp_check_rules.specs.hwp_check_acting.Scripts.{IsDeclared}
+use Rattle.hwp_check_rules.specs.hwp_check_event_line.Scripts.{IsDeclared}
 use Rattle.hwp_check_evidence.specs.hwp_script_read.declared.Command.{Command}
 use Rattle.hwp_check_evidence.specs.hwp_script_read.declared.Script.{Script}
 use Rattle.hwp_check_evidence.specs.hwp_report_text.declared.CpuLine.{CpuLine}

@@ -5,7 +5,7 @@ use Rattle.hwp_check_evidence.specs.hwp_report_text.declared.Answer.{Answer}
 use Rattle.hwp_check_evidence.specs.hwp_report_text.declared.CpuLine.{CpuLine}
 use Rattle.hwp_check_rules.specs.Answered.{is_answer}
 use Rattle.hwp_check_rules.specs.AnswerFaults.{IsAnswerWrong}
-use Rattle.hwp_check_rules.specs.hwp_check_acting.ActedOn.{copies_in}
+use Rattle.hwp_check_rules.specs.hwp_check_event_line.Reading.{copies_in}
 use Rattle.hwp_check_answers.specs.Facts.{AreGoodRows, IsBadRow, IsFirstBad, IsGoodRow, at_number}
 use Rattle.hwp_check_answers.specs.Judging.{AreSoFar, IsGood}
 use Rattle.hwp_check_answers.specs.Sifting.{AreSound, IsUnsound}

@@ -1,5 +1,5 @@
 ghost use Rattle.std.specs.Prelude.{◌<◌, ◌^◌, IfOk, MatchOption};
-ghost use Rattle.hwp_check_rules.specs.hwp_check_acting.Scripts.{IsDeclared};
+ghost use Rattle.hwp_check_rules.specs.hwp_check_event_line.Scripts.{IsDeclared};
 ghost use Rattle.hwp_check_rules.specs.Firsts.{IsLeast, IsFirstFault, IsClear};
 ghost use Rattle.hwp_check_rules.specs.Standing.{last_line};
 ghost use Rattle.hwp_check_evidence.specs.hwp_law.Events.{AreEvents};
@@ -8,7 +8,7 @@ ghost use Rattle.hwp_check_answers.specs.Offlining.{AreAllOfflined, IsOfflinedLi
 ghost use Rattle.hwp_check_answers.specs.Sifting.{AreAllRight, IsAnswerLine};
 ghost use Rattle.hwp_check_rules.specs.Rules.{AnswersFit, ShapeFits, HistoriesFit};
 ghost use Rattle.hwp_check_rules.specs.AnswerFaults.{IsAnswerFault};
-ghost use Rattle.hwp_check_rules.specs.hwp_check_acting.ActedOn.{copies_in};
+ghost use Rattle.hwp_check_rules.specs.hwp_check_event_line.Reading.{copies_in};
 
 use crate::disorders::disorders;
 use crate::sifting::unsound_answers;

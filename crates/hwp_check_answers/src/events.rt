@@ -1,12 +1,12 @@
 ghost use Rattle.std.specs.Prelude.{◌≡◌, ◌≤◌, ◌<◌, ◌+◌, ◌^◌, IfOk, IfSome, MatchOption};
-ghost use Rattle.hwp_check_rules.specs.hwp_check_acting.Scripts.{IsDeclared};
+ghost use Rattle.hwp_check_rules.specs.hwp_check_event_line.Scripts.{IsDeclared};
 ghost use Rattle.hwp_check_evidence.specs.hwp_law.Events.{AreEvents};
 ghost use Rattle.hwp_check_rules.specs.Firsts.{IsLeast};
 ghost use Rattle.hwp_check_rules.specs.Rules.{ShapeFits};
 ghost use Rattle.hwp_check_rules.specs.Standing.{last_line};
 ghost use Rattle.hwp_check_answers.specs.Joining.{BreakEvents, IsEventLine};
 ghost use Rattle.hwp_check_answers.specs.Firsts.{line_of};
-ghost use Rattle.hwp_check_rules.specs.hwp_check_acting.ActedOn.{copies_in};
+ghost use Rattle.hwp_check_rules.specs.hwp_check_event_line.Reading.{copies_in};
 
 use hwp_check_events::{Misfits, checkers_of, processor_faults, small_masks};
 use hwp_check_rules::{Cpu, List, OutOfMemory, Report, Script, VSlot, cpu_at};

@@ -3,7 +3,7 @@ ghost use Rattle.hwp_check_evidence.specs.hwp_geom.Limits.{page_limit};
 ghost use Rattle.hwp_check_evidence.specs.hwp_kill.declared.Policy.TheVariants.{Default};
 ghost use Rattle.hwp_check_answers.specs.Facts.{AreFacts, AreNamings};
 ghost use Rattle.hwp_check_causes.specs.Knowing.{IsOwn};
-ghost use Rattle.hwp_check_rules.specs.hwp_check_acting.ActedOn.{copies_in};
+ghost use Rattle.hwp_check_rules.specs.hwp_check_event_line.Reading.{copies_in};
 
 use crate::judging::Naming;
 use hwp_check_causes::{CommandFacts, ProcessorFacts, own_of, policies_before};

@@ -16,7 +16,7 @@ pub(crate) struct GivenAnswer<'a> {
 }
 
 impl<'a> Model for GivenAnswer<'a> {
-    ghost use Rattle.hwp_check_rules.specs.hwp_check_acting.ActedOn.{copies_in};
+    ghost use Rattle.hwp_check_rules.specs.hwp_check_event_line.Reading.{copies_in};
     ghost use Rattle.hwp_check_answers.specs.Judging.{IsKnownAnswer};
     ghost use Rattle.hwp_check_answers.specs.Values.{AnswerValue};
 

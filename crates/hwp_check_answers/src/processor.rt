@@ -28,7 +28,7 @@ pub(crate) struct JudgedProcessor<'a> {
 }
 
 impl<'a> Model for JudgedProcessor<'a> {
-    ghost use Rattle.hwp_check_rules.specs.hwp_check_acting.ActedOn.{copies_in};
+    ghost use Rattle.hwp_check_rules.specs.hwp_check_event_line.Reading.{copies_in};
     ghost use Rattle.hwp_check_answers.specs.Facts.{IsReady};
     ghost use Rattle.hwp_check_answers.specs.Values.{ProcessorValue};
 

@@ -1,10 +1,10 @@
 ghost use Rattle.std.specs.Prelude.{◌<◌, ◌^◌, IfOk, MatchOption};
-ghost use Rattle.hwp_check_rules.specs.hwp_check_acting.Scripts.{IsDeclared};
+ghost use Rattle.hwp_check_rules.specs.hwp_check_event_line.Scripts.{IsDeclared};
 ghost use Rattle.hwp_check_rules.specs.Standing.{last_line};
 ghost use Rattle.hwp_check_rules.specs.Firsts.{IsFirstFault, IsClear};
 ghost use Rattle.hwp_check_rules.specs.Rules.{AnswersFit, ShapeFits, HistoriesFit};
 ghost use Rattle.hwp_check_rules.specs.AnswerFaults.{IsAnswerFault};
-ghost use Rattle.hwp_check_rules.specs.hwp_check_acting.ActedOn.{copies_in};
+ghost use Rattle.hwp_check_rules.specs.hwp_check_event_line.Reading.{copies_in};
 
 use crate::answering::{answer_lines, first_of_all};
 use crate::events::{event_lines, lines_break};

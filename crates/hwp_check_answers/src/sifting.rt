@@ -1,9 +1,9 @@
 ghost use Rattle.std.specs.Prelude.{◌+◌, ◌<◌, ◌^◌, IfOk, MatchOption, length};
-ghost use Rattle.hwp_check_rules.specs.hwp_check_acting.Scripts.{IsDeclared};
+ghost use Rattle.hwp_check_rules.specs.hwp_check_event_line.Scripts.{IsDeclared};
 ghost use Rattle.hwp_check_answers.specs.Sifting.{AreAllSound, IsCut, IsFirstAnswer};
 ghost use Rattle.hwp_check_answers.specs.Walk.{AreGoodLines, AreSoundLines, IsFirstBadLine, IsUnsoundLine};
 ghost use Rattle.hwp_check_rules.specs.Standing.{last_line};
-ghost use Rattle.hwp_check_rules.specs.hwp_check_acting.ActedOn.{copies_in};
+ghost use Rattle.hwp_check_rules.specs.hwp_check_event_line.Reading.{copies_in};
 ghost use Rattle.hwp_check_rules.specs.Rules.{ShapeFits, AreLegal};
 
 use crate::placing::first_out;

@@ -2,11 +2,10 @@
 use Rattle.std.proofs.Common.{◌≡◌, ◌<◌, ◌≤◌, List, [], ◌∷◌, Option, Some, None, All, IsSomeAnd, length, slice_get, refl, sym, arith}
 use Rattle.std.proofs.lemmas.List.Elements.{All-cons, All-nil}
 use Rattle.std.proofs.lemmas.Option.{slice_get_within}
-use Rattle.hwp_check_evidence.specs.hwp_geom.Layout.{is_locked}
+use Rattle.hwp_check_evidence.specs.hwp_geom.Layout.{is_locked, IsSound}
 use Rattle.hwp_check_evidence.specs.hwp_geom.declared.Layout.{Layout}
 use Rattle.hwp_check_evidence.specs.hwp_geom.declared.Page.{Page}
 use Rattle.hwp_check_evidence.specs.hwp_geom.declared.TransDecl.{TransDecl}
-use Rattle.hwp_check_evidence.specs.hwp_geom.Layout.{IsSound}
 use Rattle.hwp_check_evidence.specs.hwp_geom.Limits.{translation_limit}
 use Rattle.hwp_check_evidence.specs.hwp_page.History.{Leads}
 use Rattle.hwp_check_evidence.specs.hwp_page.Step.{Allowed, MapsWithin, after, opening_of}
@@ -14,7 +13,7 @@ use Rattle.hwp_check_evidence.specs.hwp_page.declared.Entry.{Entry}
 use Rattle.hwp_check_evidence.specs.hwp_page.declared.PageState.{PageState}
 use Rattle.hwp_check_evidence.specs.hwp_page.declared.What.{What}
 use Rattle.hwp_check_evidence.specs.hwp_page.declared.What.TheVariants as entries
-use Rattle.hwp_check_rules.specs.hwp_check_acting.Scripts.{IsDeclared}
+use Rattle.hwp_check_rules.specs.hwp_check_event_line.Scripts.{IsDeclared}
 use Rattle.hwp_check_evidence.specs.hwp_script_read.declared.Script.{Script}
 use Rattle.hwp_check_evidence.specs.hwp_report_text.declared.Report.{Report}
 use Rattle.hwp_check_evidence.specs.Glances.{AreLegalSteps}

@@ -4,9 +4,9 @@ ghost use Rattle.hwp_check_evidence.specs.Glances.{AreLegalSteps};
 ghost use Rattle.hwp_check_evidence.specs.Firsts.{is_named};
 ghost use Rattle.hwp_check_evidence.specs.Named.{flagged_pages};
 ghost use Rattle.hwp_check_causes.specs.Knowing.{IsKnown, IsOwn};
-ghost use Rattle.hwp_check_rules.specs.hwp_check_acting.Scripts.{IsDeclared};
+ghost use Rattle.hwp_check_rules.specs.hwp_check_event_line.Scripts.{IsDeclared};
 ghost use Rattle.hwp_check_rules.specs.Rules.{ShapeFits, AreLegal};
-ghost use Rattle.hwp_check_rules.specs.hwp_check_acting.ActedOn.{copies_in};
+ghost use Rattle.hwp_check_rules.specs.hwp_check_event_line.Reading.{copies_in};
 
 use crate::facts::{ProcessorFacts, ReportFacts};
 use hwp_check_event_line::{past_of, results_of};

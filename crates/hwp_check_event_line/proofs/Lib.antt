@@ -1,3 +1,4 @@
+pub mod Lookups
 mod NearLaws
 mod RunLaws
 mod NearSteps

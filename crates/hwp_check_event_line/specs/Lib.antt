@@ -9,4 +9,6 @@ pub mod Scrubs
 pub mod Scrubbing
 pub mod Accesses
 pub mod Misfits
+pub mod Reading
+pub mod Scripts
 pub use Rattle.hwp_law.specs as hwp_law

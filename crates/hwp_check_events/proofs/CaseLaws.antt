@@ -6,7 +6,7 @@ use Rattle.hwp_law.specs.hwp_page.declared.Entry.{Entry}
 use Rattle.hwp_law.specs.hwp_report_text.declared.Answer.{Answer}
 use Rattle.hwp_law.specs.hwp_report_text.declared.CpuLine.{CpuLine}
 use Rattle.hwp_law.specs.hwp_report_text.declared.Report.{Report}
-use Rattle.hwp_check_acting.specs.ActedOn.{copies_in}
+use Rattle.hwp_check_event_line.specs.Reading.{copies_in}
 use Rattle.hwp_check_event_line.specs.declared.Shown.{Shown}
 use Rattle.hwp_check_events.specs.Cases.{IsCase, IsCaseAt, IsIndexed, IsOfScript, ProcessorValue, rows_in}
 use Rattle.hwp_check_events.specs.Copied.{AreCopied}

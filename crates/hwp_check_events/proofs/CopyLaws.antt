@@ -18,10 +18,9 @@ use Rattle.hwp_law.specs.hwp_script_read.declared.Command.TheVariants as command
 use Rattle.hwp_law.specs.Copies.{copy_checks, own_in, checks_by, is_load, is_store, lines_at}
 use Rattle.hwp_law.specs.Events.{access_lines, store_lines}
 use Rattle.hwp_law.specs.Lines.{is_same_command}
-use Rattle.hwp_check_acting.specs.ActedOn.{copies_in}
+use Rattle.hwp_check_event_line.specs.Reading.{copies_in, entries_through}
 use Rattle.hwp_check_events.specs.Met.{lines_met}
 use Rattle.hwp_check_events.specs.Copied.{AreCopied, checks_in, copied_by, copied_from, is_counted, own_whats, pair_of}
-use Rattle.hwp_check_acting.specs.Pages.{entries_through}
 use Rattle.hwp_check_events.specs.declared.copied.CopyCheck.{CopyCheck}
 use Rattle.hwp_check_events.specs.declared.known.Checks.{Checks}
 use Rattle.std.specs.List.{flat_map, range_with_len}

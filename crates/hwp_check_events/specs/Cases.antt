@@ -12,8 +12,8 @@ use Rattle.hwp_law.specs.hwp_report_text.declared.Report.{Report}
 use Rattle.hwp_law.specs.Commands.{is_check}
 use Rattle.hwp_law.specs.Lines.{answer_of}
 use Rattle.hwp_law.specs.Pairings.{entries_of}
-use Rattle.hwp_check_acting.specs.ActedOn.{copies_in}
-use Rattle.hwp_check_acting.specs.Scripts.{IsDeclared}
+use Rattle.hwp_check_event_line.specs.Reading.{copies_in}
+use Rattle.hwp_check_event_line.specs.Scripts.{IsDeclared}
 use Rattle.hwp_check_event_line.specs.declared.Shown.{Shown}
 use Rattle.hwp_check_events.specs.Copied.{AreCopied, copied_by}
 use Rattle.hwp_check_events.specs.Indexed.{AreChecks, AreFirst, AreShown, shown_from}

@@ -1,11 +1,10 @@
 ghost use Rattle.std.specs.Prelude.{◌≡◌, ◌<◌, ◌≤◌, ◌^◌, ◌++◌, ◌∷◌, [], cond, false, IfOk, OnOk, get_or, length, map};
 ghost use Rattle.hwp_law.specs.Copies.{checks_by, copy_checks, lines_at};
 ghost use Rattle.hwp_law.specs.Lines.{is_same_command};
-ghost use Rattle.hwp_check_acting.specs.ActedOn.{copies_in};
+ghost use Rattle.hwp_check_event_line.specs.Reading.{copies_in};
 ghost use Rattle.hwp_check_events.specs.Copied.{AreCopied, checks_in, copied_by, is_counted, own_whats, pair_of, test_of};
 
-use hwp_check_acting::{copy_of, entries_through};
-use hwp_check_event_line::is_same_command;
+use hwp_check_event_line::{copy_of, entries_through, is_same_command};
 use hwp_law::{Command, Cpu, Entry, Layout, Line, List, OutOfMemory, Report, VSlot, What, Who};
 use std::alloc::Global;
 

@@ -1,5 +1,5 @@
 ghost use Rattle.std.specs.Prelude.{◌≡◌, ◌≤◌, ◌<◌, ◌+◌, ◌^◌, Some, length, slice_get, sum_by, IfOk};
-ghost use Rattle.hwp_check_acting.specs.Scripts.{IsDeclared};
+ghost use Rattle.hwp_check_event_line.specs.Scripts.{IsDeclared};
 ghost use Rattle.hwp_check_events.specs.Cases.{IsCaseAt, IsOfScript};
 ghost use Rattle.hwp_check_events.specs.Indexed.{all_checkers};
 
@@ -8,8 +8,7 @@ use crate::checks::checks_by_command;
 use crate::copied::{copied_of, list_at};
 use crate::index::{answers_by_command, events_by_command};
 use crate::known::Known;
-use hwp_check_acting::rows_on;
-use hwp_check_event_line::{Shown, Traced};
+use hwp_check_event_line::{Shown, Traced, rows_on};
 use hwp_law::{Answer, Command, Cpu, Line, List, OutOfMemory, Script, VSlot, Who};
 use std::alloc::Global;
 use std::marker::Model;

@@ -5,7 +5,7 @@ ghost use Rattle.hwp_law.specs.Events.{access_lines};
 ghost use Rattle.hwp_law.specs.Lines.{answer_of};
 ghost use Rattle.hwp_check_event_line.specs.Firsts.{IsScanned, shown_lines};
 ghost use Rattle.hwp_check_event_line.specs.Found.{of_access};
-ghost use Rattle.hwp_check_acting.specs.ActedOn.{copies_in};
+ghost use Rattle.hwp_check_event_line.specs.Reading.{copies_in};
 ghost use Rattle.hwp_check_events.specs.Copied.{copied_by};
 ghost use Rattle.hwp_check_events.specs.Judged.{IsAccessJudged, IsJudged, IsRaiseJudged, IsScrubJudged, IsTable};
 ghost use Rattle.hwp_check_event_line.specs.Misfits.{is_scrubbed, logged_if};
@@ -14,8 +14,7 @@ use crate::case::EventCase;
 use crate::faults::{access_faults, any, raise_faults};
 use crate::known::Checks;
 use hwp_banks::{Bank, Event, Origin, Status};
-use hwp_check_acting::copy_of;
-use hwp_check_event_line::{Faults, Shown, scrub_faults};
+use hwp_check_event_line::{Faults, Shown, copy_of, scrub_faults};
 use hwp_law::{Answer, Arrival, Command, Frame, Line, McgBits, Mode};
 
 /// How the machine checks of a command arrive.

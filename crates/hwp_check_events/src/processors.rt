@@ -1,7 +1,7 @@
 ghost use Rattle.std.specs.Prelude.{◌≡◌, ◌≤◌, ◌<◌, ◌+◌, ◌*◌, ◌^◌, [], Some, length, slice_get, sum_by, All, IfOk};
 ghost use Rattle.hwp_law.specs.hwp_report_text.declared.FrameLine.{FrameLine};
-ghost use Rattle.hwp_check_acting.specs.ActedOn.{copies_in};
-ghost use Rattle.hwp_check_acting.specs.Scripts.{IsDeclared};
+ghost use Rattle.hwp_check_event_line.specs.Reading.{copies_in};
+ghost use Rattle.hwp_check_event_line.specs.Scripts.{IsDeclared};
 ghost use Rattle.hwp_check_events.specs.Indexed.{all_checkers};
 ghost use Rattle.hwp_check_events.specs.Walked.{IsProcessorJudged, IsTableOf};
 

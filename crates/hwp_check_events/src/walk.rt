@@ -1,5 +1,5 @@
 ghost use Rattle.std.specs.Prelude.{◌≡◌, ◌*◌, [], length};
-ghost use Rattle.hwp_check_acting.specs.ActedOn.{copies_in};
+ghost use Rattle.hwp_check_event_line.specs.Reading.{copies_in};
 ghost use Rattle.hwp_check_events.specs.Cases.{rows_in};
 ghost use Rattle.hwp_check_events.specs.Walked.{IsTableOf, IsWalked, joined, place_at, sooner};
 

@@ -3,7 +3,7 @@ ghost use Rattle.hwp_law.specs.Commands.{has_watch};
 ghost use Rattle.hwp_law.specs.Answers.{frame_named, is_ample};
 ghost use Rattle.hwp_check_evidence.specs.Ample.{flags_of, noted, noted_in, noted_list, usable_by};
 
-use hwp_check_acting::has_watch;
+use hwp_check_event_line::has_watch;
 use hwp_law::{Command, List, OutOfMemory, Script};
 use std::alloc::Global;
 

@@ -4,7 +4,7 @@ ghost use Rattle.hwp_check_evidence.specs.Ends.{any_ended, never, own_page_ends,
 ghost use Rattle.hwp_check_evidence.specs.Firsts.{is_named};
 ghost use Rattle.hwp_check_evidence.specs.Findings.{AreFound, IsAdded};
 ghost use Rattle.hwp_check_evidence.specs.Named.{flagged_page};
-ghost use Rattle.hwp_check_acting.specs.ActedOn.{copies_in};
+ghost use Rattle.hwp_check_event_line.specs.Reading.{copies_in};
 
 use crate::ends::{end_any, end_own, no_ends, process_numbers};
 use crate::named::flag;

@@ -1,12 +1,12 @@
 ghost use Rattle.std.specs.Prelude.{◌≡◌, ◌↔◌, ◌<◌, false, None, IsTrue, length, replicate, slice_index_or};
 ghost use Rattle.hwp_law.specs.Answers.{is_answering};
 ghost use Rattle.hwp_law.specs.Copies.{is_sigbus, must_be_named};
-ghost use Rattle.hwp_check_acting.specs.ActedOn.{copies_in};
+ghost use Rattle.hwp_check_event_line.specs.Reading.{copies_in};
 ghost use Rattle.hwp_check_evidence.specs.Firsts.{is_at, is_named};
 ghost use Rattle.hwp_check_evidence.specs.Named.{HasOther, flagged, flagged_pages, is_other};
 
 use crate::names::{Names, is_named};
-use hwp_check_acting::copy_of;
+use hwp_check_event_line::copy_of;
 use hwp_law::{At, Cpu, Entry, List, Met, VSlot, What, Who};
 
 /// Whether a line of the command has to name the entry.

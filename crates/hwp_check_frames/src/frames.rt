@@ -1,5 +1,5 @@
 ghost use Rattle.std.specs.Prelude.{◌<◌, ◌+◌, ◌^◌, length, IfOk, MatchBool, MatchOption};
-ghost use Rattle.hwp_check_rules.specs.hwp_check_acting.Scripts.{IsDeclared};
+ghost use Rattle.hwp_check_rules.specs.hwp_check_event_line.Scripts.{IsDeclared};
 ghost use Rattle.hwp_check_rules.specs.hwp_law.Lines.{marks_of};
 ghost use Rattle.hwp_check_frames.specs.Index.{IsIndex};
 ghost use Rattle.hwp_check_frames.specs.MarkScans.{AreRightMarks, FrameFits, IsFirstWrongMark, IsFrameFaultAt, IsRecordFault, NoneBeyond, RecordsFit, SomeBeyond};

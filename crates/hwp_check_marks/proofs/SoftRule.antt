@@ -6,7 +6,7 @@ use Rattle.std.proofs.lemmas.Option.{none-some, same_Some, slice_get-get_or}
 use Rattle.hwp_check_rules.specs.hwp_geom.declared.Frame.{Frame}
 use Rattle.hwp_check_rules.specs.hwp_geom.declared.Who.{Who}
 use Rattle.hwp_check_rules.specs.hwp_page.declared.At.{At}
-use Rattle.hwp_check_rules.specs.hwp_check_acting.Scripts.{IsDeclared}
+use Rattle.hwp_check_rules.specs.hwp_check_event_line.Scripts.{IsDeclared}
 use Rattle.hwp_check_rules.specs.hwp_script_read.declared.Command.{Command}
 use Rattle.hwp_check_rules.specs.hwp_script_read.declared.Command.TheVariants as commands
 use Rattle.hwp_check_rules.specs.hwp_script_read.declared.Script.{Script}

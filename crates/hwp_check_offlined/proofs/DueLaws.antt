@@ -12,7 +12,7 @@ use Rattle.hwp_check_rules.specs.hwp_geom.declared.Layout.{Layout}
 use Rattle.hwp_check_rules.specs.hwp_script_read.declared.Command.{Command}
 use Rattle.hwp_check_rules.specs.hwp_script_read.declared.Command.TheVariants as commands
 use Rattle.hwp_check_rules.specs.hwp_script_read.declared.Script.{Script}
-use Rattle.hwp_check_rules.specs.hwp_check_acting.Scripts.{IsDeclared}
+use Rattle.hwp_check_rules.specs.hwp_check_event_line.Scripts.{IsDeclared}
 use Rattle.hwp_check_rules.specs.hwp_script_read.Valid.{IsCommandOf}
 use Rattle.hwp_check_rules.specs.hwp_report_text.declared.Answer.{Answer}
 use Rattle.hwp_check_rules.specs.hwp_report_text.declared.Answer.TheVariants as answers

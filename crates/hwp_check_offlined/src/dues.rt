@@ -1,5 +1,5 @@
 ghost use Rattle.std.specs.Prelude.{◌≡◌, ◌≤◌, IfOk, Some, length, slice_get};
-ghost use Rattle.hwp_check_rules.specs.hwp_check_acting.Scripts.{IsDeclared};
+ghost use Rattle.hwp_check_rules.specs.hwp_check_event_line.Scripts.{IsDeclared};
 ghost use Rattle.hwp_check_events.specs.Indexed.{AreShown};
 ghost use Rattle.hwp_check_rules.specs.hwp_law.Lines.{answers_to};
 ghost use Rattle.hwp_check_offlined.specs.Dues.{AreDues};

@@ -1,5 +1,5 @@
 ghost use Rattle.std.specs.Prelude.{◌≡◌, [], IfOk, MatchOption, Some, length, slice_get};
-ghost use Rattle.hwp_check_rules.specs.hwp_check_acting.Scripts.{IsDeclared};
+ghost use Rattle.hwp_check_rules.specs.hwp_check_event_line.Scripts.{IsDeclared};
 ghost use Rattle.hwp_check_offlined.specs.Judged.{AreSuch, IsFirstOther, IsJudged, IsTold};
 ghost use Rattle.hwp_check_offlined.specs.Tallied.{due_in, is_of};
 

@@ -15,7 +15,7 @@ use Rattle.hwp_check_rules.specs.hwp_report_text.declared.Report.{Report}
 use Rattle.hwp_check_rules.specs.hwp_script_read.declared.Command.{Command}
 use Rattle.hwp_check_rules.specs.hwp_script_read.declared.Command.TheVariants as commands
 use Rattle.hwp_check_processes.specs.Loads.{expected, word_expected}
-use Rattle.hwp_check_rules.specs.hwp_check_acting.Pages.{entries_through}
+use Rattle.hwp_check_rules.specs.hwp_check_event_line.Reading.{entries_through}
 use Rattle.hwp_check_processes.specs.Words.{last_before, last_stored, pair_in, word_if}
 use Rattle.hwp_check_processes.specs.declared.words.Spot.{Spot}
 use Rattle.std.specs.List.{cons_option}

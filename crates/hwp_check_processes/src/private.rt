@@ -1,5 +1,5 @@
 ghost use Rattle.std.specs.Prelude.{◌≡◌, ◌<◌, ◌≤◌, ◌^◌, false, None, Ok, Some, IfOk, MatchOption, length};
-ghost use Rattle.hwp_check_rules.specs.hwp_check_acting.Scripts.{IsDeclared};
+ghost use Rattle.hwp_check_rules.specs.hwp_check_event_line.Scripts.{IsDeclared};
 ghost use Rattle.hwp_check_rules.specs.hwp_law.Private.{ArePrivate};
 ghost use Rattle.hwp_check_rules.specs.hwp_law.Commands.{has_fork};
 ghost use Rattle.hwp_check_rules.specs.AnswerFaults.{IsPrivateFault};

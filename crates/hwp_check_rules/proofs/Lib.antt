@@ -6,6 +6,10 @@ pub mod InText
 pub mod PastLaws
 pub mod SettingLaws
 pub mod StandingLaws
-pub use Rattle.hwp_check_acting.proofs as of_hwp_check_acting
+mod CowSteps
+mod PairLaws
+mod AnswerLaws
+mod ActedLists
+pub mod DeclaredLaws
 pub use Rattle.hwp_law.proofs as of_hwp_law
 pub use Rattle.hwp_law.proofs.of_hwp_page as of_hwp_page

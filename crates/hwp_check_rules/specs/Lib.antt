@@ -8,8 +8,8 @@ pub mod AnswerFaults
 pub mod GuestFaults
 pub mod Verdicts
 pub mod Pasts
+pub mod ActedOn
 pub use Rattle.hwp_law.specs.hwp_banks as hwp_banks
-pub use Rattle.hwp_check_acting.specs as hwp_check_acting
 pub use Rattle.hwp_check_event_line.specs as hwp_check_event_line
 pub use Rattle.hwp_law.specs.hwp_geom as hwp_geom
 pub use Rattle.hwp_law.specs.hwp_kill as hwp_kill

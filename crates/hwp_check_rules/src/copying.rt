@@ -1,10 +1,10 @@
 ghost use Rattle.std.specs.Prelude.{◌≡◌, ◌↔◌, IsSomeAnd, IsTrue};
 ghost use Rattle.hwp_law.specs.Copies.{FitsCopy, IsCopyPage, MakesCopy, slot_in};
 ghost use Rattle.hwp_law.specs.hwp_geom.declared.VSlot.{VSlot as Slot};
-ghost use Rattle.hwp_check_acting.specs.ActedOn.{copies_in};
+ghost use Rattle.hwp_check_event_line.specs.Reading.{copies_in};
 
 use crate::making::{is_met_by, leads_to};
-use hwp_check_acting::copy_of;
+use hwp_check_event_line::copy_of;
 use hwp_law::{Command, Entry, Layout, List, Page, Thread, VSlot, What};
 
 /// Whether the entry is one of a copy from one translation through another by the thread.

@@ -1,21 +1,27 @@
-//! The nine rules by which a report is judged, which lines break them, and what several rules read of a report.
+//! The nine rules by which a report is judged, which lines break them, and what several rules read of a report. And the script that
+//! the processors of a report acted on: each command through the translations that stood for those it names; and which stores copied
+//! a page before they wrote.
 #![tactic(auto)]
 
+mod acted;
+mod acting;
 mod copying;
+mod cows;
 mod first;
 mod making;
+mod pairs;
 mod pasts;
 mod policies;
 mod rows;
 mod standing;
 mod verdicts;
 
+pub use acted::{ActedScript, acted_on, has_fork};
+pub use cows::freezes_slot;
 pub use first::{sooner, sooner_if, soonest};
-pub use hwp_check_acting::{
-    ActedScript, acted_on, answers_to, copy_of, entries_on, entries_through, freezes_slot,
-    has_fork, has_watch, pairs_of, rows_on, watches,
+pub use hwp_check_event_line::{
+    Shown, copy_of, entries_on, entries_through, has_watch, rows_on, watches,
 };
-pub use hwp_check_event_line::Shown;
 pub use hwp_law::{
     Access, Acted, Admit, Answer, At, Code, Command, Cpu, CpuLine, Entry, EventLine, FileNo, Frame,
     FrameLine, GuestAccess, GuestLine, How, Layout, Line, List, MarkLine, Mask, McgBits, Met, Mode,
@@ -25,6 +31,7 @@ pub use hwp_law::{
     words_in,
 };
 pub use making::{command_of, is_made_by, leads_to};
+pub use pairs::{answers_to, pairs_of};
 pub use pasts::{ThreadPolicies, done_of, pasts_of};
 pub use policies::policy_before;
 pub use rows::{answer_among, answer_of, commands_of, is_answer, rows_of, seq_of};

@@ -1,7 +1,7 @@
 ghost use Rattle.std.specs.Prelude.{◌≡◌, ◌⊎◌, ◌↔◌, IsTrue, IsSomeAnd, None};
 ghost use Rattle.hwp_law.specs.hwp_page.Step.{IsOf};
 ghost use Rattle.hwp_law.specs.Commands.{access_of, can_fail, can_offline, command_at, current_thread, has_watch};
-ghost use Rattle.hwp_check_acting.specs.ActedOn.{copies_in};
+ghost use Rattle.hwp_check_event_line.specs.Reading.{copies_in};
 ghost use Rattle.hwp_law.specs.Entries.{CanStandIn, IsAccessAt, IsMadeBy, IsRequiredBy, Makes};
 ghost use Rattle.hwp_law.specs.History.{Fits, FitsAccess, FitsLoad, FitsStore, IsMetBy, IsStoredBy, Names};
 

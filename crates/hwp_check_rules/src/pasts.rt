@@ -6,7 +6,7 @@ ghost use Rattle.hwp_check_rules.specs.Pasts.{AreCounts, AreDone, ArePasts, IsPa
 
 use crate::policies::set_if;
 use crate::rows::commands_of;
-use hwp_check_acting::rows_on;
+use hwp_check_event_line::rows_on;
 use hwp_law::{
     Answer, Command, Cpu, CpuLine, Layout, List, OutOfMemory, Policy, Report, Script, Thread,
 };

@@ -2,7 +2,7 @@ ghost use Rattle.std.specs.Prelude.{◌≡◌, [], slice_get, unwrap_or};
 ghost use Rattle.hwp_law.specs.Lines.{answer_among, answer_of, rows_of, seq_of};
 ghost use Rattle.hwp_check_rules.specs.Answered.{is_answer};
 
-use hwp_check_acting::rows_on;
+use hwp_check_event_line::rows_on;
 use hwp_law::{Answer, Command, Cpu, CpuLine, Report, Script, Who};
 
 /// The commands of a processor.

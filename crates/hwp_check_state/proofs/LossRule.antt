@@ -5,7 +5,7 @@ use Rattle.std.proofs.lemmas.List.{length-take}
 use Rattle.std.proofs.lemmas.Option.{same_Some, slice_get-get_or, slice_get_within, unwrap_or-slice_get}
 use Rattle.hwp_check_rules.specs.hwp_geom.declared.Cpu.{Cpu}
 use Rattle.hwp_check_rules.specs.hwp_geom.declared.FileNo.{FileNo}
-use Rattle.hwp_check_rules.specs.hwp_check_acting.Scripts.{IsDeclared}
+use Rattle.hwp_check_rules.specs.hwp_check_event_line.Scripts.{IsDeclared}
 use Rattle.hwp_check_rules.specs.hwp_script_read.declared.Command.{Command}
 use Rattle.hwp_check_rules.specs.hwp_script_read.declared.Script.{Script}
 use Rattle.hwp_check_rules.specs.hwp_report_text.declared.Answer.{Answer}

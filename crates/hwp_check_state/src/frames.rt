@@ -1,6 +1,6 @@
 ghost use Rattle.std.specs.Prelude.{◌≡◌, ◌==◌, ◌&&◌, ◌≤◌, ◌<◌, ◌^◌, ℕ, nat_lt, not, false, Some, None, cond, length, map, option_map, slice_get, slice_index_or, take, unwrap_or, IfOk, IfSome, MatchOption};
 ghost use Rattle.hwp_check_rules.specs.hwp_geom.Limits.{frame_limit};
-ghost use Rattle.hwp_check_rules.specs.hwp_check_acting.Scripts.{IsDeclared};
+ghost use Rattle.hwp_check_rules.specs.hwp_check_event_line.Scripts.{IsDeclared};
 ghost use Rattle.hwp_check_rules.specs.hwp_law.Records.{ends_poisoned};
 ghost use Rattle.hwp_check_rules.specs.Faults.{first_free, is_free, sayers, IsFrameFault};
 ghost use Rattle.hwp_check_state.specs.Frames.{AreMarked, AreRight, bad_bit, cached_after, cached_by, is_beyond, is_placed, is_right_frame, is_right_line, is_unsaid_from, keeps, marked_at, said_by, said_with, weak_bit, with_bad, with_bits, with_weak};

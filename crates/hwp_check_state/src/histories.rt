@@ -1,13 +1,13 @@
 ghost use Rattle.std.specs.Prelude.{◌≡◌, ℕ, ◌+◌, ◌<◌, ◌^◌, length, sum_by, Some, slice_get, MatchBool, MatchOption, MatchResult};
 ghost use Rattle.hwp_check_rules.specs.hwp_geom.Layout.{IsSound};
-ghost use Rattle.hwp_check_rules.specs.hwp_check_acting.Scripts.{IsDeclared};
+ghost use Rattle.hwp_check_rules.specs.hwp_check_event_line.Scripts.{IsDeclared};
 ghost use Rattle.hwp_check_rules.specs.hwp_law.Commands.{has_watch};
 ghost use Rattle.hwp_check_state.specs.Histories.{IsRightEntry, IsWrongAt, IsWrongEntry, PageFits};
 ghost use Rattle.hwp_check_rules.specs.Standing.{entry_height as height_of, last_line};
 ghost use Rattle.hwp_check_rules.specs.Firsts.{IsFirstFault};
 ghost use Rattle.hwp_check_rules.specs.Rules.{HistoriesFit, ShapeFits};
 ghost use Rattle.hwp_check_rules.specs.Faults.{IsHistoryFault};
-ghost use Rattle.hwp_check_rules.specs.hwp_check_acting.ActedOn.{copies_in};
+ghost use Rattle.hwp_check_rules.specs.hwp_check_event_line.Reading.{copies_in};
 
 use hwp_check_rules::{
     Entry, List, Page, PageKind, PageState, Report, Script, VSlot, entry_height, first_page_line,

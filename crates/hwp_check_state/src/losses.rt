@@ -1,5 +1,5 @@
 ghost use Rattle.std.specs.Prelude.{IfOk, MatchOption};
-ghost use Rattle.hwp_check_rules.specs.hwp_check_acting.Scripts.{IsDeclared};
+ghost use Rattle.hwp_check_rules.specs.hwp_check_event_line.Scripts.{IsDeclared};
 ghost use Rattle.hwp_check_rules.specs.Rules.{ShapeFits, LossesFit, AreAllAnswered};
 ghost use Rattle.hwp_check_state.specs.Lost.{AreLosses};
 ghost use Rattle.hwp_check_state.specs.Handles.{IsFirstLost, IsFirstTold};

@@ -4,7 +4,7 @@ ghost use Rattle.std.specs.List.Sorted.{IsNonDecreasingBy};
 ghost use Rattle.hwp_check_rules.specs.hwp_law.Settings.{last_policy};
 ghost use Rattle.hwp_check_rules.specs.hwp_law.SeenPolicies.{IsOwnCount, IsPolicySeen};
 ghost use Rattle.hwp_check_rules.specs.hwp_kill.declared.Policy.TheVariants.{Default};
-ghost use Rattle.hwp_check_rules.specs.hwp_check_acting.Scripts.{IsDeclared};
+ghost use Rattle.hwp_check_rules.specs.hwp_check_event_line.Scripts.{IsDeclared};
 ghost use Rattle.hwp_check_rules.specs.Pasts.{ArePasts, IsPast};
 ghost use Rattle.hwp_check_state.specs.Sights.{IsBelow, IsFirstOf, IsNotBelow, IsRight, IsSmall, IsWrong, group_of, key_of, top_of};
 ghost use Rattle.hwp_check_rules.specs.Standing.{last_line};

@@ -7,7 +7,7 @@ use Rattle.hwp_check_answers.proofs.OrderLaws.{read-at}
 use Rattle.hwp_check_answers.proofs.Processors.{IsFirst, cpu_of, first-line, row-room}
 use Rattle.hwp_check_answers.proofs.Reports.{all-legal, found, legal, one-more, pages-room, row-fits}
 use Rattle.hwp_check_answers.proofs.events.event_lines.Goals as goal
-use Rattle.hwp_check_rules.specs.hwp_check_acting.ActedOn.{copies_in}
+use Rattle.hwp_check_rules.specs.hwp_check_event_line.Reading.{copies_in}
 
 pub processor_faults-requires-clause-room : goal.processor_faults-requires-clause-room
 processor_faults-requires-clause-room c = pages-room c.args.report.now c.requires.room

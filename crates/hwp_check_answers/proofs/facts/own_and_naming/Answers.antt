@@ -1,6 +1,6 @@
 use Rattle.hwp_check_answers.proofs.FactLaws.{namings}
 use Rattle.hwp_check_answers.proofs.facts.own_and_naming.Goals as goal
-use Rattle.hwp_check_rules.specs.hwp_check_acting.ActedOn.{copies_in}
+use Rattle.hwp_check_rules.specs.hwp_check_event_line.Reading.{copies_in}
 
 pub returns-clause-naming : goal.returns-clause-naming
 returns-clause-naming c =

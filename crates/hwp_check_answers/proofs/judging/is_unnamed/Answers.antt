@@ -8,7 +8,7 @@ use Rattle.hwp_check_rules.specs.AnswerFaults.{IsUnnamed}
 use Rattle.hwp_check_answers.specs.Values.{AnswerValue}
 use Rattle.hwp_check_answers.proofs.JudgeLaws.{is_unnamed, unnamed_is}
 use Rattle.hwp_check_answers.proofs.judging.is_unnamed.Goals as goal
-use Rattle.hwp_check_rules.specs.hwp_check_acting.ActedOn.{copies_in}
+use Rattle.hwp_check_rules.specs.hwp_check_event_line.Reading.{copies_in}
 
 pub returns : goal.returns
 returns c =

@@ -6,7 +6,7 @@ use Rattle.hwp_check_rules.proofs.StandingLaws.{next-line, within-report}
 use Rattle.hwp_check_answers.proofs.OrderLaws.{none-of}
 use Rattle.hwp_check_answers.proofs.SiftLaws.{all_sound, cpus_fit, found_answer, list_there, none_sound, sound_more}
 use Rattle.hwp_check_answers.proofs.sifting.unsound_answers.Goals as goal
-use Rattle.hwp_check_rules.specs.hwp_check_acting.ActedOn.{copies_in}
+use Rattle.hwp_check_rules.specs.hwp_check_event_line.Reading.{copies_in}
 
 -- what was found of a processor whose heading stands at `heading`
 abbrev Sifted : ProcessorValue → ℕ → Option ℕ → Type 0

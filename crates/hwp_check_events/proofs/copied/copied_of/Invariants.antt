@@ -1,5 +1,5 @@
 use Rattle.std.proofs.Common.{◌≡◌, length}
-use Rattle.hwp_check_acting.specs.ActedOn.{copies_in}
+use Rattle.hwp_check_event_line.specs.Reading.{copies_in}
 use Rattle.hwp_check_events.specs.Copied.{AreCopied}
 use Rattle.hwp_check_events.proofs.copied.copied_of.Given as goal
 

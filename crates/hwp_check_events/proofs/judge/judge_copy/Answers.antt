@@ -4,7 +4,7 @@ use Rattle.hwp_law.specs.Commands.{arrival_of}
 use Rattle.hwp_law.specs.hwp_severity.declared.Arrival.{Arrival}
 use Rattle.hwp_check_event_line.specs.Firsts.{shown_lines}
 use Rattle.hwp_check_events.specs.Cases.{CaseValue}
-use Rattle.hwp_check_acting.specs.ActedOn.{copies_in}
+use Rattle.hwp_check_event_line.specs.Reading.{copies_in}
 use Rattle.hwp_check_events.specs.Copied.{copied_by}
 use Rattle.hwp_check_events.specs.Judged.{IsAccessJudged}
 use Rattle.hwp_check_events.proofs.CopyLaws.{met-copied}

@@ -2,7 +2,7 @@ use Rattle.std.proofs.Common.{All, ◌<◌, ◌^◌, length, subst}
 use Rattle.std.proofs.lemmas.Result.{IfOk-from_err}
 use Rattle.hwp_law.specs.hwp_report_text.declared.FrameLine.{FrameLine}
 use Rattle.hwp_law.specs.hwp_report_text.declared.Report.{Report}
-use Rattle.hwp_check_acting.specs.ActedOn.{copies_in}
+use Rattle.hwp_check_event_line.specs.Reading.{copies_in}
 use Rattle.hwp_check_events.specs.Cases.{ProcessorValue, rows_in}
 use Rattle.hwp_check_events.specs.Walked.{IsWalked}
 use Rattle.hwp_check_events.proofs.Verdicts.{processor-judged}

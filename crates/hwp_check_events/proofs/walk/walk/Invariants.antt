@@ -1,4 +1,4 @@
-use Rattle.hwp_check_acting.specs.ActedOn.{copies_in}
+use Rattle.hwp_check_event_line.specs.Reading.{copies_in}
 use Rattle.hwp_check_events.specs.Cases.{rows_in}
 use Rattle.hwp_check_events.proofs.WalkSteps.{SoFar}
 use Rattle.hwp_check_events.proofs.walk.walk.Given as goal

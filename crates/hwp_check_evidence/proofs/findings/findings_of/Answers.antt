@@ -3,7 +3,7 @@ use Rattle.hwp_check_evidence.specs.Ends.{never}
 use Rattle.hwp_check_evidence.specs.Firsts.{is_named}
 use Rattle.hwp_check_evidence.proofs.FindingLaws.{found-all, found-more, found-none}
 use Rattle.hwp_check_evidence.proofs.findings.findings_of.Goals as goal
-use Rattle.hwp_check_acting.specs.ActedOn.{copies_in}
+use Rattle.hwp_check_event_line.specs.Reading.{copies_in}
 
 pub loop-entries-init : goal.loop-entries-init
 loop-entries-init c =

@@ -1,7 +1,7 @@
 use Rattle.std.proofs.Common.{ℕ, ◌+◌, drop, fold, ap, sym, ◌∙◌}
 use Rattle.std.proofs.lemmas.List.{at_drop_all, at_drop_more}
 use Rattle.hwp_law.specs.hwp_page.declared.Entry.{Entry}
-use Rattle.hwp_check_acting.specs.ActedOn.{copies_in}
+use Rattle.hwp_check_event_line.specs.Reading.{copies_in}
 use Rattle.hwp_check_evidence.specs.Ends.{any_ended, own_ended, own_page_ends}
 use Rattle.hwp_check_evidence.specs.Firsts.{is_named}
 use Rattle.hwp_check_evidence.specs.Named.{flagged, flagged_page}

@@ -3,7 +3,7 @@ use Rattle.hwp_check_evidence.specs.Firsts.{is_named}
 use Rattle.hwp_check_evidence.specs.Ends.{any_ended, own_page_ends}
 use Rattle.hwp_check_evidence.specs.Named.{flagged_page}
 use Rattle.hwp_check_evidence.proofs.findings.note_page.Given as goal
-use Rattle.hwp_check_acting.specs.ActedOn.{copies_in}
+use Rattle.hwp_check_event_line.specs.Reading.{copies_in}
 
 abbrev pub invariant-loop-entry : goal.invariant-loop-entry
 invariant-loop-entry l =

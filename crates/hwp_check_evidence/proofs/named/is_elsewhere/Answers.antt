@@ -3,7 +3,7 @@ use Rattle.hwp_check_evidence.specs.Firsts.{is_named}
 use Rattle.hwp_check_evidence.specs.Named.{flagged_pages}
 use Rattle.hwp_check_evidence.proofs.NamedLaws.{flagged-other, other-flagged}
 use Rattle.hwp_check_evidence.proofs.named.is_elsewhere.Goals as goal
-use Rattle.hwp_check_acting.specs.ActedOn.{copies_in}
+use Rattle.hwp_check_event_line.specs.Reading.{copies_in}
 
 pub returns : goal.returns
 returns c =

@@ -1,7 +1,7 @@
 use Rattle.std.proofs.Common.{ap, sym, ◌∙◌}
 use Rattle.std.proofs.lemmas.Bool.{false≢true, eqb-true, eq-eqb}
 use Rattle.hwp_law.specs.hwp_geom.declared.Page.{Page}
-use Rattle.hwp_check_acting.proofs.Lookups.{found-there, none-there}
+use Rattle.hwp_check_event_line.proofs.Lookups.{found-there, none-there}
 use Rattle.hwp_check_rules.proofs.making.leads_to.Goals as goal
 
 pub returns-in-Some : goal.returns-in-Some

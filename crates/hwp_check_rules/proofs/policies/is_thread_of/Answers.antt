@@ -1,7 +1,7 @@
 use Rattle.std.proofs.Common.{◌==◌, Option, false, sym, ap, ◌∙◌}
 use Rattle.std.specs.Option.{option_map_or}
 use Rattle.hwp_law.specs.hwp_geom.declared.ThreadDecl.{ThreadDecl}
-use Rattle.hwp_check_acting.proofs.Lookups.{found-there, none-there}
+use Rattle.hwp_check_event_line.proofs.Lookups.{found-there, none-there}
 use Rattle.hwp_check_rules.proofs.policies.is_thread_of.Goals as goal
 
 pub returns-in-Some : goal.returns-in-Some

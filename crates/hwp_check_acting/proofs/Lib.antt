@@ -1,6 +1,0 @@
-pub mod Lookups
-mod CowSteps
-mod PairLaws
-mod AnswerLaws
-mod ActedLists
-pub mod DeclaredLaws

@@ -1,3 +1,0 @@
-pub mod ActedOn
-pub mod Scripts
-pub mod Pages
