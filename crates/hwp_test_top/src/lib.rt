@@ -1,10 +1,12 @@
 //! Tests of the top calls: faults of the source and the sink, scripts made from a seed, races, which are two processors under every order
-//! of their first turns, and processors on threads that meet inside their commands. Each report of a race is judged, and those of some
-//! meetings are compared with what they may come to.
+//! of their first turns, processors on threads that meet inside their commands, and how often translation caches hit, fill and flush. Each
+//! report of a race is judged, and those of some meetings are compared with what they may come to.
 #![tactic(auto)]
 
 #[cfg(test)]
 mod at_once;
+#[cfg(test)]
+mod caches;
 #[cfg(test)]
 mod checking;
 #[cfg(test)]

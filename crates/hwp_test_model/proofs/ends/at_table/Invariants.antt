@@ -1,4 +1,0 @@
-use Rattle.hwp_test_model.proofs.ends.at_table.Given as goal
-
-abbrev pub ghosts-dealt : goal.ghosts-dealt
-ghosts-dealt g a = record { table = a.sheet.now.table_id }

@@ -1,0 +1,10 @@
+use Rattle.std.proofs.Common.{◌≡◌}
+use Rattle.hwp_core.specs.hwp_core_rule.Boards.{view_of}
+use Rattle.hwp_core.specs.Unlocks.{Fits}
+use Rattle.hwp_test_parts.proofs.words.lets_go.Given as goal
+
+abbrev pub invariant-loop-kind : goal.invariant-loop-kind
+invariant-loop-kind g l =
+    (l.board.layout ≡ l.fn.board.layout)
+    × (l.task.who.cpu.0 ≡ 0)
+    × Fits l.board.layout (view_of l.board.state 0) l.task
