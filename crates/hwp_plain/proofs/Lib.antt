@@ -17,6 +17,11 @@ mod Carried
 pub mod TrailViews
 mod Stepped
 pub mod BoardTurns
+mod SpacedWords
+mod NumberedLists
+mod StepKinds
+mod LineTells
+pub mod ToldTurns
 pub use Rattle.hwp_core_rule.proofs as of_hwp_core_rule
 pub use Rattle.hwp_script_read.proofs.of_hwp_script_lines as of_hwp_script_lines
 pub use Rattle.hwp_script_read.proofs as of_hwp_script_read

@@ -17,6 +17,8 @@ pub mod ProcessorSends
 pub mod ReportLevel
 mod RunLevel
 pub mod Statuses
+mod TraceStatuses
+mod WatchedRun
 pub mod Completes
 pub use Rattle.hwp_table_words.proofs.of_hwp_core_rule as of_hwp_core_rule
 pub use Rattle.hwp_cpu.proofs as of_hwp_cpu

@@ -136,7 +136,7 @@ pub fn top<S: Source, K: Sink, E: Sink>(
 }
 
 /// Writes an output, and says how that ended.
-pub fn deliver<K: Sink, E: Sink>(out: &mut K, err: &mut E, output: Output) -> Done
+pub(crate) fn deliver<K: Sink, E: Sink>(out: &mut K, err: &mut E, output: Output) -> Done
     requires { IsDone output.status }
     ensures statuses { (result.status ≡ output.status) ⊎ (result.status ≡ 5) }
     ensures report { (result.report ≡ output.report) × (result.ended ≡ output.ended) × (result.tlb ≡ output.tlb) }
@@ -173,7 +173,7 @@ pub fn deliver<K: Sink, E: Sink>(out: &mut K, err: &mut E, output: Output) -> Do
 }
 
 /// Tells the fault of an input on `err`, and gives its exit status.
-pub fn tell_fault<E: Sink>(alloc: Global, err: &mut E, fault: InputFault) -> u8
+pub(crate) fn tell_fault<E: Sink>(alloc: Global, err: &mut E, fault: InputFault) -> u8
     ensures statuses { (result ≡ 3) ⊎ ((result ≡ 4) ⊎ (result ≡ 6)) }
     ensures refused { result ≡ 3 → (r : Refused) × (fault ≡ InputFault.Refused r)
         × Told (E.taken err.old) (E.taken err.new) (E.faults err.old) (E.faults err.new) (refusal_text r) }

@@ -11,7 +11,7 @@ use std::alloc::Global;
 
 /// Why a source gives no script.
 #[derive(Clone, Copy)]
-pub enum InputFault {
+pub(crate) enum InputFault {
     /// The bytes are refused.
     Refused(Refused),
     /// The source failed.
@@ -28,7 +28,7 @@ pub(crate) fn whole(why: Why) -> InputFault
 }
 
 /// Reads a source to its end, and the script that it gives.
-pub fn take_script<S: Source>(alloc: Global, src: &mut S) -> Result<Script, InputFault>
+pub(crate) fn take_script<S: Source>(alloc: Global, src: &mut S) -> Result<Script, InputFault>
     ensures script { IfOk result (Takes (S.left src.old) (S.left src.new)) }
     ensures valid { IfOk result IsValid }
     ensures refused { (r : Refused) → IsErrOf result (InputFault.Refused r)

@@ -1,5 +1,5 @@
 //! The top calls: a command's words and input to its output and status. And the runs that they make, of a script's processors, one
-//! task each: turn by turn in the order of the schedule, or on threads of their own.
+//! task each: turn by turn in the order of the schedule, watched or not, or on threads of their own.
 #![tactic(auto)]
 
 mod calls;
@@ -15,22 +15,18 @@ mod running;
 mod served;
 mod threaded;
 mod threading;
+mod trace_calls;
+mod traced;
+mod tracing;
 mod words;
 
-pub use calls::{Done, deliver, tell_fault, top};
-pub use hwp_plain::PlainBoard;
+pub use calls::{Done, top};
 pub use hwp_threads::{Gate, Open, Point};
-pub use hwp_top_report::{
-    Board, CacheWord, CounterWord, Cpu, Frame, FrameWord, Kind, Layout, List, Ops, OutOfMemory,
-    Page, PageWord, PolicyWord, ProcessWord, Pte, Report, Script, SharedWord, StopWord, Task, Text,
-    Turn, Who, index, kind_name, policy_word,
-};
-pub use inputs::{InputFault, take_script};
-pub use messages::tell;
-pub use outputs::{Output, status_of};
-pub use plain::{report_of, run_plain};
+pub use plain::run_plain;
 pub use playing::play;
 pub use run_calls::top_run;
 pub use running::run_in_turns;
 pub use served::Call;
 pub use threading::run_on_threads;
+pub use trace_calls::top_trace;
+pub use tracing::{Watched, trace};

@@ -42,7 +42,7 @@ pub(crate) fn refusal(alloc: Global, refused: Refused) -> Result<String, AllocEr
 }
 
 /// Writes a text to the error sink. A fault there changes no answer.
-pub fn tell<E: Sink>(err: &mut E, text: &[u8])
+pub(crate) fn tell<E: Sink>(err: &mut E, text: &[u8])
     ensures { Told (E.taken err.old) (E.taken err.new) (E.faults err.old) (E.faults err.new) text.now }
 {
     let _ = write_all(err, text);

@@ -20,7 +20,7 @@ use std::alloc::Global;
 /// What a call writes, the status where all of it is written, and, where it made a run, the report, and what the run's table was
 /// closed with: `tlb` has it of a table with translation caches, `ended` of any other.
 #[derive(Drop)]
-pub struct Output {
+pub(crate) struct Output {
     pub text: Text,
     pub status: u8,
     pub report: Option<Report>,
@@ -91,7 +91,7 @@ fn stepped_tlb<S: Source>(alloc: Global, src: &mut S) -> Result<Output, InputFau
 }
 
 /// The status of a report that is written: 8 where the machine stopped.
-pub fn status_of(report: &Report) -> u8
+pub(crate) fn status_of(report: &Report) -> u8
     ensures { result ≡ done_status report.now }
 {
     if report.stop.is_some() { 8 } else { 0 }

@@ -11,7 +11,7 @@ use hwp_top_report::{OutOfMemory, Report, Script, report};
 use std::alloc::Global;
 
 /// The report of a run in turns that was made on a plain board.
-pub fn report_of(
+pub(crate) fn report_of(
     alloc: Global,
     script: &Script,
     board: PlainBoard,

@@ -1,19 +1,8 @@
 //! The program `hwp-trace`: its words and standard streams to the trace of a script's run, and its exit status.
 #![tactic(auto)]
 
-mod board;
-mod calls;
-mod line;
-mod line_words;
-mod notes;
-mod printing;
-mod showing;
-mod tracing;
-mod values;
-
-use calls::show;
 use hwp_io::{StdSink, StdSource};
-use hwp_top::Done;
+use hwp_top::{Done, top_trace};
 use std::process::ExitCode;
 use std::{env, io};
 
@@ -53,7 +42,7 @@ fn serve(rt: &HostRuntime, words: &[String]) -> Done {
     let mut src = StdSource::new(rt.reader());
     let mut out = StdSink::new(io::writer(rt));
     let mut err = StdSink::new(rt.stderr());
-    show(rt.alloc(), words, &mut src, &mut out, &mut err)
+    top_trace(rt.alloc(), words, &mut src, &mut out, &mut err)
 }
 
 fn main(rt: HostRuntime) -> ExitCode {

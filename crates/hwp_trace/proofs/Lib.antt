@@ -1,6 +1,0 @@
-mod SpacedWords
-mod NumberedLists
-mod StepKinds
-mod LineTells
-mod ToldTurns
-mod Statuses
