@@ -16,11 +16,11 @@ use Rattle.hwp_fault.specs.hwp_core_rule.Calls.{Steps, logs}
 use Rattle.hwp_fault.specs.declared.Request.{Request}
 use Rattle.hwp_claim.specs.hwp_claim_act.declared.Failed.{Failed}
 use Rattle.hwp_claim.specs.hwp_claim_frame.Done.{Grows, Marking, counts_owed, marking_of}
-use Rattle.hwp_evict.specs.declared.evict.Evict.{Evict}
-use Rattle.hwp_evict.specs.declared.evict.EvictAnswer.{EvictAnswer}
-use Rattle.hwp_evict.specs.declared.evict.EvictAnswer.TheVariants as evict_answers
-use Rattle.hwp_evict.specs.declared.evict.Eviction.TheVariants as evictions
-use Rattle.hwp_evict.specs.Evicts as evicts
+use Rattle.hwp_fault.specs.hwp_evict.declared.evict.Evict.{Evict}
+use Rattle.hwp_fault.specs.hwp_evict.declared.evict.EvictAnswer.{EvictAnswer}
+use Rattle.hwp_fault.specs.hwp_evict.declared.evict.EvictAnswer.TheVariants as evict_answers
+use Rattle.hwp_fault.specs.hwp_evict.declared.evict.Eviction.TheVariants as evictions
+use Rattle.hwp_fault.specs.hwp_evict.Evicts as evicts
 use Rattle.hwp_fork.specs.declared.cow.Sub.{Sub}
 use Rattle.hwp_fork.specs.declared.cow.Sub.TheVariants as subs
 use Rattle.hwp_fork.specs.Cows.{sub_of, told_by}

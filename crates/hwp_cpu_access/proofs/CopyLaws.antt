@@ -25,17 +25,17 @@ use Rattle.hwp_fault.proofs.of_hwp_core_rule.tasks.SightKeeps.{saw-stays}
 use Rattle.hwp_fault.proofs.of_hwp_core_rule.tasks.StepLeaves.{on-turn-after}
 use Rattle.hwp_fault.specs.declared.Request.{Request}
 use Rattle.hwp_claim.specs.Checks.{left_by, lines_of}
-use Rattle.hwp_evict.specs.declared.evict.Evict.{Evict}
-use Rattle.hwp_evict.specs.declared.evict.EvictAnswer.{EvictAnswer}
-use Rattle.hwp_evict.specs.declared.evict.EvictAnswer.TheVariants as evict_answers
-use Rattle.hwp_evict.specs.declared.evict.EvictAt.{EvictAt}
-use Rattle.hwp_evict.specs.declared.evict.EvictAt.TheVariants as evict_at
-use Rattle.hwp_evict.specs.declared.evict.Eviction.TheVariants as evictions
-use Rattle.hwp_evict.specs.declared.evict.Refusal.{Refusal}
-use Rattle.hwp_evict.specs.declared.evict.Refusal.TheVariants as refusals
-use Rattle.hwp_evict.specs.Evictions.{IsCaused, IsWhy}
-use Rattle.hwp_evict.specs.Evicts as evicts
-use Rattle.hwp_evict.proofs.EvictLaws as evicting
+use Rattle.hwp_fault.specs.hwp_evict.declared.evict.Evict.{Evict}
+use Rattle.hwp_fault.specs.hwp_evict.declared.evict.EvictAnswer.{EvictAnswer}
+use Rattle.hwp_fault.specs.hwp_evict.declared.evict.EvictAnswer.TheVariants as evict_answers
+use Rattle.hwp_fault.specs.hwp_evict.declared.evict.EvictAt.{EvictAt}
+use Rattle.hwp_fault.specs.hwp_evict.declared.evict.EvictAt.TheVariants as evict_at
+use Rattle.hwp_fault.specs.hwp_evict.declared.evict.Eviction.TheVariants as evictions
+use Rattle.hwp_fault.specs.hwp_evict.declared.evict.Refusal.{Refusal}
+use Rattle.hwp_fault.specs.hwp_evict.declared.evict.Refusal.TheVariants as refusals
+use Rattle.hwp_fault.specs.hwp_evict.Evictions.{IsCaused, IsWhy}
+use Rattle.hwp_fault.specs.hwp_evict.Evicts as evicts
+use Rattle.hwp_fault.proofs.of_hwp_evict.EvictLaws as evicting
 use Rattle.hwp_fork.specs.declared.cow.Cow.{Cow}
 use Rattle.hwp_fork.specs.declared.cow.CowAt.{CowAt}
 use Rattle.hwp_fork.specs.declared.cow.CowAt.TheVariants as cow_at

@@ -28,9 +28,9 @@ use Rattle.hwp_claim.specs.hwp_claim_act.Abandoned.{AddsFailure, failed_in, fail
 use Rattle.hwp_claim.specs.declared.Handler.{Handler}
 use Rattle.hwp_claim.specs.Handlers as handlers
 use Rattle.hwp_claim.proofs.HandlerAdds.{handler-adds}
-use Rattle.hwp_evict.specs.declared.evict.Evict.{Evict}
-use Rattle.hwp_evict.specs.Evictions.{entry_of}
-use Rattle.hwp_evict.specs.Evicts as evicts
+use Rattle.hwp_fault.specs.hwp_evict.declared.evict.Evict.{Evict}
+use Rattle.hwp_fault.specs.hwp_evict.Evictions.{entry_of}
+use Rattle.hwp_fault.specs.hwp_evict.Evicts as evicts
 use Rattle.hwp_cpu_access.specs.declared.instruction.Instruction.{Instruction}
 use Rattle.hwp_cpu_access.specs.declared.instruction.InstructionAt.{InstructionAt}
 use Rattle.hwp_cpu_access.specs.declared.instruction.InstructionAt.TheVariants as instruction_at

@@ -25,12 +25,12 @@ use Rattle.hwp_fault.specs.hwp_core_rule.Lasting.{LeavesPoison}
 use Rattle.hwp_fault.proofs.of_hwp_core_rule.tasks.Revivals.{lasting-pays}
 use Rattle.hwp_fault.proofs.of_hwp_core_rule.tasks.StepRanks.{part-made, steps-on}
 use Rattle.hwp_fault.proofs.of_hwp_core.TaskTells.{no-frame, no-page}
-use Rattle.hwp_evict.specs.declared.evict.Evict.{Evict}
-use Rattle.hwp_evict.specs.declared.evict.EvictAnswer.{EvictAnswer}
-use Rattle.hwp_evict.specs.declared.evict.EvictAnswer.TheVariants as evict_answers
-use Rattle.hwp_evict.specs.Evicts as evicts
-use Rattle.hwp_evict.specs.Evicts.{task as evict-task}
-use Rattle.hwp_evict.proofs.EvictCosts.{evict-below, evict-class, evict-mild, evict-ranked, evict-tells}
+use Rattle.hwp_fault.specs.hwp_evict.declared.evict.Evict.{Evict}
+use Rattle.hwp_fault.specs.hwp_evict.declared.evict.EvictAnswer.{EvictAnswer}
+use Rattle.hwp_fault.specs.hwp_evict.declared.evict.EvictAnswer.TheVariants as evict_answers
+use Rattle.hwp_fault.specs.hwp_evict.Evicts as evicts
+use Rattle.hwp_fault.specs.hwp_evict.Evicts.{task as evict-task}
+use Rattle.hwp_fault.proofs.of_hwp_evict.EvictCosts.{evict-below, evict-class, evict-mild, evict-ranked, evict-tells}
 use Rattle.hwp_fork.specs.declared.cow.Cow.{Cow}
 use Rattle.hwp_fork.specs.declared.cow.CowAt.{CowAt}
 use Rattle.hwp_fork.specs.declared.cow.CowAt.TheVariants as cow_at

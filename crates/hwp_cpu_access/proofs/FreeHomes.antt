@@ -1,23 +1,23 @@
 -- What goes home while a translation is freed: of entries of some sort no one more, where its own entry isn't of that sort.
 use Rattle.std.proofs.Common.{◌≡◌, zero, suc, Bool, false, List, [], ◌∷◌, Option, Some, None, sym, subst}
 use Rattle.std.proofs.lemmas.Option.{none-some, same_Some}
-use Rattle.hwp_evict.specs.hwp_geom.declared.Layout.{Layout}
-use Rattle.hwp_evict.specs.hwp_geom.declared.Page.{Page}
-use Rattle.hwp_evict.specs.hwp_geom.declared.Who.{Who}
-use Rattle.hwp_evict.specs.hwp_page.declared.Entry.{Entry}
-use Rattle.hwp_evict.specs.hwp_page.declared.What.{What}
-use Rattle.hwp_evict.specs.hwp_page.History.{BodyValue}
-use Rattle.hwp_evict.specs.hwp_core_rule.declared.InHand.{InHand}
-use Rattle.hwp_evict.specs.hwp_core_rule.declared.Made.{Made}
-use Rattle.hwp_evict.specs.hwp_core_rule.declared.View.{View}
-use Rattle.hwp_evict.specs.hwp_core_rule.Lists.{EachMember}
-use Rattle.hwp_evict.specs.hwp_core_rule.Logs.{log_of}
-use Rattle.hwp_evict.specs.hwp_core_rule.Views.{body_of, more_of}
-use Rattle.hwp_evict.specs.declared.evict.EvictAnswer.{EvictAnswer}
-use Rattle.hwp_evict.specs.declared.evict.EvictAnswer.TheVariants as answers
-use Rattle.hwp_evict.specs.declared.evict.Eviction.{Eviction}
-use Rattle.hwp_evict.specs.Evictions.{entry_of}
-use Rattle.hwp_evict.specs.Evicts.{Comes, IsAhead, KnowsPut, PutsNoMore}
+use Rattle.hwp_fault.specs.hwp_geom.declared.Layout.{Layout}
+use Rattle.hwp_fault.specs.hwp_geom.declared.Page.{Page}
+use Rattle.hwp_fault.specs.hwp_geom.declared.Who.{Who}
+use Rattle.hwp_fault.specs.hwp_page.declared.Entry.{Entry}
+use Rattle.hwp_fault.specs.hwp_page.declared.What.{What}
+use Rattle.hwp_fault.specs.hwp_page.History.{BodyValue}
+use Rattle.hwp_fault.specs.hwp_core_rule.declared.InHand.{InHand}
+use Rattle.hwp_fault.specs.hwp_core_rule.declared.Made.{Made}
+use Rattle.hwp_fault.specs.hwp_core_rule.declared.View.{View}
+use Rattle.hwp_fault.specs.hwp_core_rule.Lists.{EachMember}
+use Rattle.hwp_fault.specs.hwp_core_rule.Logs.{log_of}
+use Rattle.hwp_fault.specs.hwp_core_rule.Views.{body_of, more_of}
+use Rattle.hwp_fault.specs.hwp_evict.declared.evict.EvictAnswer.{EvictAnswer}
+use Rattle.hwp_fault.specs.hwp_evict.declared.evict.EvictAnswer.TheVariants as answers
+use Rattle.hwp_fault.specs.hwp_evict.declared.evict.Eviction.{Eviction}
+use Rattle.hwp_fault.specs.hwp_evict.Evictions.{entry_of}
+use Rattle.hwp_fault.specs.hwp_evict.Evicts.{Comes, IsAhead, KnowsPut, PutsNoMore}
 
 -- the body that goes home has no entry of this sort more than when it was taken
 pub record HomeWithout (sort : What → Bool) (view : View) (body : BodyValue) : Type 0 where

@@ -31,19 +31,19 @@ use Rattle.hwp_fault.specs.hwp_core.GiveUps as give_ups
 use Rattle.hwp_fault.specs.hwp_core.Unholds as unholds
 use Rattle.hwp_fault.specs.hwp_core.Unlocks as unlocks
 use Rattle.hwp_fault.proofs.of_hwp_core.TaskCosts.{hold-lists, release-lists}
-use Rattle.hwp_evict.specs.declared.evict.Evict.{Evict}
-use Rattle.hwp_evict.specs.declared.evict.EvictAnswer.TheVariants as answers
-use Rattle.hwp_evict.specs.declared.evict.EvictAt.{EvictAt}
-use Rattle.hwp_evict.specs.declared.evict.EvictAt.TheVariants as at
-use Rattle.hwp_evict.specs.declared.evict.Eviction.{Eviction}
-use Rattle.hwp_evict.specs.declared.evict.Eviction.TheVariants as evictions
-use Rattle.hwp_evict.specs.hwp_core.declared.vacate.Vacate.{Vacate}
-use Rattle.hwp_evict.specs.hwp_core.declared.vacate.VacateAt.{VacateAt}
-use Rattle.hwp_evict.specs.hwp_core.declared.vacate.VacateAt.TheVariants as vacate_at
-use Rattle.hwp_evict.specs.Evictions.{entry_of}
-use Rattle.hwp_evict.specs.Evicts.{FitsAt, FitsFrom, IsVacating, plan, plan_at, put, put_at}
-use Rattle.hwp_evict.specs.hwp_core.Vacates as vacates
-use Rattle.hwp_evict.proofs.of_hwp_core.ClearLaws.{clear-lists}
+use Rattle.hwp_fault.specs.hwp_evict.declared.evict.Evict.{Evict}
+use Rattle.hwp_fault.specs.hwp_evict.declared.evict.EvictAnswer.TheVariants as answers
+use Rattle.hwp_fault.specs.hwp_evict.declared.evict.EvictAt.{EvictAt}
+use Rattle.hwp_fault.specs.hwp_evict.declared.evict.EvictAt.TheVariants as at
+use Rattle.hwp_fault.specs.hwp_evict.declared.evict.Eviction.{Eviction}
+use Rattle.hwp_fault.specs.hwp_evict.declared.evict.Eviction.TheVariants as evictions
+use Rattle.hwp_fault.specs.hwp_core.declared.vacate.Vacate.{Vacate}
+use Rattle.hwp_fault.specs.hwp_core.declared.vacate.VacateAt.{VacateAt}
+use Rattle.hwp_fault.specs.hwp_core.declared.vacate.VacateAt.TheVariants as vacate_at
+use Rattle.hwp_fault.specs.hwp_evict.Evictions.{entry_of}
+use Rattle.hwp_fault.specs.hwp_evict.Evicts.{FitsAt, FitsFrom, IsVacating, plan, plan_at, put, put_at}
+use Rattle.hwp_fault.specs.hwp_core.Vacates as vacates
+use Rattle.hwp_fault.proofs.of_hwp_core.ClearLaws.{clear-lists}
 use Rattle.hwp_claim.proofs.of_hwp_claim_frame.Quiet.{Alike, PlansQuiet, clear, give-up, leaves, release, unhold}
 use Rattle.hwp_cpu_access.specs.Done.{failures_by}
 use Rattle.hwp_cpu_access.proofs.CommandGrows.{failures-listed}

@@ -2,46 +2,46 @@
 use Rattle.std.proofs.Common.{◌≡◌, inl, inr, ℕ, suc, ◌<◌, Bool, true, false, cond, List, [], ◌∷◌, ◌++◌, Option, Some, None, is_none, length, refl, sym, ap, subst}
 use Rattle.std.proofs.lemmas.Bool.{both_ways}
 use Rattle.std.proofs.lemmas.Option.{none-some}
-use Rattle.hwp_evict.specs.hwp_geom.declared.Frame.{Frame}
-use Rattle.hwp_evict.specs.hwp_geom.declared.Layout.{Layout}
-use Rattle.hwp_evict.specs.hwp_geom.declared.Page.{Page}
-use Rattle.hwp_evict.specs.hwp_geom.declared.VSlot.{VSlot}
-use Rattle.hwp_evict.specs.hwp_geom.declared.Who.{Who}
-use Rattle.hwp_evict.specs.hwp_page.History.{BodyValue}
-use Rattle.hwp_evict.specs.hwp_core_rule.declared.Made.{Made}
-use Rattle.hwp_evict.specs.hwp_core_rule.declared.Step.{Step}
-use Rattle.hwp_evict.specs.hwp_core_rule.declared.Step.TheVariants as steps
-use Rattle.hwp_evict.specs.hwp_core_rule.declared.View.{View}
-use Rattle.hwp_evict.specs.hwp_core_rule.Lists.{EachMember}
-use Rattle.hwp_evict.specs.hwp_core_rule.Logs.{log_of}
-use Rattle.hwp_evict.specs.hwp_core_rule.SlotMoves.{IsIn, frame_slot, is_out, moved_out, shelf_slot}
-use Rattle.hwp_evict.specs.hwp_core_rule.Views.{frame_in}
-use Rattle.hwp_evict.specs.hwp_core_rule.declared.Turn.{Turn}
-use Rattle.hwp_evict.specs.hwp_core_rule.Calls.{Steps, logs}
-use Rattle.hwp_evict.specs.hwp_core_rule.Known.{HasMadeNoneBeside, is_by}
-use Rattle.hwp_evict.proofs.of_hwp_core_rule.tasks.MadeEntries.{each-filter}
-use Rattle.hwp_evict.proofs.of_hwp_core_rule.tasks.StepLeaves.{brought, content_of, steps-planned, was-home}
-use Rattle.hwp_evict.specs.hwp_core.declared.hold.Hold.{Hold}
-use Rattle.hwp_evict.specs.hwp_core.declared.hold.HoldAt.{HoldAt}
-use Rattle.hwp_evict.specs.hwp_core.declared.hold.HoldAt.TheVariants as hold_at
-use Rattle.hwp_evict.specs.hwp_core.declared.pin.Pin.{Pin}
-use Rattle.hwp_evict.specs.hwp_core.declared.pin.PinAt.{PinAt}
-use Rattle.hwp_evict.specs.hwp_core.declared.pin.PinAt.TheVariants as pin_at
-use Rattle.hwp_evict.specs.hwp_core.Holds as holds
-use Rattle.hwp_evict.specs.hwp_core.Holds.{is_free}
-use Rattle.hwp_evict.specs.hwp_core.Pins as pins
-use Rattle.hwp_evict.specs.hwp_core.Unholds as unholds
-use Rattle.hwp_evict.proofs.of_hwp_core.HoldLaws as holding
-use Rattle.hwp_evict.specs.declared.evict.Evict.{Evict}
-use Rattle.hwp_evict.specs.declared.evict.EvictAnswer.TheVariants as answers
-use Rattle.hwp_evict.specs.declared.evict.EvictAt.{EvictAt}
-use Rattle.hwp_evict.specs.declared.evict.EvictAt.TheVariants as at
-use Rattle.hwp_evict.specs.declared.evict.Eviction.{Eviction}
-use Rattle.hwp_evict.specs.declared.evict.Eviction.TheVariants as evictions
-use Rattle.hwp_evict.specs.Evictions.{copies}
-use Rattle.hwp_evict.specs.Evicts.{AfterHeld, AfterHoldAt, FitsAt, FitsFrom, FollowsAt, bare_at, plan, plan_at, put, put_at}
-use Rattle.hwp_evict.specs.hwp_core.Vacates as vacates
-use Rattle.hwp_evict.specs.hwp_words.Stops.{is_stopped}
+use Rattle.hwp_fault.specs.hwp_geom.declared.Frame.{Frame}
+use Rattle.hwp_fault.specs.hwp_geom.declared.Layout.{Layout}
+use Rattle.hwp_fault.specs.hwp_geom.declared.Page.{Page}
+use Rattle.hwp_fault.specs.hwp_geom.declared.VSlot.{VSlot}
+use Rattle.hwp_fault.specs.hwp_geom.declared.Who.{Who}
+use Rattle.hwp_fault.specs.hwp_page.History.{BodyValue}
+use Rattle.hwp_fault.specs.hwp_core_rule.declared.Made.{Made}
+use Rattle.hwp_fault.specs.hwp_core_rule.declared.Step.{Step}
+use Rattle.hwp_fault.specs.hwp_core_rule.declared.Step.TheVariants as steps
+use Rattle.hwp_fault.specs.hwp_core_rule.declared.View.{View}
+use Rattle.hwp_fault.specs.hwp_core_rule.Lists.{EachMember}
+use Rattle.hwp_fault.specs.hwp_core_rule.Logs.{log_of}
+use Rattle.hwp_fault.specs.hwp_core_rule.SlotMoves.{IsIn, frame_slot, is_out, moved_out, shelf_slot}
+use Rattle.hwp_fault.specs.hwp_core_rule.Views.{frame_in}
+use Rattle.hwp_fault.specs.hwp_core_rule.declared.Turn.{Turn}
+use Rattle.hwp_fault.specs.hwp_core_rule.Calls.{Steps, logs}
+use Rattle.hwp_fault.specs.hwp_core_rule.Known.{HasMadeNoneBeside, is_by}
+use Rattle.hwp_fault.proofs.of_hwp_core_rule.tasks.MadeEntries.{each-filter}
+use Rattle.hwp_fault.proofs.of_hwp_core_rule.tasks.StepLeaves.{brought, content_of, steps-planned, was-home}
+use Rattle.hwp_fault.specs.hwp_core.declared.hold.Hold.{Hold}
+use Rattle.hwp_fault.specs.hwp_core.declared.hold.HoldAt.{HoldAt}
+use Rattle.hwp_fault.specs.hwp_core.declared.hold.HoldAt.TheVariants as hold_at
+use Rattle.hwp_fault.specs.hwp_core.declared.pin.Pin.{Pin}
+use Rattle.hwp_fault.specs.hwp_core.declared.pin.PinAt.{PinAt}
+use Rattle.hwp_fault.specs.hwp_core.declared.pin.PinAt.TheVariants as pin_at
+use Rattle.hwp_fault.specs.hwp_core.Holds as holds
+use Rattle.hwp_fault.specs.hwp_core.Holds.{is_free}
+use Rattle.hwp_fault.specs.hwp_core.Pins as pins
+use Rattle.hwp_fault.specs.hwp_core.Unholds as unholds
+use Rattle.hwp_fault.proofs.of_hwp_core.HoldLaws as holding
+use Rattle.hwp_fault.specs.hwp_evict.declared.evict.Evict.{Evict}
+use Rattle.hwp_fault.specs.hwp_evict.declared.evict.EvictAnswer.TheVariants as answers
+use Rattle.hwp_fault.specs.hwp_evict.declared.evict.EvictAt.{EvictAt}
+use Rattle.hwp_fault.specs.hwp_evict.declared.evict.EvictAt.TheVariants as at
+use Rattle.hwp_fault.specs.hwp_evict.declared.evict.Eviction.{Eviction}
+use Rattle.hwp_fault.specs.hwp_evict.declared.evict.Eviction.TheVariants as evictions
+use Rattle.hwp_fault.specs.hwp_evict.Evictions.{copies}
+use Rattle.hwp_fault.specs.hwp_evict.Evicts.{AfterHeld, AfterHoldAt, FitsAt, FitsFrom, FollowsAt, bare_at, plan, plan_at, put, put_at}
+use Rattle.hwp_fault.specs.hwp_core.Vacates as vacates
+use Rattle.hwp_fault.specs.hwp_words.Stops.{is_stopped}
 use Rattle.hwp_cpu_access.specs.Looks.{HasInBody, HasInHold, HasInView, StandBefore}
 use Rattle.hwp_cpu_access.proofs.HomePlaces.{stands-before}
 

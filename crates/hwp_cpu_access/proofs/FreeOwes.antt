@@ -1,48 +1,48 @@
 -- The freeing of a translation owes no loss of a file.
 use Rattle.std.proofs.Common.{◌≡◌, ℕ, false, List, Option, Some, None, refl, sym, subst}
 use Rattle.std.proofs.lemmas.Option.{none-some, same_Some}
-use Rattle.hwp_evict.specs.hwp_geom.declared.Layout.{Layout}
-use Rattle.hwp_evict.specs.hwp_geom.declared.Page.{Page}
-use Rattle.hwp_evict.specs.hwp_geom.declared.Who.{Who}
-use Rattle.hwp_evict.specs.hwp_page.declared.At.{At}
-use Rattle.hwp_evict.specs.hwp_page.History.{BodyValue}
-use Rattle.hwp_evict.specs.hwp_core_rule.declared.Made.{Made}
-use Rattle.hwp_evict.specs.hwp_core_rule.declared.SharedWord.TheVariants as places
-use Rattle.hwp_evict.specs.hwp_core_rule.declared.Step.{Step}
-use Rattle.hwp_evict.specs.hwp_core_rule.declared.Step.TheVariants as steps
-use Rattle.hwp_evict.specs.hwp_core_rule.declared.View.{View}
-use Rattle.hwp_evict.specs.hwp_page.Losses.{is_loss}
-use Rattle.hwp_evict.specs.hwp_core_rule.Calls.{Steps, logs}
-use Rattle.hwp_evict.specs.hwp_words.declared.Pte.TheVariants as ptes
-use Rattle.hwp_evict.proofs.of_hwp_core_rule.tasks.MadeEntries.{ListsNone}
-use Rattle.hwp_evict.proofs.of_hwp_core_rule.tasks.StepOwes.{frame-owes, losses-same, page-owes}
-use Rattle.hwp_evict.proofs.of_hwp_core_rule.tasks.StepLeaves.{steps-planned}
-use Rattle.hwp_evict.specs.hwp_core.declared.give_up.GiveUp.{GiveUp}
-use Rattle.hwp_evict.specs.hwp_core.declared.give_up.GiveUpAt.{GiveUpAt}
-use Rattle.hwp_evict.specs.hwp_core.declared.give_up.GiveUpAt.TheVariants as give_up_at
-use Rattle.hwp_evict.specs.hwp_core.declared.unhold.Unhold.{Unhold}
-use Rattle.hwp_evict.specs.hwp_core.declared.unhold.UnholdAt.{UnholdAt}
-use Rattle.hwp_evict.specs.hwp_core.declared.unhold.UnholdAt.TheVariants as unhold_at
-use Rattle.hwp_evict.specs.hwp_core.declared.unlock.Unlock.{Unlock}
-use Rattle.hwp_evict.specs.hwp_core.declared.unlock.UnlockAt.{UnlockAt}
-use Rattle.hwp_evict.specs.hwp_core.declared.unlock.UnlockAt.TheVariants as unlock_at
-use Rattle.hwp_evict.specs.hwp_core.GiveUps as give_ups
-use Rattle.hwp_evict.specs.hwp_core.Unholds as unholds
-use Rattle.hwp_evict.specs.hwp_core.Unlocks as unlocks
-use Rattle.hwp_evict.proofs.of_hwp_core.TaskCosts.{hold-lists, release-lists}
-use Rattle.hwp_evict.specs.declared.evict.Evict.{Evict}
-use Rattle.hwp_evict.specs.declared.evict.EvictAnswer.TheVariants as answers
-use Rattle.hwp_evict.specs.declared.evict.EvictAt.{EvictAt}
-use Rattle.hwp_evict.specs.declared.evict.EvictAt.TheVariants as at
-use Rattle.hwp_evict.specs.declared.evict.Eviction.{Eviction}
-use Rattle.hwp_evict.specs.declared.evict.Eviction.TheVariants as evictions
-use Rattle.hwp_evict.specs.hwp_core.declared.vacate.Vacate.{Vacate}
-use Rattle.hwp_evict.specs.hwp_core.declared.vacate.VacateAt.{VacateAt}
-use Rattle.hwp_evict.specs.hwp_core.declared.vacate.VacateAt.TheVariants as vacate_at
-use Rattle.hwp_evict.specs.Evictions.{entry_of}
-use Rattle.hwp_evict.specs.Evicts.{FitsAt, FitsFrom, IsVacating, plan, plan_at, put, put_at}
-use Rattle.hwp_evict.specs.hwp_core.Vacates as vacates
-use Rattle.hwp_evict.proofs.of_hwp_core.ClearLaws.{clear-lists}
+use Rattle.hwp_fault.specs.hwp_geom.declared.Layout.{Layout}
+use Rattle.hwp_fault.specs.hwp_geom.declared.Page.{Page}
+use Rattle.hwp_fault.specs.hwp_geom.declared.Who.{Who}
+use Rattle.hwp_fault.specs.hwp_page.declared.At.{At}
+use Rattle.hwp_fault.specs.hwp_page.History.{BodyValue}
+use Rattle.hwp_fault.specs.hwp_core_rule.declared.Made.{Made}
+use Rattle.hwp_fault.specs.hwp_core_rule.declared.SharedWord.TheVariants as places
+use Rattle.hwp_fault.specs.hwp_core_rule.declared.Step.{Step}
+use Rattle.hwp_fault.specs.hwp_core_rule.declared.Step.TheVariants as steps
+use Rattle.hwp_fault.specs.hwp_core_rule.declared.View.{View}
+use Rattle.hwp_fault.specs.hwp_page.Losses.{is_loss}
+use Rattle.hwp_fault.specs.hwp_core_rule.Calls.{Steps, logs}
+use Rattle.hwp_fault.specs.hwp_words.declared.Pte.TheVariants as ptes
+use Rattle.hwp_fault.proofs.of_hwp_core_rule.tasks.MadeEntries.{ListsNone}
+use Rattle.hwp_fault.proofs.of_hwp_core_rule.tasks.StepOwes.{frame-owes, losses-same, page-owes}
+use Rattle.hwp_fault.proofs.of_hwp_core_rule.tasks.StepLeaves.{steps-planned}
+use Rattle.hwp_fault.specs.hwp_core.declared.give_up.GiveUp.{GiveUp}
+use Rattle.hwp_fault.specs.hwp_core.declared.give_up.GiveUpAt.{GiveUpAt}
+use Rattle.hwp_fault.specs.hwp_core.declared.give_up.GiveUpAt.TheVariants as give_up_at
+use Rattle.hwp_fault.specs.hwp_core.declared.unhold.Unhold.{Unhold}
+use Rattle.hwp_fault.specs.hwp_core.declared.unhold.UnholdAt.{UnholdAt}
+use Rattle.hwp_fault.specs.hwp_core.declared.unhold.UnholdAt.TheVariants as unhold_at
+use Rattle.hwp_fault.specs.hwp_core.declared.unlock.Unlock.{Unlock}
+use Rattle.hwp_fault.specs.hwp_core.declared.unlock.UnlockAt.{UnlockAt}
+use Rattle.hwp_fault.specs.hwp_core.declared.unlock.UnlockAt.TheVariants as unlock_at
+use Rattle.hwp_fault.specs.hwp_core.GiveUps as give_ups
+use Rattle.hwp_fault.specs.hwp_core.Unholds as unholds
+use Rattle.hwp_fault.specs.hwp_core.Unlocks as unlocks
+use Rattle.hwp_fault.proofs.of_hwp_core.TaskCosts.{hold-lists, release-lists}
+use Rattle.hwp_fault.specs.hwp_evict.declared.evict.Evict.{Evict}
+use Rattle.hwp_fault.specs.hwp_evict.declared.evict.EvictAnswer.TheVariants as answers
+use Rattle.hwp_fault.specs.hwp_evict.declared.evict.EvictAt.{EvictAt}
+use Rattle.hwp_fault.specs.hwp_evict.declared.evict.EvictAt.TheVariants as at
+use Rattle.hwp_fault.specs.hwp_evict.declared.evict.Eviction.{Eviction}
+use Rattle.hwp_fault.specs.hwp_evict.declared.evict.Eviction.TheVariants as evictions
+use Rattle.hwp_fault.specs.hwp_core.declared.vacate.Vacate.{Vacate}
+use Rattle.hwp_fault.specs.hwp_core.declared.vacate.VacateAt.{VacateAt}
+use Rattle.hwp_fault.specs.hwp_core.declared.vacate.VacateAt.TheVariants as vacate_at
+use Rattle.hwp_fault.specs.hwp_evict.Evictions.{entry_of}
+use Rattle.hwp_fault.specs.hwp_evict.Evicts.{FitsAt, FitsFrom, IsVacating, plan, plan_at, put, put_at}
+use Rattle.hwp_fault.specs.hwp_core.Vacates as vacates
+use Rattle.hwp_fault.proofs.of_hwp_core.ClearLaws.{clear-lists}
 use Rattle.hwp_cpu_access.proofs.FreeHomes.{HomeWithout, PutsNone, ahead-home, given-up-home, known-home}
 
 -- no entry of an eviction is a loss

@@ -4,22 +4,22 @@ use Rattle.std.specs.Int.{from_bool}
 use Rattle.std.specs.List.{sum_by}
 use Rattle.std.proofs.lemmas.Bool.{cases_lt, le-ltb, lt-ltb, ne_eqb}
 use Rattle.std.proofs.lemmas.Option.{same_Some}
-use Rattle.hwp_evict.specs.hwp_geom.declared.Layout.{Layout}
-use Rattle.hwp_evict.specs.hwp_geom.declared.Page.{Page}
-use Rattle.hwp_evict.specs.hwp_page.declared.Entry.{Entry}
-use Rattle.hwp_evict.specs.hwp_core_rule.declared.InHand.{InHand}
-use Rattle.hwp_evict.specs.hwp_core_rule.declared.Log.{Log}
-use Rattle.hwp_evict.specs.hwp_core_rule.declared.Made.{Made}
-use Rattle.hwp_evict.specs.hwp_core_rule.declared.Sight.{Sight}
-use Rattle.hwp_evict.specs.hwp_core_rule.declared.State.{State}
-use Rattle.hwp_evict.specs.hwp_core_rule.declared.View.{View}
-use Rattle.hwp_evict.specs.hwp_core_rule.Lists.{EachMember, of_home, sum_all, sum_bodies}
-use Rattle.hwp_evict.specs.hwp_core_rule.Rule.{Holds}
-use Rattle.hwp_evict.specs.hwp_core_rule.SlotMoves.{IsIn}
-use Rattle.hwp_evict.specs.hwp_core_rule.Words.{words_of}
-use Rattle.hwp_evict.specs.hwp_core_rule.parts.Entries.{weigh, weigh_from}
-use Rattle.hwp_evict.proofs.of_hwp_core_rule.BodySlots.{one-body}
-use Rattle.hwp_evict.proofs.of_hwp_core_rule.Lists.{from_bool-same, same-number, same-or, sum-map, sum-zero, term-le, terms-le}
+use Rattle.hwp_fault.specs.hwp_geom.declared.Layout.{Layout}
+use Rattle.hwp_fault.specs.hwp_geom.declared.Page.{Page}
+use Rattle.hwp_fault.specs.hwp_page.declared.Entry.{Entry}
+use Rattle.hwp_fault.specs.hwp_core_rule.declared.InHand.{InHand}
+use Rattle.hwp_fault.specs.hwp_core_rule.declared.Log.{Log}
+use Rattle.hwp_fault.specs.hwp_core_rule.declared.Made.{Made}
+use Rattle.hwp_fault.specs.hwp_core_rule.declared.Sight.{Sight}
+use Rattle.hwp_fault.specs.hwp_core_rule.declared.State.{State}
+use Rattle.hwp_fault.specs.hwp_core_rule.declared.View.{View}
+use Rattle.hwp_fault.specs.hwp_core_rule.Lists.{EachMember, of_home, sum_all, sum_bodies}
+use Rattle.hwp_fault.specs.hwp_core_rule.Rule.{Holds}
+use Rattle.hwp_fault.specs.hwp_core_rule.SlotMoves.{IsIn}
+use Rattle.hwp_fault.specs.hwp_core_rule.Words.{words_of}
+use Rattle.hwp_fault.specs.hwp_core_rule.parts.Entries.{weigh, weigh_from}
+use Rattle.hwp_fault.proofs.of_hwp_core_rule.BodySlots.{one-body}
+use Rattle.hwp_fault.proofs.of_hwp_core_rule.Lists.{from_bool-same, same-number, same-or, sum-map, sum-zero, term-le, terms-le}
 
 -- 1 for an entry of the page at the place or behind it, and 0 for any other
 abbrev late : ℕ → ℕ → Page → ℕ → Entry → ℕ

@@ -3,21 +3,21 @@ use Rattle.std.proofs.Common.{ℕ}
 use Rattle.hwp_fault.specs.hwp_geom.declared.Frame.{Frame}
 use Rattle.hwp_fault.specs.hwp_geom.declared.Page.{Page}
 use Rattle.hwp_fault.specs.hwp_geom.declared.VSlot.{VSlot}
-use Rattle.hwp_fault.specs.hwp_fault_fill.declared.fill.FillAt.{FillAt}
-use Rattle.hwp_fault.specs.hwp_fault_fill.declared.fill.FillAt.TheVariants as fill_at
+use Rattle.hwp_fault.specs.hwp_evict.declared.fill.FillAt.{FillAt}
+use Rattle.hwp_fault.specs.hwp_evict.declared.fill.FillAt.TheVariants as fill_at
 use Rattle.hwp_fault.specs.hwp_core.declared.hold.HoldAt.{HoldAt}
 use Rattle.hwp_fault.specs.hwp_core.declared.hold.HoldAt.TheVariants as hold_at
 use Rattle.hwp_fault.specs.hwp_core.declared.pin.PinAt.{PinAt}
 use Rattle.hwp_fault.specs.hwp_core.declared.pin.PinAt.TheVariants as pin_at
 use Rattle.hwp_fault.specs.hwp_core.declared.refer.ReferAt.{ReferAt}
 use Rattle.hwp_fault.specs.hwp_core.declared.refer.ReferAt.TheVariants as refer_at
-use Rattle.hwp_fault.specs.hwp_fault_fill.declared.take.TakeAt.{TakeAt}
-use Rattle.hwp_fault.specs.hwp_fault_fill.declared.take.TakeAt.TheVariants as take_at
-use Rattle.hwp_fault.specs.hwp_fault_fill.Fills as fills
+use Rattle.hwp_fault.specs.hwp_evict.declared.take.TakeAt.{TakeAt}
+use Rattle.hwp_fault.specs.hwp_evict.declared.take.TakeAt.TheVariants as take_at
+use Rattle.hwp_fault.specs.hwp_evict.Fills as fills
 use Rattle.hwp_fault.specs.hwp_core.Holds as holds
 use Rattle.hwp_fault.specs.hwp_core.Pins as pins
 use Rattle.hwp_fault.specs.hwp_core.Refers as refers
-use Rattle.hwp_fault.specs.hwp_fault_fill.Takes as takes
+use Rattle.hwp_fault.specs.hwp_evict.Takes as takes
 use Rattle.hwp_fault.specs.declared.Request.{Request}
 use Rattle.hwp_fault.specs.declared.Touch.{Touch}
 use Rattle.hwp_fault.specs.declared.access.AccessAt.{AccessAt}

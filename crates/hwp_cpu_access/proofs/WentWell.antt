@@ -31,8 +31,8 @@ use Rattle.hwp_claim.specs.Checks.{left_by, lines_of}
 use Rattle.hwp_claim.specs.hwp_banks.Banks.{Banks}
 use Rattle.hwp_claim.specs.hwp_banks.declared.Origin.{Origin}
 use Rattle.hwp_claim.specs.hwp_banks.declared.Origin.TheVariants as origins
-use Rattle.hwp_evict.specs.declared.evict.Eviction.TheVariants as evictions
-use Rattle.hwp_evict.specs.Evicts as evicts
+use Rattle.hwp_fault.specs.hwp_evict.declared.evict.Eviction.TheVariants as evictions
+use Rattle.hwp_fault.specs.hwp_evict.Evicts as evicts
 use Rattle.hwp_fork.specs.declared.cow.Cow.{Cow}
 use Rattle.hwp_fork.specs.declared.cow.Sub.{Sub}
 use Rattle.hwp_fork.specs.declared.cow.Sub.TheVariants as subs

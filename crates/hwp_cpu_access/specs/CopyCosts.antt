@@ -4,7 +4,7 @@ use Rattle.hwp_fault.specs.hwp_geom.declared.Frame.{Frame}
 use Rattle.hwp_fault.specs.hwp_geom.Limits.{line_limit}
 use Rattle.hwp_fault.specs.hwp_core_rule.Words.{Words}
 use Rattle.hwp_fault.specs.hwp_core_rule.Ranks.{failure_weight}
-use Rattle.hwp_evict.specs.Evicts as evicts
+use Rattle.hwp_fault.specs.hwp_evict.Evicts as evicts
 use Rattle.hwp_fork.specs.declared.cow.CowAt.{CowAt}
 use Rattle.hwp_fork.specs.declared.cow.CowAt.TheVariants as cow_at
 use Rattle.hwp_cpu_access.specs.declared.instruction.Instruction.{Instruction}

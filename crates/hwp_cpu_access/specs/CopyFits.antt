@@ -18,9 +18,9 @@ use Rattle.hwp_fault.specs.Accesses as accesses
 use Rattle.hwp_claim.specs.Checks.{left_by, lines_of}
 use Rattle.hwp_claim.specs.hwp_banks.Events.{bank_count}
 use Rattle.hwp_claim.specs.hwp_banks.declared.Origin.TheVariants as origins
-use Rattle.hwp_evict.specs.declared.evict.Evict.{Evict}
-use Rattle.hwp_evict.specs.declared.evict.Eviction.TheVariants as evictions
-use Rattle.hwp_evict.specs.Evicts as evicts
+use Rattle.hwp_fault.specs.hwp_evict.declared.evict.Evict.{Evict}
+use Rattle.hwp_fault.specs.hwp_evict.declared.evict.Eviction.TheVariants as evictions
+use Rattle.hwp_fault.specs.hwp_evict.Evicts as evicts
 use Rattle.hwp_fork.specs.declared.cow.Cow.{Cow}
 use Rattle.hwp_fork.specs.declared.cow.Sub.TheVariants as subs
 use Rattle.hwp_fork.specs.Cows as cows

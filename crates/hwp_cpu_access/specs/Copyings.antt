@@ -14,11 +14,11 @@ use Rattle.hwp_fault.specs.declared.AccessKind.TheVariants as kinds
 use Rattle.hwp_fault.specs.declared.Request.{Request}
 use Rattle.hwp_claim.specs.hwp_banks.Banks.{Banks}
 use Rattle.hwp_claim.specs.hwp_banks.declared.Origin.TheVariants as origins
-use Rattle.hwp_evict.specs.declared.evict.Evict.{Evict}
-use Rattle.hwp_evict.specs.declared.evict.EvictAnswer.{EvictAnswer}
-use Rattle.hwp_evict.specs.declared.evict.EvictAnswer.TheVariants as evict_answers
-use Rattle.hwp_evict.specs.declared.evict.Eviction.TheVariants as evictions
-use Rattle.hwp_evict.specs.Evicts as evicts
+use Rattle.hwp_fault.specs.hwp_evict.declared.evict.Evict.{Evict}
+use Rattle.hwp_fault.specs.hwp_evict.declared.evict.EvictAnswer.{EvictAnswer}
+use Rattle.hwp_fault.specs.hwp_evict.declared.evict.EvictAnswer.TheVariants as evict_answers
+use Rattle.hwp_fault.specs.hwp_evict.declared.evict.Eviction.TheVariants as evictions
+use Rattle.hwp_fault.specs.hwp_evict.Evicts as evicts
 use Rattle.hwp_fork.specs.declared.cow.Sub.{Sub}
 use Rattle.hwp_fork.specs.declared.cow.Sub.TheVariants as subs
 use Rattle.hwp_fork.specs.Cows as cows

@@ -11,5 +11,5 @@ pub mod CopyCosts
 pub mod CopyDone
 pub use Rattle.hwp_fault.specs as hwp_fault
 pub use Rattle.hwp_claim.specs as hwp_claim
-pub use Rattle.hwp_evict.specs as hwp_evict
+pub use Rattle.hwp_fault.specs.hwp_evict as hwp_evict
 pub use Rattle.hwp_fork.specs as hwp_fork

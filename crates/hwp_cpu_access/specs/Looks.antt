@@ -1,15 +1,15 @@
 -- What the freeing of a translation has seen of its page. This project's rule.
 use Rattle.std.specs.Prelude.{◌≡◌, ℕ, ◌<◌, List, Option, Some, None, length}
-use Rattle.hwp_evict.specs.hwp_geom.declared.Page.{Page}
-use Rattle.hwp_evict.specs.hwp_page.History.{BodyValue}
-use Rattle.hwp_evict.specs.hwp_core_rule.declared.Made.{Made}
-use Rattle.hwp_evict.specs.hwp_core_rule.Lists.{EachMember}
-use Rattle.hwp_evict.specs.hwp_core.declared.hold.HoldAt.{HoldAt}
-use Rattle.hwp_evict.specs.hwp_core.declared.hold.HoldAt.TheVariants as hold_at
-use Rattle.hwp_evict.specs.declared.evict.EvictAnswer.{EvictAnswer}
-use Rattle.hwp_evict.specs.declared.evict.EvictAnswer.TheVariants as answers
-use Rattle.hwp_evict.specs.declared.evict.EvictAt.{EvictAt}
-use Rattle.hwp_evict.specs.declared.evict.EvictAt.TheVariants as at
+use Rattle.hwp_fault.specs.hwp_geom.declared.Page.{Page}
+use Rattle.hwp_fault.specs.hwp_page.History.{BodyValue}
+use Rattle.hwp_fault.specs.hwp_core_rule.declared.Made.{Made}
+use Rattle.hwp_fault.specs.hwp_core_rule.Lists.{EachMember}
+use Rattle.hwp_fault.specs.hwp_core.declared.hold.HoldAt.{HoldAt}
+use Rattle.hwp_fault.specs.hwp_core.declared.hold.HoldAt.TheVariants as hold_at
+use Rattle.hwp_fault.specs.hwp_evict.declared.evict.EvictAnswer.{EvictAnswer}
+use Rattle.hwp_fault.specs.hwp_evict.declared.evict.EvictAnswer.TheVariants as answers
+use Rattle.hwp_fault.specs.hwp_evict.declared.evict.EvictAt.{EvictAt}
+use Rattle.hwp_fault.specs.hwp_evict.declared.evict.EvictAt.TheVariants as at
 
 -- those of the entries that are of the page stand before the place
 abbrev pub StandBefore : Page → ℕ → List Made → Type 0

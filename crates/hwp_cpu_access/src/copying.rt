@@ -7,8 +7,7 @@ use hwp_claim::{
     At, BANKS, Bank, Body, EventOutcome, Layout, Line, List, Mode, Origin, Page, Ranked, Scheduled,
     Step, Task, Turn, Who,
 };
-use hwp_evict::{Evict, EvictAnswer};
-use hwp_fault::{AccessKind, Request};
+use hwp_fault::{AccessKind, Evict, EvictAnswer, Request};
 use hwp_fork::{Cow, Sub, VSlot};
 use std::alloc::Global;
 

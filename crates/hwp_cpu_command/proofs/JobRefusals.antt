@@ -39,9 +39,9 @@ use Rattle.hwp_cpu_row.specs.hwp_claim.declared.Handler.{Handler}
 use Rattle.hwp_cpu_row.specs.hwp_claim.declared.handler.HandlerAt.{HandlerAt}
 use Rattle.hwp_cpu_row.specs.hwp_claim.declared.handler.HandlerAt.TheVariants as handler_at
 use Rattle.hwp_cpu_row.specs.hwp_claim.Handlers as handlers
-use Rattle.hwp_cpu_access.specs.hwp_fault.hwp_fault_fill.declared.take.TakeAt.{TakeAt}
-use Rattle.hwp_cpu_access.specs.hwp_fault.hwp_fault_fill.declared.take.TakeAt.TheVariants as take_at
-use Rattle.hwp_cpu_access.specs.hwp_fault.hwp_fault_fill.Takes as takes
+use Rattle.hwp_cpu_access.specs.hwp_fault.hwp_evict.declared.take.TakeAt.{TakeAt}
+use Rattle.hwp_cpu_access.specs.hwp_fault.hwp_evict.declared.take.TakeAt.TheVariants as take_at
+use Rattle.hwp_cpu_access.specs.hwp_fault.hwp_evict.Takes as takes
 use Rattle.hwp_soft.specs.declared.Soft.{Soft}
 use Rattle.hwp_soft.specs.declared.soft.SoftAt.{SoftAt}
 use Rattle.hwp_soft.specs.declared.soft.SoftAt.TheVariants as soft_at

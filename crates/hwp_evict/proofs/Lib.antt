@@ -1,3 +1,9 @@
+pub mod StepWords
+pub mod TakeLaws
+pub mod TakeCosts
+pub mod FillEntry
+pub mod FillLaws
+pub mod FillCosts
 pub mod FsyncLaws
 pub mod EvictStates
 pub mod EntryHome

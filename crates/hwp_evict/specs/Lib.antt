@@ -1,3 +1,5 @@
+pub mod Takes
+pub mod Fills
 pub mod Fsyncs
 pub mod Evictions
 pub mod Evicts

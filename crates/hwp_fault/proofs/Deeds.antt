@@ -34,9 +34,9 @@ use Rattle.hwp_core.specs.hwp_core_rule.Hands.{body_in, hand_of}
 use Rattle.hwp_core.proofs.of_hwp_core_rule.tasks.StepLeaves.{hand-planned, steps-planned}
 use Rattle.hwp_core.specs.hwp_core_rule.Known.{HasMadeBeside, HasOnlyBeside, IsAt, IsOnTheWay, Precedes, deeds, is_by}
 use Rattle.hwp_core.proofs.of_hwp_core_rule.tasks.MadeEntries.{Lists, ListsNone, deeds-none, deeds-one, deeds-same, each-filter, frame-lists, has-made-beside, has-made-stays, only-beside-more, only-beside-stays, page-lists}
-use Rattle.hwp_fault_fill.specs.declared.Fill.{Fill}
-use Rattle.hwp_fault_fill.specs.declared.fill.FillAt.{FillAt}
-use Rattle.hwp_fault_fill.specs.declared.fill.FillAt.TheVariants as fill_at
+use Rattle.hwp_evict.specs.declared.Fill.{Fill}
+use Rattle.hwp_evict.specs.declared.fill.FillAt.{FillAt}
+use Rattle.hwp_evict.specs.declared.fill.FillAt.TheVariants as fill_at
 use Rattle.hwp_core.specs.declared.GiveUp.{GiveUp}
 use Rattle.hwp_core.specs.declared.give_up.GiveUpAt.{GiveUpAt}
 use Rattle.hwp_core.specs.declared.give_up.GiveUpAt.TheVariants as give_up_at
@@ -49,22 +49,22 @@ use Rattle.hwp_core.specs.declared.refer.ReferAt.TheVariants as refer_at
 use Rattle.hwp_core.specs.declared.Release.{Release}
 use Rattle.hwp_core.specs.declared.release.ReleaseAt.{ReleaseAt}
 use Rattle.hwp_core.specs.declared.release.ReleaseAt.TheVariants as release_at
-use Rattle.hwp_fault_fill.specs.declared.Take.{Take}
-use Rattle.hwp_fault_fill.specs.declared.take.TakeAt.{TakeAt}
-use Rattle.hwp_fault_fill.specs.declared.take.TakeAt.TheVariants as take_at
+use Rattle.hwp_evict.specs.declared.Take.{Take}
+use Rattle.hwp_evict.specs.declared.take.TakeAt.{TakeAt}
+use Rattle.hwp_evict.specs.declared.take.TakeAt.TheVariants as take_at
 use Rattle.hwp_core.specs.declared.Unhold.{Unhold}
 use Rattle.hwp_core.specs.declared.unhold.UnholdAt.{UnholdAt}
 use Rattle.hwp_core.specs.declared.unhold.UnholdAt.TheVariants as unhold_at
 use Rattle.hwp_core.specs.declared.Unlock.{Unlock}
 use Rattle.hwp_core.specs.declared.unlock.UnlockAt.{UnlockAt}
 use Rattle.hwp_core.specs.declared.unlock.UnlockAt.TheVariants as unlock_at
-use Rattle.hwp_fault_fill.specs.Fills as fills
+use Rattle.hwp_evict.specs.Fills as fills
 use Rattle.hwp_core.specs.GiveUps as give_ups
 use Rattle.hwp_core.specs.Holds as holds
 use Rattle.hwp_core.specs.Holds.{HoldsPage}
 use Rattle.hwp_core.specs.Refers as refers
 use Rattle.hwp_core.specs.Releases as releases
-use Rattle.hwp_fault_fill.specs.Takes as takes
+use Rattle.hwp_evict.specs.Takes as takes
 use Rattle.hwp_core.specs.Unholds as unholds
 use Rattle.hwp_core.specs.Unlocks as unlocks
 use Rattle.hwp_core.proofs.TaskCosts.{hold-lists, release-lists}

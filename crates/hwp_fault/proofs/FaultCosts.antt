@@ -34,9 +34,9 @@ use Rattle.hwp_core.specs.hwp_core_rule.Calls.{logs, rec_of}
 use Rattle.hwp_core.specs.hwp_core_rule.Ranks.{CostFalls, HasFailed, IsRanked, Made, Quiet, access_most, again_most, failures_left, free_room, is_waits, stale, stale_weight, take_most, words_at}
 use Rattle.hwp_core.specs.hwp_core_rule.Turns.{Member}
 use Rattle.hwp_core.proofs.of_hwp_core_rule.tasks.StepRanks.{me, met, words-after, words-kept, failed, rank-failing}
-use Rattle.hwp_fault_fill.specs.declared.Fill.{Fill}
-use Rattle.hwp_fault_fill.specs.declared.fill.FillAt.{FillAt}
-use Rattle.hwp_fault_fill.specs.declared.fill.FillAt.TheVariants as fill_at
+use Rattle.hwp_evict.specs.declared.Fill.{Fill}
+use Rattle.hwp_evict.specs.declared.fill.FillAt.{FillAt}
+use Rattle.hwp_evict.specs.declared.fill.FillAt.TheVariants as fill_at
 use Rattle.hwp_core.specs.declared.GiveUp.{GiveUp}
 use Rattle.hwp_core.specs.declared.Hold.{Hold}
 use Rattle.hwp_core.specs.declared.hold.HoldAt.{HoldAt}
@@ -46,22 +46,22 @@ use Rattle.hwp_core.specs.declared.refer.ReferAt.TheVariants as refer_at
 use Rattle.hwp_core.specs.declared.Release.{Release}
 use Rattle.hwp_core.specs.declared.release.ReleaseAt.{ReleaseAt}
 use Rattle.hwp_core.specs.declared.release.ReleaseAt.TheVariants as release_at
-use Rattle.hwp_fault_fill.specs.declared.Take.{Take}
-use Rattle.hwp_fault_fill.specs.declared.take.TakeAt.{TakeAt}
-use Rattle.hwp_fault_fill.specs.declared.take.TakeAt.TheVariants as take_at
+use Rattle.hwp_evict.specs.declared.Take.{Take}
+use Rattle.hwp_evict.specs.declared.take.TakeAt.{TakeAt}
+use Rattle.hwp_evict.specs.declared.take.TakeAt.TheVariants as take_at
 use Rattle.hwp_core.specs.declared.Unhold.{Unhold}
 use Rattle.hwp_core.specs.declared.unhold.UnholdAt.{UnholdAt}
 use Rattle.hwp_core.specs.declared.unhold.UnholdAt.TheVariants as unhold_at
-use Rattle.hwp_fault_fill.specs.Fills as fills
+use Rattle.hwp_evict.specs.Fills as fills
 use Rattle.hwp_core.specs.GiveUps as give_ups
 use Rattle.hwp_core.specs.Holds as holds
 use Rattle.hwp_core.specs.Refers as refers
 use Rattle.hwp_core.specs.Releases as releases
-use Rattle.hwp_fault_fill.specs.Takes as takes
+use Rattle.hwp_evict.specs.Takes as takes
 use Rattle.hwp_core.specs.Unholds as unholds
 use Rattle.hwp_core.proofs.GiveUpCosts.{give-up-mild, give-up-ranked, give-up-small}
 use Rattle.hwp_core.proofs.ReferCosts.{refer-small}
-use Rattle.hwp_fault_fill.proofs.FillCosts.{fill-mild, fill-ranked}
+use Rattle.hwp_evict.proofs.FillCosts.{fill-mild, fill-ranked}
 use Rattle.hwp_core.proofs.TaskCosts.{left-own, met-own, hold-mild, hold-ranked, hold-small, stale-most, unhold-mild, unhold-ranked, unhold-small}
 use Rattle.hwp_fault.specs.declared.fault.Fault.{Fault}
 use Rattle.hwp_fault.specs.declared.fault.FaultAt.{FaultAt}

@@ -41,9 +41,9 @@ use Rattle.hwp_core.specs.hwp_core_rule.Ranks.{HasFrame, HasPage}
 use Rattle.hwp_core.specs.hwp_core_rule.Turns.{IsTask}
 use Rattle.hwp_core.specs.hwp_core_rule.Known.{SawLog, HasOnlyBeside, Precedes}
 use Rattle.hwp_core.proofs.of_hwp_core_rule.tasks.SightKeeps.{saw-stays, saw-log-stays, saw-state-stays}
-use Rattle.hwp_fault_fill.specs.declared.Fill.{Fill}
-use Rattle.hwp_fault_fill.specs.declared.fill.FillAt.{FillAt}
-use Rattle.hwp_fault_fill.specs.declared.fill.FillAt.TheVariants as fill_at
+use Rattle.hwp_evict.specs.declared.Fill.{Fill}
+use Rattle.hwp_evict.specs.declared.fill.FillAt.{FillAt}
+use Rattle.hwp_evict.specs.declared.fill.FillAt.TheVariants as fill_at
 use Rattle.hwp_core.specs.declared.GiveUp.{GiveUp}
 use Rattle.hwp_core.specs.declared.give_up.GiveUpAt.{GiveUpAt}
 use Rattle.hwp_core.specs.declared.give_up.GiveUpAt.TheVariants as give_up_at
@@ -53,22 +53,22 @@ use Rattle.hwp_core.specs.declared.hold.HoldAt.TheVariants as hold_at
 use Rattle.hwp_core.specs.declared.Refer.{Refer}
 use Rattle.hwp_core.specs.declared.refer.ReferAt.{ReferAt}
 use Rattle.hwp_core.specs.declared.refer.ReferAt.TheVariants as refer_at
-use Rattle.hwp_fault_fill.specs.declared.Take.{Take}
-use Rattle.hwp_fault_fill.specs.declared.take.TakeAt.{TakeAt}
-use Rattle.hwp_fault_fill.specs.declared.take.TakeAt.TheVariants as take_at
+use Rattle.hwp_evict.specs.declared.Take.{Take}
+use Rattle.hwp_evict.specs.declared.take.TakeAt.{TakeAt}
+use Rattle.hwp_evict.specs.declared.take.TakeAt.TheVariants as take_at
 use Rattle.hwp_core.specs.declared.Unhold.{Unhold}
-use Rattle.hwp_fault_fill.specs.Fills as fills
-use Rattle.hwp_fault_fill.specs.Fills.{CanBring, brought}
+use Rattle.hwp_evict.specs.Fills as fills
+use Rattle.hwp_evict.specs.Fills.{CanBring, brought}
 use Rattle.hwp_core.specs.GiveUps as give_ups
 use Rattle.hwp_core.specs.Holds as holds
 use Rattle.hwp_core.specs.Holds.{HoldsPage, IsBodyOf}
 use Rattle.hwp_core.specs.Refers as refers
-use Rattle.hwp_fault_fill.specs.Takes as takes
+use Rattle.hwp_evict.specs.Takes as takes
 use Rattle.hwp_core.specs.Unholds as unholds
 use Rattle.hwp_core.specs.Unholds.{HoldsAhead}
 use Rattle.hwp_core.specs.Unlocks as unlocks
 use Rattle.hwp_core.proofs.BodyStates.{replay-state}
-use Rattle.hwp_fault_fill.proofs.FillLaws as filling
+use Rattle.hwp_evict.proofs.FillLaws as filling
 use Rattle.hwp_core.proofs.GiveUpLaws as giving_up
 use Rattle.hwp_core.proofs.HoldLaws as holding
 use Rattle.hwp_core.proofs.HoldEnds.{ahead-unholds, held-ahead, held-unholds, nothing-left}

@@ -9,8 +9,8 @@ use Rattle.hwp_page.specs.hwp_geom.declared.Who.{Who}
 use Rattle.hwp_page.specs.declared.At.{At}
 use Rattle.hwp_page.specs.History.{BodyValue}
 use Rattle.hwp_core.specs.hwp_core_rule.declared.Step.TheVariants as steps
-use Rattle.hwp_fault_fill.specs.declared.Fill.{Fill}
-use Rattle.hwp_fault_fill.specs.Fills as fills
+use Rattle.hwp_evict.specs.declared.Fill.{Fill}
+use Rattle.hwp_evict.specs.Fills as fills
 use Rattle.hwp_core.specs.hwp_core_rule.declared.Turn.{Turn}
 use Rattle.hwp_fault.specs.declared.fault.Fault.{Fault}
 use Rattle.hwp_fault.specs.declared.fault.FaultAt.{FaultAt}

@@ -14,4 +14,5 @@ pub mod FaultRoom
 pub mod FaultAdds
 pub use Rattle.hwp_core.proofs as of_hwp_core
 pub use Rattle.hwp_core.proofs.of_hwp_core_rule as of_hwp_core_rule
+pub use Rattle.hwp_evict.proofs as of_hwp_evict
 pub use Rattle.hwp_core.proofs.of_hwp_words as of_hwp_words

@@ -34,15 +34,15 @@ use Rattle.hwp_core.specs.hwp_core_rule.Ranks.{stale, stale_weight}
 use Rattle.hwp_core.specs.hwp_core_rule.Known.{Saw, SawLog, HasOnlyBeside, HasMadeBeside, Precedes}
 use Rattle.hwp_core.specs.hwp_core_rule.Pages.{SawState}
 use Rattle.hwp_core.specs.hwp_core_rule.Turns.{Member}
-use Rattle.hwp_fault_fill.specs.declared.Fill.{Fill}
-use Rattle.hwp_fault_fill.specs.declared.fill.FillAt.{FillAt}
-use Rattle.hwp_fault_fill.specs.declared.fill.FillAt.TheVariants as fill_at
+use Rattle.hwp_evict.specs.declared.Fill.{Fill}
+use Rattle.hwp_evict.specs.declared.fill.FillAt.{FillAt}
+use Rattle.hwp_evict.specs.declared.fill.FillAt.TheVariants as fill_at
 use Rattle.hwp_core.specs.declared.GiveUp.{GiveUp}
 use Rattle.hwp_core.specs.declared.Hold.{Hold}
 use Rattle.hwp_core.specs.declared.hold.HoldAt.{HoldAt}
 use Rattle.hwp_core.specs.declared.hold.HoldAt.TheVariants as hold_at
 use Rattle.hwp_core.specs.declared.Unhold.{Unhold}
-use Rattle.hwp_fault_fill.specs.Fills as fills
+use Rattle.hwp_evict.specs.Fills as fills
 use Rattle.hwp_core.specs.GiveUps as give_ups
 use Rattle.hwp_core.specs.Holds as holds
 use Rattle.hwp_core.specs.Holds.{HoldsPage}

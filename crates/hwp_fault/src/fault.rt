@@ -5,7 +5,7 @@ use crate::access::moved;
 use crate::map_in::MapIn;
 use crate::touch::Touch;
 use hwp_core::{GiveUp, Hold, Pte, Ranked, SharedWord, Step, Task, Turn, Unhold};
-use hwp_fault_fill::{Fill, FillAnswer};
+use hwp_evict::{Fill, FillAnswer};
 use hwp_page::{At, Body, Entry, Frame, Layout, Page, VSlot, Who};
 use std::mem;
 use std::snapshot::Snapshot;

@@ -9,6 +9,6 @@ mod touch;
 
 pub use access::{Access, AccessAnswer, Request};
 pub use fault::{Fault, FaultAnswer};
-pub use hwp_fault_fill::{Fill, FillAnswer, Take, TakeAnswer};
+pub use hwp_evict::{Evict, EvictAnswer, Fill, FillAnswer, Take, TakeAnswer};
 pub use map_in::MapIn;
 pub use touch::{AccessKind, Touch};

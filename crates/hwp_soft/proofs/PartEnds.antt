@@ -6,9 +6,9 @@ use Rattle.hwp_claim_frame.specs.hwp_geom.declared.Who.{Who}
 use Rattle.hwp_claim_frame.specs.hwp_page.History.{BodyValue}
 use Rattle.hwp_claim_frame.specs.hwp_core_rule.declared.Turn.{Turn}
 use Rattle.hwp_claim_frame.specs.hwp_core_rule.declared.Turn.TheVariants.{Answered}
-use Rattle.hwp_fault_fill.specs.declared.take.Take.{Take}
-use Rattle.hwp_fault_fill.specs.declared.take.TakeAnswer.{TakeAnswer}
-use Rattle.hwp_fault_fill.specs.Takes as takes
+use Rattle.hwp_evict.specs.declared.take.Take.{Take}
+use Rattle.hwp_evict.specs.declared.take.TakeAnswer.{TakeAnswer}
+use Rattle.hwp_evict.specs.Takes as takes
 use Rattle.hwp_soft_move.specs.declared.relocate.Relocate.{Relocate}
 use Rattle.hwp_soft_move.specs.Relocations as relocations
 use Rattle.hwp_soft.specs.declared.soft.SoftAnswer.{SoftAnswer}

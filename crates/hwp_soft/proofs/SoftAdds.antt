@@ -24,14 +24,14 @@ use Rattle.hwp_claim_frame.specs.hwp_core.declared.refer.Refer.{Refer}
 use Rattle.hwp_claim_frame.specs.hwp_core.declared.refer.ReferAt.{ReferAt}
 use Rattle.hwp_claim_frame.specs.hwp_core.declared.refer.ReferAt.TheVariants as refer_at
 use Rattle.hwp_claim_frame.specs.hwp_core.declared.release.Release.{Release}
-use Rattle.hwp_fault_fill.specs.declared.take.Take.{Take}
-use Rattle.hwp_fault_fill.specs.declared.take.TakeAt.{TakeAt}
-use Rattle.hwp_fault_fill.specs.declared.take.TakeAt.TheVariants as take_at
+use Rattle.hwp_evict.specs.declared.take.Take.{Take}
+use Rattle.hwp_evict.specs.declared.take.TakeAt.{TakeAt}
+use Rattle.hwp_evict.specs.declared.take.TakeAt.TheVariants as take_at
 use Rattle.hwp_claim_frame.specs.hwp_core.declared.unhold.Unhold.{Unhold}
 use Rattle.hwp_claim_frame.specs.hwp_core.declared.unlock.Unlock.{Unlock}
 use Rattle.hwp_claim_frame.specs.hwp_core.Refers as refers
 use Rattle.hwp_claim_frame.specs.hwp_core.Releases as releases
-use Rattle.hwp_fault_fill.specs.Takes as takes
+use Rattle.hwp_evict.specs.Takes as takes
 use Rattle.hwp_claim_frame.specs.hwp_core.Unholds as unholds
 use Rattle.hwp_claim_frame.specs.hwp_core.Unlocks as unlocks
 use Rattle.hwp_claim_frame.specs.declared.claim.ClaimAt.{ClaimAt}

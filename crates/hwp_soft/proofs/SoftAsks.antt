@@ -18,7 +18,7 @@ use Rattle.hwp_claim_frame.specs.hwp_core.GiveUps as give_ups
 use Rattle.hwp_claim_frame.specs.hwp_core.Unholds as unholds
 use Rattle.hwp_claim_frame.proofs.of_hwp_core.GiveUpLaws as giving_up
 use Rattle.hwp_claim_frame.proofs.of_hwp_core.ReleaseLaws as releasing_laws
-use Rattle.hwp_fault_fill.proofs.TakeLaws as taking
+use Rattle.hwp_evict.proofs.TakeLaws as taking
 use Rattle.hwp_claim_frame.proofs.of_hwp_core.UnholdLaws as unholding
 use Rattle.hwp_soft.specs.declared.soft.Soft.{Soft}
 use Rattle.hwp_soft.specs.declared.soft.SoftAt.{SoftAt}

@@ -31,21 +31,21 @@ use Rattle.hwp_claim_frame.specs.hwp_core.declared.refer.ReferAt.TheVariants as 
 use Rattle.hwp_claim_frame.specs.hwp_core.declared.release.Release.{Release}
 use Rattle.hwp_claim_frame.specs.hwp_core.declared.release.ReleaseAt.{ReleaseAt}
 use Rattle.hwp_claim_frame.specs.hwp_core.declared.release.ReleaseAt.TheVariants as release_at
-use Rattle.hwp_fault_fill.specs.declared.take.Take.{Take}
-use Rattle.hwp_fault_fill.specs.declared.take.TakeAt.{TakeAt}
-use Rattle.hwp_fault_fill.specs.declared.take.TakeAt.TheVariants as take_at
+use Rattle.hwp_evict.specs.declared.take.Take.{Take}
+use Rattle.hwp_evict.specs.declared.take.TakeAt.{TakeAt}
+use Rattle.hwp_evict.specs.declared.take.TakeAt.TheVariants as take_at
 use Rattle.hwp_claim_frame.specs.hwp_core.declared.unhold.Unhold.{Unhold}
 use Rattle.hwp_claim_frame.specs.hwp_core.GiveUps as give_ups
 use Rattle.hwp_claim_frame.specs.hwp_core.Refers as refers
 use Rattle.hwp_claim_frame.specs.hwp_core.Releases as releases
-use Rattle.hwp_fault_fill.specs.Takes as takes
+use Rattle.hwp_evict.specs.Takes as takes
 use Rattle.hwp_claim_frame.specs.hwp_core.Unholds as unholds
 use Rattle.hwp_claim_frame.specs.hwp_geom.Limits.{frame_limit}
 use Rattle.hwp_claim_frame.proofs.of_hwp_core.GiveUpCosts.{give-up-falls, give-up-goes, give-up-mild, give-up-ranked, give-up-small}
 use Rattle.hwp_claim_frame.proofs.of_hwp_core.FreeWords.{frees-length}
-use Rattle.hwp_fault_fill.proofs.StepWords.{is-met, words_then}
+use Rattle.hwp_evict.proofs.StepWords.{is-met, words_then}
 use Rattle.hwp_claim_frame.proofs.of_hwp_core.TaskCosts.{release-falls, release-mild, release-small, unhold-class, unhold-falls, unhold-mild, unhold-small}
-use Rattle.hwp_fault_fill.proofs.TakeCosts as taking
+use Rattle.hwp_evict.proofs.TakeCosts as taking
 use Rattle.hwp_claim_frame.specs.declared.grab.Grab.{Grab}
 use Rattle.hwp_claim_frame.specs.declared.grab.GrabAnswer.{GrabAnswer}
 use Rattle.hwp_claim_frame.specs.declared.grab.GrabAnswer.TheVariants as grab_answers

@@ -19,7 +19,7 @@ use Rattle.hwp_claim_frame.specs.hwp_core.declared.give_up.GiveUpAt.TheVariants 
 use Rattle.hwp_claim_frame.specs.hwp_core.GiveUps as give_ups
 use Rattle.hwp_claim_frame.proofs.of_hwp_core.GiveUpCosts.{give-up-mild}
 use Rattle.hwp_claim_frame.proofs.of_hwp_core.TaskCosts.{release-mild, unhold-mild}
-use Rattle.hwp_fault_fill.proofs.TakeCosts as taking
+use Rattle.hwp_evict.proofs.TakeCosts as taking
 use Rattle.hwp_claim_frame.proofs.of_hwp_core.TaskTells.{Tells, empty-tells, frame-tells, give-up-tells, no-frame, no-page, unhold-tells}
 use Rattle.hwp_soft_move.specs.declared.discard.Discard.{Discard}
 use Rattle.hwp_soft_move.specs.declared.discard.DiscardAt.{DiscardAt}

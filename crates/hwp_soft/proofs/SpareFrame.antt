@@ -35,12 +35,12 @@ use Rattle.hwp_claim_frame.proofs.of_hwp_core_rule.tasks.SightKeeps.{saw-adopt}
 use Rattle.hwp_claim_frame.specs.hwp_core.declared.release.Release.{Release}
 use Rattle.hwp_claim_frame.specs.hwp_core.declared.release.ReleaseAt.{ReleaseAt}
 use Rattle.hwp_claim_frame.specs.hwp_core.declared.release.ReleaseAt.TheVariants as release_at
-use Rattle.hwp_fault_fill.specs.declared.take.Take.{Take}
-use Rattle.hwp_fault_fill.specs.declared.take.TakeAt.{TakeAt}
-use Rattle.hwp_fault_fill.specs.declared.take.TakeAt.TheVariants as take_at
+use Rattle.hwp_evict.specs.declared.take.Take.{Take}
+use Rattle.hwp_evict.specs.declared.take.TakeAt.{TakeAt}
+use Rattle.hwp_evict.specs.declared.take.TakeAt.TheVariants as take_at
 use Rattle.hwp_claim_frame.specs.hwp_core.Holds.{HoldsPage, held, one_ref}
 use Rattle.hwp_claim_frame.specs.hwp_core.Releases as releases
-use Rattle.hwp_fault_fill.specs.Takes as takes
+use Rattle.hwp_evict.specs.Takes as takes
 use Rattle.hwp_claim_frame.specs.hwp_core.Releases.{adopted_lock}
 use Rattle.hwp_claim_frame.specs.hwp_core.Unholds as unholds
 use Rattle.hwp_claim_frame.proofs.of_hwp_core.HoldEnds.{held-unholds}

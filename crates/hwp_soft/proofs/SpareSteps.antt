@@ -36,16 +36,16 @@ use Rattle.hwp_claim_frame.proofs.of_hwp_core_rule.tasks.SightKeeps.{saw-adopted
 use Rattle.hwp_claim_frame.specs.hwp_core.declared.release.Release.{Release}
 use Rattle.hwp_claim_frame.specs.hwp_core.declared.release.ReleaseAt.{ReleaseAt}
 use Rattle.hwp_claim_frame.specs.hwp_core.declared.release.ReleaseAt.TheVariants as release_at
-use Rattle.hwp_fault_fill.specs.declared.take.Take.{Take}
-use Rattle.hwp_fault_fill.specs.declared.take.TakeAt.{TakeAt}
-use Rattle.hwp_fault_fill.specs.declared.take.TakeAt.TheVariants as take_at
+use Rattle.hwp_evict.specs.declared.take.Take.{Take}
+use Rattle.hwp_evict.specs.declared.take.TakeAt.{TakeAt}
+use Rattle.hwp_evict.specs.declared.take.TakeAt.TheVariants as take_at
 use Rattle.hwp_claim_frame.specs.hwp_core.Holds.{one_ref}
 use Rattle.hwp_claim_frame.specs.hwp_core.Releases as releases
-use Rattle.hwp_fault_fill.specs.Takes as takes
+use Rattle.hwp_evict.specs.Takes as takes
 use Rattle.hwp_claim_frame.specs.hwp_core.Releases.{new_lock}
 use Rattle.hwp_claim_frame.proofs.of_hwp_core.TaskCosts.{release-lists}
 use Rattle.hwp_claim_frame.proofs.of_hwp_core.ReleaseLaws as releasing_laws
-use Rattle.hwp_fault_fill.proofs.TakeLaws as taking
+use Rattle.hwp_evict.proofs.TakeLaws as taking
 use Rattle.hwp_claim_frame.proofs.of_hwp_core.TranslationWrites.{declared-of}
 use Rattle.hwp_claim_frame.proofs.of_hwp_core.BodyGrows.{Grown}
 use Rattle.hwp_claim_frame.proofs.of_hwp_core.PageStates.{is-cached, replay-is, replay-own, state-is}

@@ -18,13 +18,13 @@ use Rattle.hwp_claim_frame.specs.hwp_core_rule.declared.Turn.{Turn}
 use Rattle.hwp_claim_frame.specs.hwp_core_rule.declared.Turn.TheVariants.{Moved, Answered}
 use Rattle.hwp_claim_frame.specs.hwp_core_rule.Ranks.{free_room, pass}
 use Rattle.hwp_claim_frame.specs.hwp_core.declared.release.Release.{Release}
-use Rattle.hwp_fault_fill.specs.declared.take.Take.{Take}
-use Rattle.hwp_fault_fill.specs.declared.take.TakeAnswer.{TakeAnswer}
-use Rattle.hwp_fault_fill.specs.declared.take.TakeAnswer.TheVariants as take_answers
+use Rattle.hwp_evict.specs.declared.take.Take.{Take}
+use Rattle.hwp_evict.specs.declared.take.TakeAnswer.{TakeAnswer}
+use Rattle.hwp_evict.specs.declared.take.TakeAnswer.TheVariants as take_answers
 use Rattle.hwp_claim_frame.specs.hwp_core.declared.unhold.Unhold.{Unhold}
 use Rattle.hwp_claim_frame.specs.hwp_core.GiveUps as give_ups
 use Rattle.hwp_claim_frame.specs.hwp_core.Releases as releases
-use Rattle.hwp_fault_fill.specs.Takes as takes
+use Rattle.hwp_evict.specs.Takes as takes
 use Rattle.hwp_claim_frame.specs.hwp_core.Unholds as unholds
 use Rattle.hwp_soft_move.specs.declared.discard.Discard.{Discard}
 use Rattle.hwp_soft_move.specs.declared.relocate.Relocate.{Relocate}

@@ -9,7 +9,7 @@ use hwp_claim_frame::{
     At, Body, Entry, Frame, FrameWord, GiveUp, Layout, Mask, Page, Ranked, Release, Scheduled,
     SharedWord, SlotRoom, Step, Task, Turn, Unhold, What, Who, is_stopped, let_go_of,
 };
-use hwp_fault_fill::{Take, TakeAnswer};
+use hwp_evict::{Take, TakeAnswer};
 use hwp_soft_move::{Discard, Relocate, Seize, SeizeAnswer};
 use std::mem;
 

@@ -19,11 +19,11 @@ use Rattle.hwp_core.specs.hwp_core_rule.Calls.{Steps, rec_of}
 use Rattle.hwp_core.specs.hwp_core_rule.Hands.{empty, hand_of}
 use Rattle.hwp_core.specs.Holds.{one_ref}
 use Rattle.hwp_core.specs.Releases.{adopted_lock}
-use Rattle.hwp_fault_fill.specs.declared.take.Take.{Take}
-use Rattle.hwp_fault_fill.specs.declared.take.TakeAt.{TakeAt}
-use Rattle.hwp_fault_fill.specs.declared.take.TakeAt.TheVariants as at
-use Rattle.hwp_fault_fill.specs.Takes as takes
-use Rattle.hwp_fault_fill.proofs.TakeLaws.{held-after}
+use Rattle.hwp_evict.specs.declared.take.Take.{Take}
+use Rattle.hwp_evict.specs.declared.take.TakeAt.{TakeAt}
+use Rattle.hwp_evict.specs.declared.take.TakeAt.TheVariants as at
+use Rattle.hwp_evict.specs.Takes as takes
+use Rattle.hwp_evict.proofs.TakeLaws.{held-after}
 use Rattle.hwp_test_parts.specs.TakenFrames.{taken}
 
 number-kept : (none : Bool) (found : ℕ) → empty ≡ taken (cond none (at.Over None) (at.Reserve found))

@@ -4,8 +4,8 @@ use Rattle.hwp_core.specs.hwp_core_rule.Views.{unpoisoned}
 use Rattle.hwp_core.specs.hwp_core_rule.Hands.{Hand, empty}
 use Rattle.hwp_core.specs.Holds.{one_ref}
 use Rattle.hwp_core.specs.Releases.{adopted_lock}
-use Rattle.hwp_fault_fill.specs.declared.take.TakeAt.{TakeAt}
-use Rattle.hwp_fault_fill.specs.declared.take.TakeAt.TheVariants as at
+use Rattle.hwp_evict.specs.declared.take.TakeAt.{TakeAt}
+use Rattle.hwp_evict.specs.declared.take.TakeAt.TheVariants as at
 
 -- nothing, then a reservation, then the frame in hand, then its lock and one reference
 abbrev pub taken : TakeAt → Hand

@@ -6,14 +6,14 @@ ghost use Rattle.hwp_core.specs.hwp_core_rule.Opening.{opening_view};
 ghost use Rattle.hwp_core.specs.hwp_core_rule.Boards.{view_of};
 ghost use Rattle.hwp_core.specs.Holds as holds;
 ghost use Rattle.hwp_core.specs.Unholds.{LetsGo};
-ghost use Rattle.hwp_fault_fill.specs.Takes.{Fits};
+ghost use Rattle.hwp_evict.specs.Takes.{Fits};
 
 use crate::checking::check;
 use crate::machine::machine;
 use hwp_core::{
     Board, Cpu, Hold, Kind, Layout, List, Page, PageKind, Task, Turn, Unhold, Version, Who,
 };
-use hwp_fault_fill::{Take, TakeAnswer};
+use hwp_evict::{Take, TakeAnswer};
 use hwp_plain::PlainBoard;
 use std::alloc::Global;
 use std::process::Abort;

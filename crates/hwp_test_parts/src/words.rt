@@ -5,14 +5,14 @@ ghost use Rattle.hwp_core.specs.hwp_core_rule.Opening.{opening_view};
 ghost use Rattle.hwp_core.specs.hwp_core_rule.Boards.{view_of};
 ghost use Rattle.hwp_core.specs.hwp_core_rule.Hands.{hand_of};
 ghost use Rattle.hwp_core.specs.Unlocks as unlocks;
-ghost use Rattle.hwp_fault_fill.specs.Takes as takes;
+ghost use Rattle.hwp_evict.specs.Takes as takes;
 ghost use Rattle.hwp_test_parts.specs.TakenFrames.{taken};
 
 use crate::checking::check;
 use crate::machine::machine;
 use crate::turns::is_turn;
 use hwp_core::{Board, Cpu, Frame, Kind, Task, Turn, Unlock, Who};
-use hwp_fault_fill::{Take, TakeAnswer};
+use hwp_evict::{Take, TakeAnswer};
 use hwp_plain::PlainBoard;
 use std::alloc::Global;
 use std::process::Abort;

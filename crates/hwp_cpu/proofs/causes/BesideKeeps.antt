@@ -50,10 +50,10 @@ use Rattle.hwp_cpu_command.specs.hwp_core.GiveUps as give_ups
 use Rattle.hwp_cpu_command.specs.hwp_core.Unholds as unholds
 use Rattle.hwp_cpu_command.specs.hwp_core.Unlocks as unlocks
 use Rattle.hwp_cpu_command.specs.hwp_core.Releases as releases
-use Rattle.hwp_cpu_command.specs.hwp_fault.hwp_fault_fill.declared.take.Take.{Take}
-use Rattle.hwp_cpu_command.specs.hwp_fault.hwp_fault_fill.declared.take.TakeAnswer.{TakeAnswer}
-use Rattle.hwp_cpu_command.specs.hwp_fault.hwp_fault_fill.declared.take.TakeAnswer.TheVariants as take_answers
-use Rattle.hwp_cpu_command.specs.hwp_fault.hwp_fault_fill.Takes as takes
+use Rattle.hwp_cpu_command.specs.hwp_fault.hwp_evict.declared.take.Take.{Take}
+use Rattle.hwp_cpu_command.specs.hwp_fault.hwp_evict.declared.take.TakeAnswer.{TakeAnswer}
+use Rattle.hwp_cpu_command.specs.hwp_fault.hwp_evict.declared.take.TakeAnswer.TheVariants as take_answers
+use Rattle.hwp_cpu_command.specs.hwp_fault.hwp_evict.Takes as takes
 use Rattle.hwp_law_served.specs.hwp_claim_frame.Meets.{AsTaken}
 use Rattle.hwp_cpu_command.proofs.of_hwp_claim.of_hwp_claim_frame.ViewKeeps.{Account, account_of, kept, unlock-only}
 use Rattle.hwp_cpu_command.proofs.of_hwp_soft.SoftFits.{unhold-only}

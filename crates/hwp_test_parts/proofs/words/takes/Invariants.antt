@@ -1,7 +1,7 @@
 use Rattle.std.proofs.Common.{◌≡◌}
 use Rattle.hwp_core.specs.hwp_core_rule.Boards.{view_of}
 use Rattle.hwp_core.specs.hwp_core_rule.Hands.{hand_of}
-use Rattle.hwp_fault_fill.specs.Takes.{Fits}
+use Rattle.hwp_evict.specs.Takes.{Fits}
 use Rattle.hwp_test_parts.specs.TakenFrames.{taken}
 use Rattle.hwp_test_parts.proofs.words.takes.Given as goal
 

@@ -3,8 +3,8 @@ use Rattle.hwp_core.specs.hwp_geom.declared.Who.{Who}
 use Rattle.hwp_core.specs.hwp_core_rule.declared.View.{View}
 use Rattle.hwp_core.specs.hwp_core_rule.Boards.{view_of}
 use Rattle.hwp_core.specs.hwp_core_rule.Hands.{hand_of}
-use Rattle.hwp_fault_fill.specs.declared.Take.{Take}
-use Rattle.hwp_fault_fill.specs.Takes.{Fits, begin}
+use Rattle.hwp_evict.specs.declared.Take.{Take}
+use Rattle.hwp_evict.specs.Takes.{Fits, begin}
 use Rattle.hwp_test_parts.specs.TakenFrames.{taken}
 use Rattle.hwp_test_parts.proofs.TaskBegins.{take-open}
 use Rattle.hwp_test_parts.proofs.words.taking.Goals as goal

@@ -1,5 +1,5 @@
 ghost use Rattle.std.specs.Prelude.{◌≡◌, None};
-ghost use Rattle.hwp_fault_fill.specs.Fills.{HasRoomFor, brought};
+ghost use Rattle.hwp_evict.specs.Fills.{HasRoomFor, brought};
 
 use crate::take::{Take, TakeAnswer};
 use hwp_core::{
@@ -34,7 +34,7 @@ pub enum FillAnswer {
 }
 
 impl Fill {
-    ghost use Rattle.hwp_fault_fill.specs.Fills.{begin, plan, answer};
+    ghost use Rattle.hwp_evict.specs.Fills.{begin, plan, answer};
 
     /// The command puts the page into a frame. The body has room for one entry more.
     pub fn new(who: Who, page: Page, body: Body) -> Fill
@@ -85,7 +85,7 @@ fn bring(who: Who, body: &mut Body)
 }
 
 impl Task for Fill {
-    ghost use Rattle.hwp_fault_fill.specs.Fills as fills;
+    ghost use Rattle.hwp_evict.specs.Fills as fills;
 
     ghost task = { fills.task };
 

@@ -23,11 +23,11 @@ use Rattle.hwp_core.specs.hwp_core_rule.Ranks.{stale}
 use Rattle.hwp_core.specs.hwp_core_rule.Known.{Saw}
 use Rattle.hwp_core.specs.hwp_core_rule.Turns.{Member}
 use Rattle.hwp_core.specs.Releases.{adopted_lock}
-use Rattle.hwp_fault_fill.specs.declared.take.Take.{Take}
-use Rattle.hwp_fault_fill.specs.declared.take.TakeAt.{TakeAt}
-use Rattle.hwp_fault_fill.specs.declared.take.TakeAt.TheVariants as at
-use Rattle.hwp_fault_fill.specs.declared.take.TakeAnswer.{TakeAnswer}
-use Rattle.hwp_fault_fill.specs.declared.take.TakeAnswer.TheVariants as answers
+use Rattle.hwp_evict.specs.declared.take.Take.{Take}
+use Rattle.hwp_evict.specs.declared.take.TakeAt.{TakeAt}
+use Rattle.hwp_evict.specs.declared.take.TakeAt.TheVariants as at
+use Rattle.hwp_evict.specs.declared.take.TakeAnswer.{TakeAnswer}
+use Rattle.hwp_evict.specs.declared.take.TakeAnswer.TheVariants as answers
 
 -- what is to be done about the number of available frames that was shown
 abbrev pub at_available : ℕ → TakeAt

@@ -1,9 +1,9 @@
 use Rattle.std.proofs.Common.{◌≢◌, ℕ, ◌+◌, ◌*◌, Bool, true, cond, refl, sym, ap, ◌∙◌, subst, arith}
 use Rattle.std.proofs.lemmas.Bool.{both_ways, ne_eqb}
 use Rattle.hwp_core.specs.hwp_geom.Bits.{IsLowestBit}
-use Rattle.hwp_fault_fill.proofs.take.Take.at_free.Goals as goal
-use Rattle.hwp_fault_fill.specs.declared.take.TakeAt.TheVariants as at
-use Rattle.hwp_fault_fill.specs.Takes.{after_word, lowest_free}
+use Rattle.hwp_evict.proofs.take.Take.at_free.Goals as goal
+use Rattle.hwp_evict.specs.declared.take.TakeAt.TheVariants as at
+use Rattle.hwp_evict.specs.Takes.{after_word, lowest_free}
 use Rattle.hwp_core.proofs.FreeWords.{lowest-is}
 
 pub returns-in-Some : goal.returns-in-Some

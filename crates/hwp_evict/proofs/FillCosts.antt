@@ -20,16 +20,16 @@ use Rattle.hwp_core.specs.declared.refer.ReferAt.{ReferAt}
 use Rattle.hwp_core.specs.declared.refer.ReferAt.TheVariants as refer_at
 use Rattle.hwp_core.specs.Refers as refers
 use Rattle.hwp_core.proofs.ReferCosts.{refer-falls, refer-small, refer-goes, refer-mild}
-use Rattle.hwp_fault_fill.specs.declared.fill.Fill.{Fill}
-use Rattle.hwp_fault_fill.specs.declared.fill.FillAt.{FillAt}
-use Rattle.hwp_fault_fill.specs.declared.fill.FillAt.TheVariants as fill_at
-use Rattle.hwp_fault_fill.specs.declared.take.Take.{Take}
-use Rattle.hwp_fault_fill.specs.declared.take.TakeAt.{TakeAt}
-use Rattle.hwp_fault_fill.specs.declared.take.TakeAt.TheVariants as take_at
-use Rattle.hwp_fault_fill.specs.Fills as fills
-use Rattle.hwp_fault_fill.specs.Takes as takes
-use Rattle.hwp_fault_fill.proofs.StepWords.{IsMet, words_then, is-met}
-use Rattle.hwp_fault_fill.proofs.TakeCosts as taking
+use Rattle.hwp_evict.specs.declared.fill.Fill.{Fill}
+use Rattle.hwp_evict.specs.declared.fill.FillAt.{FillAt}
+use Rattle.hwp_evict.specs.declared.fill.FillAt.TheVariants as fill_at
+use Rattle.hwp_evict.specs.declared.take.Take.{Take}
+use Rattle.hwp_evict.specs.declared.take.TakeAt.{TakeAt}
+use Rattle.hwp_evict.specs.declared.take.TakeAt.TheVariants as take_at
+use Rattle.hwp_evict.specs.Fills as fills
+use Rattle.hwp_evict.specs.Takes as takes
+use Rattle.hwp_evict.proofs.StepWords.{IsMet, words_then, is-met}
+use Rattle.hwp_evict.proofs.TakeCosts as taking
 
 -- the state after a take costs at most four more than the take, and that after the second reference one more than it
 take-cost : (t : Take) (w : Words) → fills.cost_at (fills.after_take t) w ≤ takes.cost t w + 4

@@ -40,7 +40,7 @@ use Rattle.hwp_core.specs.hwp_core_rule.Hands.{Hand, hand_of, body_in}
 use Rattle.hwp_core.specs.Holds.{page_lock}
 use Rattle.hwp_core.specs.Unholds.{holding}
 use Rattle.hwp_core.proofs.BodyStates.{replay-state, replay-unused}
-use Rattle.hwp_fault_fill.specs.Fills.{CanBring, brought}
+use Rattle.hwp_evict.specs.Fills.{CanBring, brought}
 
 -- the one member of a list
 only-member : {A : Type 0} (P : A → Type 0) (l : List A) (a : A) → l ≡ a ∷ [] → P a → EachMember P l

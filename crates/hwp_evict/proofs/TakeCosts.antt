@@ -22,11 +22,11 @@ use Rattle.hwp_core.specs.hwp_core_rule.Ranks.{CostFalls, HasFailed, IsRanked, M
 use Rattle.hwp_core.proofs.of_hwp_core_rule.tasks.StepRanks.{words-after, retire-fails, failed, rank-failing}
 use Rattle.hwp_core.proofs.FreeWords.{all_zero, frees-length, some-free, some-reserved, shown, lowest-shown, none-cleared, zero-on, not-zero, zero-past}
 use Rattle.hwp_core.proofs.TaskCosts.{stale-most}
-use Rattle.hwp_fault_fill.specs.declared.take.Take.{Take}
-use Rattle.hwp_fault_fill.specs.declared.take.TakeAt.{TakeAt}
-use Rattle.hwp_fault_fill.specs.declared.take.TakeAt.TheVariants as take_at
-use Rattle.hwp_fault_fill.specs.Takes.{at_available, after_word, lowest_free, has_bit, plan, plan_at, next, next_at, turn, turn_at, Fits, FitsAt, class, class_at, are_empty, cost, cost_at, task as take-task}
-use Rattle.hwp_fault_fill.proofs.StepWords.{IsMet, words_then, is-met, read-met, words-stay}
+use Rattle.hwp_evict.specs.declared.take.Take.{Take}
+use Rattle.hwp_evict.specs.declared.take.TakeAt.{TakeAt}
+use Rattle.hwp_evict.specs.declared.take.TakeAt.TheVariants as take_at
+use Rattle.hwp_evict.specs.Takes.{at_available, after_word, lowest_free, has_bit, plan, plan_at, next, next_at, turn, turn_at, Fits, FitsAt, class, class_at, are_empty, cost, cost_at, task as take-task}
+use Rattle.hwp_evict.proofs.StepWords.{IsMet, words_then, is-met, read-met, words-stay}
 
 -- the step retires a frame
 abbrev pub Retires : Step → Type 0

@@ -33,7 +33,7 @@ pub enum TakeAnswer {
 }
 
 impl Take {
-    ghost use Rattle.hwp_fault_fill.specs.Takes.{begin, plan, answer, at_available, at_adopted, at_free, after_word, has_bit};
+    ghost use Rattle.hwp_evict.specs.Takes.{begin, plan, answer, at_available, at_adopted, at_free, after_word, has_bit};
 
     /// The command takes a free frame.
     pub fn new(who: Who) -> Take
@@ -105,7 +105,7 @@ impl Take {
     }
 }
 
-ghost use Rattle.hwp_fault_fill.specs.Takes.{has_bit};
+ghost use Rattle.hwp_evict.specs.Takes.{has_bit};
 
 /// The free word has the frame's bit.
 fn has_bit(frame: Frame, word: u64) -> bool
@@ -115,7 +115,7 @@ fn has_bit(frame: Frame, word: u64) -> bool
 }
 
 impl Task for Take {
-    ghost use Rattle.hwp_fault_fill.specs.Takes as takes;
+    ghost use Rattle.hwp_evict.specs.Takes as takes;
 
     ghost task = { takes.task };
 

@@ -34,18 +34,18 @@ use Rattle.hwp_core.specs.Unholds as unholds
 use Rattle.hwp_core.specs.Unholds.{holding, HoldsAhead}
 use Rattle.hwp_core.proofs.ReferLaws as referring
 use Rattle.hwp_core.proofs.UnholdLaws.{refs-are}
-use Rattle.hwp_fault_fill.specs.declared.fill.Fill.{Fill}
-use Rattle.hwp_fault_fill.specs.declared.fill.FillAt.{FillAt}
-use Rattle.hwp_fault_fill.specs.declared.fill.FillAt.TheVariants as at
-use Rattle.hwp_fault_fill.specs.declared.fill.FillAnswer.{FillAnswer}
-use Rattle.hwp_fault_fill.specs.declared.fill.FillAnswer.TheVariants as answers
-use Rattle.hwp_fault_fill.specs.declared.take.Take.{Take}
-use Rattle.hwp_fault_fill.specs.declared.take.TakeAt.{TakeAt}
-use Rattle.hwp_fault_fill.specs.declared.take.TakeAt.TheVariants as take_at
-use Rattle.hwp_fault_fill.specs.Fills.{answer, answer_at, begin, plan, plan_at, after_take, after_refer, next, next_at, brought, body_next, turn, ShowsAt, Shows, HasRoomFor, CanBring, with_take, with_frame, HoldsBoth, IsReferring, Fits, FitsAt}
-use Rattle.hwp_fault_fill.specs.Takes as takes
-use Rattle.hwp_fault_fill.proofs.FillEntry.{trans, goes-home}
-use Rattle.hwp_fault_fill.proofs.TakeLaws as taking
+use Rattle.hwp_evict.specs.declared.fill.Fill.{Fill}
+use Rattle.hwp_evict.specs.declared.fill.FillAt.{FillAt}
+use Rattle.hwp_evict.specs.declared.fill.FillAt.TheVariants as at
+use Rattle.hwp_evict.specs.declared.fill.FillAnswer.{FillAnswer}
+use Rattle.hwp_evict.specs.declared.fill.FillAnswer.TheVariants as answers
+use Rattle.hwp_evict.specs.declared.take.Take.{Take}
+use Rattle.hwp_evict.specs.declared.take.TakeAt.{TakeAt}
+use Rattle.hwp_evict.specs.declared.take.TakeAt.TheVariants as take_at
+use Rattle.hwp_evict.specs.Fills.{answer, answer_at, begin, plan, plan_at, after_take, after_refer, next, next_at, brought, body_next, turn, ShowsAt, Shows, HasRoomFor, CanBring, with_take, with_frame, HoldsBoth, IsReferring, Fits, FitsAt}
+use Rattle.hwp_evict.specs.Takes as takes
+use Rattle.hwp_evict.proofs.FillEntry.{trans, goes-home}
+use Rattle.hwp_evict.proofs.TakeLaws as taking
 
 -- ---- what is held after each step
 

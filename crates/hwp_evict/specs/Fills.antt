@@ -27,15 +27,15 @@ use Rattle.hwp_core.specs.Holds.{locked, one_ref, IsBodyOf, HoldsPage}
 use Rattle.hwp_core.specs.Refers as refers
 use Rattle.hwp_core.specs.Releases.{adopted_lock, new_lock}
 use Rattle.hwp_core.specs.Unholds.{HoldsAhead}
-use Rattle.hwp_fault_fill.specs.declared.fill.Fill.{Fill}
-use Rattle.hwp_fault_fill.specs.declared.fill.FillAt.{FillAt}
-use Rattle.hwp_fault_fill.specs.declared.fill.FillAt.TheVariants as at
-use Rattle.hwp_fault_fill.specs.declared.fill.FillAnswer.{FillAnswer}
-use Rattle.hwp_fault_fill.specs.declared.fill.FillAnswer.TheVariants as answers
-use Rattle.hwp_fault_fill.specs.declared.take.Take.{Take}
-use Rattle.hwp_fault_fill.specs.declared.take.TakeAt.{TakeAt}
-use Rattle.hwp_fault_fill.specs.declared.take.TakeAt.TheVariants as take_at
-use Rattle.hwp_fault_fill.specs.Takes as takes
+use Rattle.hwp_evict.specs.declared.fill.Fill.{Fill}
+use Rattle.hwp_evict.specs.declared.fill.FillAt.{FillAt}
+use Rattle.hwp_evict.specs.declared.fill.FillAt.TheVariants as at
+use Rattle.hwp_evict.specs.declared.fill.FillAnswer.{FillAnswer}
+use Rattle.hwp_evict.specs.declared.fill.FillAnswer.TheVariants as answers
+use Rattle.hwp_evict.specs.declared.take.Take.{Take}
+use Rattle.hwp_evict.specs.declared.take.TakeAt.{TakeAt}
+use Rattle.hwp_evict.specs.declared.take.TakeAt.TheVariants as take_at
+use Rattle.hwp_evict.specs.Takes as takes
 
 abbrev pub begin : Who → Page → BodyValue → Fill
 begin who page body = record { who = who; page = page; body = body; at = at.Take (takes.begin who) }

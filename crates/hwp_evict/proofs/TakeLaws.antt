@@ -40,10 +40,10 @@ use Rattle.hwp_core.specs.hwp_core_rule.Known.{Saw}
 use Rattle.hwp_core.proofs.of_hwp_core_rule.tasks.SightKeeps.{saw-load, saw-reserve}
 use Rattle.hwp_core.specs.Releases.{adopted_lock}
 use Rattle.hwp_core.proofs.FreeWords.{lowest-shown}
-use Rattle.hwp_fault_fill.specs.declared.take.Take.{Take}
-use Rattle.hwp_fault_fill.specs.declared.take.TakeAt.{TakeAt}
-use Rattle.hwp_fault_fill.specs.declared.take.TakeAt.TheVariants as at
-use Rattle.hwp_fault_fill.specs.Takes.{at_adopted, at_available, after_word, lowest_free, has_bit, plan, plan_at, next, next_at, turn, ShowsAt, Shows, HasLockRoom, Fits, FitsAt, hand_next, hand_next_at}
+use Rattle.hwp_evict.specs.declared.take.Take.{Take}
+use Rattle.hwp_evict.specs.declared.take.TakeAt.{TakeAt}
+use Rattle.hwp_evict.specs.declared.take.TakeAt.TheVariants as at
+use Rattle.hwp_evict.specs.Takes.{at_adopted, at_available, after_word, lowest_free, has_bit, plan, plan_at, next, next_at, turn, ShowsAt, Shows, HasLockRoom, Fits, FitsAt, hand_next, hand_next_at}
 
 pub can : (layout : Layout) (view : View) (t : Take) (step : Step) → Fits layout view t → plan t ≡ Some step → CanMake layout t.who step None view
 can layout view t step fits is = which t.at fits.at is
