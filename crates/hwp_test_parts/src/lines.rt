@@ -34,38 +34,38 @@ fn told(rt: &impl Abort, alloc: Global, text: &[u8]) -> String {
 }
 
 /// Each text is read as what stands beside it.
-fn are_told(rt: &impl Abort, alloc: Global, rows: &[(&[u8], &str)]) {
+fn are_told(rt: &impl Abort, alloc: Global, rows: &[(&[u8], &[u8])]) {
     for (text, want) in rows {
         let read = told(rt, alloc, text);
-        check(rt, read.as_str() == *want);
+        check(rt, read.as_str().as_bytes() == *want);
     }
 }
 
 /// Each text is read as this.
-fn are_all(rt: &impl Abort, alloc: Global, texts: &[&[u8]], want: &str) {
+fn are_all(rt: &impl Abort, alloc: Global, texts: &[&[u8]], want: &[u8]) {
     for text in texts {
         let read = told(rt, alloc, text);
-        check(rt, read.as_str() == want);
+        check(rt, read.as_str().as_bytes() == want);
     }
 }
 
 /// The forms of version 2, and its highest numbers.
-const NEWER: &[(&[u8], &str)] = &[
+const NEWER: &[(&[u8], &[u8])] = &[
     (
         b"hwp 2\ncpus 16\nframes 4096\npage 6 anon locked\npage 7 file 8 fill 9 locked\nopen 15\n",
-        "1 hwp 2\n2 cpus 16\n3 frames 4096\n4 page 6 anon locked\n5 page 7 file 8 fill 9 locked\n6 open 15\n",
+        b"1 hwp 2\n2 cpus 16\n3 frames 4096\n4 page 6 anon locked\n5 page 7 file 8 fill 9 locked\n6 open 15\n",
     ),
     (
         b"load 0 4095 0\ndrop 4095\nscrub 256 4095\ninject 4095\nschedule 8 9. 15@stop\n",
-        "1 load 0 4095 0\n2 drop 4095\n3 scrub 256 4095\n4 inject 4095\n5 schedule 8 9. 15@stop\n",
+        b"1 load 0 4095 0\n2 drop 4095\n3 scrub 256 4095\n4 inject 4095\n5 schedule 8 9. 15@stop\n",
     ),
     (
         b"watch 1 1\nwatch 1000 64\n  watch  2  3  \n",
-        "1 watch 1 1\n2 watch 1000 64\n3 watch 2 3\n",
+        b"1 watch 1 1\n2 watch 1000 64\n3 watch 2 3\n",
     ),
     (
         b"cow 0 4095\n cow  18446744073709551615  1 \nfork 31 15\nfork  0  1\n",
-        "1 cow 0 4095\n2 cow 18446744073709551615 1\n3 fork 31 15\n4 fork 0 1\n",
+        b"1 cow 0 4095\n2 cow 18446744073709551615 1\n3 fork 31 15\n4 fork 0 1\n",
     ),
 ];
 
@@ -98,40 +98,40 @@ const NEWER_OVER: &[&[u8]] = &[
 #[test]
 fn forms_of_version_2_are_read_as_they_are_printed(rt: HostRuntime) {
     are_told(&rt, rt.alloc(), NEWER);
-    are_all(&rt, rt.alloc(), NEWER_WORDS, "1 bad number in version 2\n");
+    are_all(&rt, rt.alloc(), NEWER_WORDS, b"1 bad number in version 2\n");
     are_all(
         &rt,
         rt.alloc(),
         NEWER_OVER,
-        "1 over the limit in version 2\n",
+        b"1 over the limit in version 2\n",
     );
 }
 
 /// Every kind of line, as it is read and as it is printed.
-const KINDS: &[(&[u8], &str)] = &[
+const KINDS: &[(&[u8], &[u8])] = &[
     (
         b"hwp 1\ncpus 8\nframes 256\nkernel 3\nrecovery 0\nearly 1\nfile 0\nproc 1\n",
-        "1 hwp 1\n2 cpus 8\n3 frames 256\n4 kernel 3\n5 recovery 0\n6 early 1\n7 file 0\n8 proc 1\n",
+        b"1 hwp 1\n2 cpus 8\n3 frames 256\n4 kernel 3\n5 recovery 0\n6 early 1\n7 file 0\n8 proc 1\n",
     ),
     (
         b"thread 0 1 2 handler\nthread 3 4 5 nohandler\npage 6 anon\npage 7 file 8 fill 9\ntrans 1 2 3\n",
-        "1 thread 0 1 2 handler\n2 thread 3 4 5 nohandler\n3 page 6 anon\n4 page 7 file 8 fill 9\n5 trans 1 2 3\n",
+        b"1 thread 0 1 2 handler\n2 thread 3 4 5 nohandler\n3 page 6 anon\n4 page 7 file 8 fill 9\n5 trans 1 2 3\n",
     ),
     (
         b"cpu 4\nload 1 2 3\nfetch 4 5 6\nkload 7 8 9\nstore 1 2 3 18446744073709551615\nfree 0\n",
-        "1 cpu 4\n2 load 1 2 3\n3 fetch 4 5 6\n4 kload 7 8 9\n5 store 1 2 3 18446744073709551615\n6 free 0\n",
+        b"1 cpu 4\n2 load 1 2 3\n3 fetch 4 5 6\n4 kload 7 8 9\n5 store 1 2 3 18446744073709551615\n6 free 0\n",
     ),
     (
         b"drop 1\nsync 2\nout 3\nfsync 4\nprctl 1 33 1 0 0 0\nbad 5 6\nweak 7 8\nscrub 9 10\n",
-        "1 drop 1\n2 sync 2\n3 out 3\n4 fsync 4\n5 prctl 1 33 1 0 0 0\n6 bad 5 6\n7 weak 7 8\n8 scrub 9 10\n",
+        b"1 drop 1\n2 sync 2\n3 out 3\n4 fsync 4\n5 prctl 1 33 1 0 0 0\n6 bad 5 6\n7 weak 7 8\n8 scrub 9 10\n",
     ),
     (
         b"log 0x0 0xbd000000000000c0 0x86\nraise user 1 0 1\nraise kernel 1 0\nraise nested\ninject 1\n",
-        "1 log 0x0 0xbd000000000000c0 0x86\n2 raise user 1 0 1\n3 raise kernel 1 0\n4 raise nested\n5 inject 1\n",
+        b"1 log 0x0 0xbd000000000000c0 0x86\n2 raise user 1 0 1\n3 raise kernel 1 0\n4 raise nested\n5 inject 1\n",
     ),
     (
         b"soft 2\nunpoison 3\nschedule 0 1. 2@poison 3@report_lost 7\nend\n",
-        "1 soft 2\n2 unpoison 3\n3 schedule 0 1. 2@poison 3@report_lost 7\n4 end\n",
+        b"1 soft 2\n2 unpoison 3\n3 schedule 0 1. 2@poison 3@report_lost 7\n4 end\n",
     ),
 ];
 
@@ -140,17 +140,17 @@ fn every_kind_of_line_is_read_as_it_is_printed(rt: HostRuntime) {
     are_told(&rt, rt.alloc(), KINDS);
 }
 
-const SKIPPED: &[(&[u8], &str)] = &[
-    (b"", ""),
-    (b"\n\n\n", ""),
-    (b"# cpus 1\n\n   \ncpus 1\n#\nend", "4 cpus 1\n6 end\n"),
-    (b"#\xff\x00\t\nend\n", "2 end\n"),
-    (b"  cpu   3  \n", "1 cpu 3\n"),
-    (b"end\n\n# no more\n", "1 end\n"),
-    (b" # end\n", "1 unknown\n"),
+const SKIPPED: &[(&[u8], &[u8])] = &[
+    (b"", b""),
+    (b"\n\n\n", b""),
+    (b"# cpus 1\n\n   \ncpus 1\n#\nend", b"4 cpus 1\n6 end\n"),
+    (b"#\xff\x00\t\nend\n", b"2 end\n"),
+    (b"  cpu   3  \n", b"1 cpu 3\n"),
+    (b"end\n\n# no more\n", b"1 end\n"),
+    (b" # end\n", b"1 unknown\n"),
     (
         b"log 0 0x00Ab 0xFFFFFFFFFFFFFFFF",
-        "1 log 0x0 0xab 0xffffffffffffffff\n",
+        b"1 log 0x0 0xab 0xffffffffffffffff\n",
     ),
 ];
 
@@ -196,7 +196,7 @@ const UNKNOWN: &[&[u8]] = &[
 
 #[test]
 fn a_line_of_no_form_is_unknown(rt: HostRuntime) {
-    are_all(&rt, rt.alloc(), UNKNOWN, "1 unknown\n");
+    are_all(&rt, rt.alloc(), UNKNOWN, b"1 unknown\n");
 }
 
 const NO_NUMBERS: &[&[u8]] = &[
@@ -225,7 +225,7 @@ const NO_NUMBERS: &[&[u8]] = &[
 
 #[test]
 fn a_word_in_a_numbers_place_is_a_number(rt: HostRuntime) {
-    are_all(&rt, rt.alloc(), NO_NUMBERS, "1 bad number\n");
+    are_all(&rt, rt.alloc(), NO_NUMBERS, b"1 bad number\n");
 }
 
 const TOO_LARGE: &[&[u8]] = &[
@@ -251,5 +251,5 @@ const TOO_LARGE: &[&[u8]] = &[
 
 #[test]
 fn a_number_of_a_command_is_in_its_range(rt: HostRuntime) {
-    are_all(&rt, rt.alloc(), TOO_LARGE, "1 over the limit\n");
+    are_all(&rt, rt.alloc(), TOO_LARGE, b"1 over the limit\n");
 }

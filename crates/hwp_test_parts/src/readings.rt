@@ -5,39 +5,28 @@ use hwp_report::{BadReport, print, read};
 use std::alloc::Global;
 use std::process::Abort;
 
-const IDLE: &str =
-    "hwp-report 1\nstop none\ncount 0\nfile 0 lost 0\nfile 1 lost 18446744073709551615\nframe 0 free bad 0 weak 0\nframe 1 kernel bad 20 weak 8000000000000000\nframe 2 page 65535 bad ffffffffffffffff weak a5\npage 0 0\npage 1 7\nin 1 0\nmap 1 0 511\nload 255 4294967295 511 63 20 18446744073709551615\nstore 0 4095 511 0 8000000000000000 0\nload 0 7 3 10 sigbus 31\nstore 1 8 3 10 sigbus 0\nmce 0 5 3 63 8000000000000000\ncpu 0 0\ncpu 1 3\n0 value 18446744073709551615 1 2\n9 noframe\n4094 stored 255 18446744073709551615\nend\n";
-
-const FAILED: &str =
-    "hwp-report 1\nstop 7 4095 shutdown\ncount 1\nfile 0 lost 0\nfile 1 lost 3\nfile 2 lost 18446744073709551615\npage 0 8\nfree 0 1 511\ndrop 0 2\nsync 1 3\nout 7 4\nfail 0 5 filedirty req 0 3 2\nseen 1 late 0\nseen 2 default 4095\nseen 31 early 1\nsignal 0 0 ar 0\nsignal 15 31 ao 511\nfail 2 6 swapclean opt - 0 0\nfail 2 6 kernel opt - 0 1\nsignal 15 31 ao 511\nsoft 0 7\nend\n";
-
-const MARKED: &str =
-    "hwp-report 2\nstop 0 0 panic 255\ncount 3\nframe 0 handled bad 20 weak 0\npoisoned 0 0 0 sw free recovered\nunpoisoned 0 1 1\npoisoned 1 0 6 hw anononly ignored\nframe 1 handled bad 0 weak 0\npoisoned 4095 0 2 soft moved recovered\npoisoned 4096 0 3 soft free recovered\npoisoned 4097 0 4 hw swapdirty delayed\npoisoned 4098 0 5 sw fileclean recovered\npoisoned 4099 0 6 sw filedirty recovered\npoisoned 4100 0 7 sw swapclean recovered\npoisoned 4101 0 8 hw lockedclean recovered\npoisoned 4102 0 9 sw lockedfile recovered\npoisoned 4103 0 10 sw lockedanon recovered\nframe 2 kernel bad 0 weak 1\npoisoned 0 0 9 hw kernel ignored\nend\n";
-
-const ANSWERED: &str =
-    "hwp-report 1\nstop 0 2 severity S8 1 fd800000000000c0 1 0 user\ncount 0\ncpu 0 12\n2 event 0 fd800000000000c0 1040 86 S9 recovered\n2 event 1 fd800000000000c0 1040 86 S8 stop\n2 event 2 fd800000000000c0 1040 86 S1 none\n2 event 0 fd800000000000c0 1040 86 S4 keep\n2 event 0 fd800000000000c0 1040 86 S6 deferred\n2 event 0 fd800000000000c0 1040 86 S13 logged\n2 event 0 fd800000000000c0 1040 86 S12 delayed\n2 event 0 fd800000000000c0 1040 86 S12 ignored\n2 event 0 fd800000000000c0 1040 86 S12 already\n2 event 0 fd800000000000c0 1040 86 S12 outside\n2 event 0 fd800000000000c0 1040 86 S12 panic\n2 event 0 fd800000000000c0 1040 86 S255 held\ncpu 1 28\n0 sigbus 255 10\n1 gone 255\n2 stopped\n3 done\n4 done 255 10\n5 notresident 255 10\n6 notmapped 255 10\n7 dirty 255 10\n8 mapped 255 10\n9 badlines 2a 255 10\n10 eio 10\n11 is 2\n12 einval\n13 recovered\n14 delayed\n15 ignored\n16 already\n17 moved 1 255 10\n18 takenfree\n19 kernel\n20 hasbad a\n21 notpoisoned\n22 hardwareseen\n23 inuse 10\n24 scrubbed 10\n25 raised 3\n26 opened 10\n27 locked 255 10\nend\n";
-
-const BESIDE: &str =
-    "hwp-report 2\nstop none\ncount 0\ncpu 0 10\n4 event 2 9c000000000000c0 40 86 S4 keep\n4 offlined 0 moved 1 0 3\n4 offlined 65535 takenfree\n4 offlined 2 already\n4 offlined 2 hasbad ffffffffffffffff\n4 offlined 3 noframe\n4 offlined 3 stopped\n4 scrubbed 1\n2 guest 0 bd80000000000134 140 86 S9 bad\n2 sigbus 0 4\ncpu 1 3\n2 guest 255 bd80000000000134 140 86 S10 stop\n3 guestbad\n3 gueststopped\nend\n";
-
-const BESIDE_OF_OLD: &str =
-    "hwp-report 1\nstop none\ncount 0\ncpu 0 4\n0 offlined 0 takenfree\n0 guest 0 bd80000000000134 140 86 S9 bad\n0 guestbad\n1 gueststopped\nend\n";
+/// Reports, with each form of line.
+const REPORTS: &[&[u8]] = &[
+    b"hwp-report 1\nstop none\ncount 0\nfile 0 lost 0\nfile 1 lost 18446744073709551615\nframe 0 free bad 0 weak 0\nframe 1 kernel bad 20 weak 8000000000000000\nframe 2 page 65535 bad ffffffffffffffff weak a5\npage 0 0\npage 1 7\nin 1 0\nmap 1 0 511\nload 255 4294967295 511 63 20 18446744073709551615\nstore 0 4095 511 0 8000000000000000 0\nload 0 7 3 10 sigbus 31\nstore 1 8 3 10 sigbus 0\nmce 0 5 3 63 8000000000000000\ncpu 0 0\ncpu 1 3\n0 value 18446744073709551615 1 2\n9 noframe\n4094 stored 255 18446744073709551615\nend\n",
+    b"hwp-report 1\nstop 7 4095 shutdown\ncount 1\nfile 0 lost 0\nfile 1 lost 3\nfile 2 lost 18446744073709551615\npage 0 8\nfree 0 1 511\ndrop 0 2\nsync 1 3\nout 7 4\nfail 0 5 filedirty req 0 3 2\nseen 1 late 0\nseen 2 default 4095\nseen 31 early 1\nsignal 0 0 ar 0\nsignal 15 31 ao 511\nfail 2 6 swapclean opt - 0 0\nfail 2 6 kernel opt - 0 1\nsignal 15 31 ao 511\nsoft 0 7\nend\n",
+    b"hwp-report 2\nstop 0 0 panic 255\ncount 3\nframe 0 handled bad 20 weak 0\npoisoned 0 0 0 sw free recovered\nunpoisoned 0 1 1\npoisoned 1 0 6 hw anononly ignored\nframe 1 handled bad 0 weak 0\npoisoned 4095 0 2 soft moved recovered\npoisoned 4096 0 3 soft free recovered\npoisoned 4097 0 4 hw swapdirty delayed\npoisoned 4098 0 5 sw fileclean recovered\npoisoned 4099 0 6 sw filedirty recovered\npoisoned 4100 0 7 sw swapclean recovered\npoisoned 4101 0 8 hw lockedclean recovered\npoisoned 4102 0 9 sw lockedfile recovered\npoisoned 4103 0 10 sw lockedanon recovered\nframe 2 kernel bad 0 weak 1\npoisoned 0 0 9 hw kernel ignored\nend\n",
+    b"hwp-report 1\nstop 0 2 severity S8 1 fd800000000000c0 1 0 user\ncount 0\ncpu 0 12\n2 event 0 fd800000000000c0 1040 86 S9 recovered\n2 event 1 fd800000000000c0 1040 86 S8 stop\n2 event 2 fd800000000000c0 1040 86 S1 none\n2 event 0 fd800000000000c0 1040 86 S4 keep\n2 event 0 fd800000000000c0 1040 86 S6 deferred\n2 event 0 fd800000000000c0 1040 86 S13 logged\n2 event 0 fd800000000000c0 1040 86 S12 delayed\n2 event 0 fd800000000000c0 1040 86 S12 ignored\n2 event 0 fd800000000000c0 1040 86 S12 already\n2 event 0 fd800000000000c0 1040 86 S12 outside\n2 event 0 fd800000000000c0 1040 86 S12 panic\n2 event 0 fd800000000000c0 1040 86 S255 held\ncpu 1 28\n0 sigbus 255 10\n1 gone 255\n2 stopped\n3 done\n4 done 255 10\n5 notresident 255 10\n6 notmapped 255 10\n7 dirty 255 10\n8 mapped 255 10\n9 badlines 2a 255 10\n10 eio 10\n11 is 2\n12 einval\n13 recovered\n14 delayed\n15 ignored\n16 already\n17 moved 1 255 10\n18 takenfree\n19 kernel\n20 hasbad a\n21 notpoisoned\n22 hardwareseen\n23 inuse 10\n24 scrubbed 10\n25 raised 3\n26 opened 10\n27 locked 255 10\nend\n",
+    b"hwp-report 2\nstop none\ncount 0\ncpu 0 10\n4 event 2 9c000000000000c0 40 86 S4 keep\n4 offlined 0 moved 1 0 3\n4 offlined 65535 takenfree\n4 offlined 2 already\n4 offlined 2 hasbad ffffffffffffffff\n4 offlined 3 noframe\n4 offlined 3 stopped\n4 scrubbed 1\n2 guest 0 bd80000000000134 140 86 S9 bad\n2 sigbus 0 4\ncpu 1 3\n2 guest 255 bd80000000000134 140 86 S10 stop\n3 guestbad\n3 gueststopped\nend\n",
+    b"hwp-report 1\nstop none\ncount 0\ncpu 0 4\n0 offlined 0 takenfree\n0 guest 0 bd80000000000134 140 86 S9 bad\n0 guestbad\n1 gueststopped\nend\n",
+];
 
 /// The report that a text is read as is printed as the text.
-fn is_read(rt: &impl Abort, alloc: Global, text: &str) {
-    let report = read(alloc, text.as_bytes()).ok().expect(rt, "a report");
+fn is_read(rt: &impl Abort, alloc: Global, text: &[u8]) {
+    let report = read(alloc, text).ok().expect(rt, "a report");
     let printed = print(alloc, &report).expect(rt, "memory");
-    check(rt, printed.as_slice() == text.as_bytes());
+    check(rt, printed.as_slice() == text);
 }
 
 #[test]
 fn a_report_is_read_as_it_is_printed(rt: HostRuntime) {
-    is_read(&rt, rt.alloc(), IDLE);
-    is_read(&rt, rt.alloc(), FAILED);
-    is_read(&rt, rt.alloc(), MARKED);
-    is_read(&rt, rt.alloc(), ANSWERED);
-    is_read(&rt, rt.alloc(), BESIDE);
-    is_read(&rt, rt.alloc(), BESIDE_OF_OLD);
+    for text in REPORTS {
+        is_read(&rt, rt.alloc(), text);
+    }
 }
 
 /// Texts that are no report's, and the line at which each is at fault.

@@ -6,16 +6,16 @@ use std::alloc::Global;
 use std::process::Abort;
 
 /// A script with every form of line, in the spellings that a user may choose.
-const ALL: &str =
-    "# all forms\n\n  hwp   1 \ncpus 2\nframes 4\nkernel 3\nrecovery 0\nearly 1\nfile 0\nproc 0\nproc 1\nthread 0 0 0 handler\nthread 1 1 1 nohandler\npage 0 anon\npage 1 file 0 fill 9\ntrans 0 0 0\ntrans 1 1 1\ncpu 1\nload 1 1 7\nfetch 1 1 8\nkload 1 1 9\nstore 1 1 10 18446744073709551615\nfree 1\ndrop 1\nsync 1\nfsync 0\nprctl 1 33 1 2 0 7\ncpu 0\nout 0\nbad 0 3\nweak 1 63\nscrub 0 3\nlog 0xBD000000000000c0 0x1000 0x86\nraise user 0 1 0\nraise kernel 0 1\nraise nested\ninject 1\nsoft 2\nunpoison 3\nschedule 0 1. 0@poison\n# done\nschedule 1\nend\n\n# after the end";
+const ALL: &[u8] =
+    b"# all forms\n\n  hwp   1 \ncpus 2\nframes 4\nkernel 3\nrecovery 0\nearly 1\nfile 0\nproc 0\nproc 1\nthread 0 0 0 handler\nthread 1 1 1 nohandler\npage 0 anon\npage 1 file 0 fill 9\ntrans 0 0 0\ntrans 1 1 1\ncpu 1\nload 1 1 7\nfetch 1 1 8\nkload 1 1 9\nstore 1 1 10 18446744073709551615\nfree 1\ndrop 1\nsync 1\nfsync 0\nprctl 1 33 1 2 0 7\ncpu 0\nout 0\nbad 0 3\nweak 1 63\nscrub 0 3\nlog 0xBD000000000000c0 0x1000 0x86\nraise user 0 1 0\nraise kernel 0 1\nraise nested\ninject 1\nsoft 2\nunpoison 3\nschedule 0 1. 0@poison\n# done\nschedule 1\nend\n\n# after the end";
 
 /// A script of version 2 with its three forms, on the largest machine.
-const TWO: &str =
-    "hwp 2\ncpus 16\nframes 4096\nfile 0\nproc 0\nthread 0 0 15 handler\npage 0 file 0 fill 1 locked\ntrans 0 0 0\ncpu 15\nopen 0\ninject 4095\nwatch 1000 64\nschedule 15\nend\n";
+const TWO: &[u8] =
+    b"hwp 2\ncpus 16\nframes 4096\nfile 0\nproc 0\nthread 0 0 15 handler\npage 0 file 0 fill 1 locked\ntrans 0 0 0\ncpu 15\nopen 0\ninject 4095\nwatch 1000 64\nschedule 15\nend\n";
 
 /// The script that the text is read as.
-pub fn script_of(rt: &impl Abort, alloc: Global, text: &str) -> Script {
-    match read(alloc, text.as_bytes()) {
+pub fn script_of(rt: &impl Abort, alloc: Global, text: &[u8]) -> Script {
+    match read(alloc, text) {
         Ok(script) => script,
         Err(_) => rt.panic("a script"),
     }
@@ -80,8 +80,8 @@ fn a_script_of_version_2_is_read(rt: HostRuntime) {
 }
 
 /// A script with a guest.
-const HOSTED: &str =
-    "hwp 2\ncpus 2\nframes 3\nproc 0\nproc 1\nthread 0 0 0 handler\nthread 1 1 1 nohandler\nthread 2 0 0 handler\nguest 0\npage 0 anon\ntrans 0 0 0\ncpu 0\nstore 0 0 5 77\nend\n";
+const HOSTED: &[u8] =
+    b"hwp 2\ncpus 2\nframes 3\nproc 0\nproc 1\nthread 0 0 0 handler\nthread 1 1 1 nohandler\nthread 2 0 0 handler\nguest 0\npage 0 anon\ntrans 0 0 0\ncpu 0\nstore 0 0 5 77\nend\n";
 
 #[test]
 fn a_guest_is_declared(rt: HostRuntime) {
