@@ -49,7 +49,8 @@ use Rattle.hwp_cpu_command.proofs.of_hwp_soft.SoftRank.{soft-small}
 use Rattle.hwp_cpu_command.specs.Answers.{soft_answer}
 use Rattle.hwp_cpu.specs.declared.course.Course.{Course}
 use Rattle.hwp_cpu_row.specs.Dues.{DueValue, HasCollected, next_due}
-use Rattle.hwp_cpu.specs.Courses.{AfterCollectingBy, AfterOwn, AfterOwnBy, AfterOwnIf, AfterRestBy, AfterSoft, Fits, FitsOf, FitsOwn, HasPassed, IsGoing, NextOf, RestsNow, answer, answer_of, bare_of, behind_cost, cost, cost_behind, cost_of, due_room, flat, gives_up, going_on, has_more, own_cost, part_of, passed, rests, soft_weight, task as course-task, turn_on, with_result}
+use Rattle.hwp_cpu.specs.Courses.{AfterOwn, AfterOwnBy, AfterOwnIf, AfterRestBy, AfterSoft, Fits, FitsOf, FitsOwn, HasPassed, IsGoing, NextOf, RestsNow, answer, answer_of, bare_of, behind_cost, cost, cost_behind, cost_of, due_room, flat, gives_up, going_on, has_more, own_cost, part_of, passed, rests, soft_weight, task as course-task, turn_on, with_result}
+use Rattle.hwp_cpu.proofs.ToldSince.{AfterCollectingBy, collecting-by, most, since-few}
 use Rattle.hwp_cpu_command.proofs.of_hwp_cpu_access.CopyResting.{at-pause as copy-at-pause}
 use Rattle.hwp_cpu.proofs.CopyRests.{few-behind}
 use Rattle.hwp_cpu.proofs.CourseLaws.{abandoned-stays, over-stays, told-some}
@@ -57,7 +58,6 @@ use Rattle.hwp_cpu_row.proofs.DueLaws.{notes-few}
 use Rattle.hwp_cpu.proofs.PauseOwns.{pause-owns}
 use Rattle.hwp_cpu.proofs.RestCosts.{GoesOnFrom, IsIdle, IsOver, flat-stays, given-up-class, given-up-cost, gives-lasting, gives-over, goes-from, next-cost, over-cost, own-is, own-most, paused-idle, pays-flat, pays-for}
 use Rattle.hwp_cpu.proofs.RestLaws.{at-rest, given-up-none, some-of}
-use Rattle.hwp_cpu.proofs.ToldSince.{most, since-few}
 
 -- ---- a turn of its own task
 
@@ -204,7 +204,7 @@ module _ {layout : Layout} {seat : ℕ} {a b : State} (c : Course) (fits : Fits 
     rest-cost : (collects c.watching ≡ true) → (d : Course) (u : Turn) (more : Bool) → has_more layout e ≡ more → AfterRestBy layout e more d u → RestCost d
     rest-cost on_ d u false is goes = subst RestCost (sym goes.0) (going-cost e at-once (next_due e.due) refl)
     rest-cost on_ d u true is (inl refuses) = subst RestCost (sym refuses.0) (refused-cost (told-some c fits going own.step own.found own.got own.planned made k t own.follows is))
-    rest-cost on_ d u true is (inr (x, has, goes)) = subst RestCost (sym goes.0) (going-cost x (at-collected is (going.passed on_) c.watching x has) (next_due x.due) refl)
+    rest-cost on_ d u true is (inr (x, has, goes)) = subst RestCost (sym goes.0) (going-cost x (at-collected is (going.passed on_) c.watching x (collecting-by layout e x has)) (next_due x.due) refl)
 
   -- the turn behind a rest is none that waits
   turn-goes : (x : Course) (o : Option Frame) → is_waits (turn_on x o) ≡ false

@@ -47,14 +47,14 @@ use Rattle.hwp_cpu_command.specs.hwp_soft.declared.soft.SoftAt.TheVariants as so
 use Rattle.hwp_cpu_command.specs.hwp_soft.Offline as offline
 use Rattle.hwp_cpu_command.specs.hwp_soft.Softs as softs
 use Rattle.hwp_cpu.specs.declared.course.Course.{Course}
-use Rattle.hwp_cpu_row.specs.Dues.{DueValue, HasCollected, next_due}
+use Rattle.hwp_cpu_row.specs.Dues.{DueValue, HasCollected, next_due, Covers}
 use Rattle.hwp_cpu_row.specs.hwp_cec.Ages.{CecEvent, Note}
 use Rattle.hwp_cpu_row.specs.hwp_cec.Counters.{StandsFor}
-use Rattle.hwp_cpu.specs.Courses.{gives_up, AfterCollectingBy, AfterOwn, AfterOwnBy, AfterOwnIf, AfterRestBy, AfterSoft, Covers, Fits, FitsOf, FitsOwn, HasPassed, IsAtPause, IsGoing, IsGoingOn, IsOfMachine, IsTakingOut, IsWaiting, Next, NextOf, RestsNow, ShowsOf, bare, bare_of, due_room, going_on, has_more, is_abandoned, part_of, passed, rests, task as course-task, with_result}
+use Rattle.hwp_cpu.specs.Courses.{gives_up, AfterOwn, AfterOwnBy, AfterOwnIf, AfterRestBy, AfterSoft, Fits, FitsOf, FitsOwn, HasPassed, IsAtPause, IsGoing, IsGoingOn, IsOfMachine, IsTakingOut, IsWaiting, Next, NextOf, RestsNow, ShowsOf, bare, bare_of, due_room, going_on, has_more, is_abandoned, part_of, passed, rests, task as course-task, with_result}
+use Rattle.hwp_cpu.proofs.ToldSince.{AfterCollectingBy, collecting-by, most, since-few}
 use Rattle.hwp_cpu_row.proofs.DueLaws.{ForPages, due-for-pages, for-pages-within, notes-few, pages-both}
 use Rattle.hwp_cpu.proofs.RestLaws.{AtRest, OrPaid, at-rest, behind, given-up-none, gives-up-fits, own-on, soft-begins}
 use Rattle.hwp_cpu.proofs.SoftMade.{HasLeft, checks-same, soft-grows, soft-left, soft-pays}
-use Rattle.hwp_cpu.proofs.ToldSince.{most, since-few}
 
 -- ---- its step can be made
 
@@ -447,7 +447,7 @@ module _ {layout : Layout} {old new : View} (c : Course) (fits : Fits layout old
         by-more : collects c.watching ≡ true → rests k ≡ true → (b : Bool) → has_more layout e ≡ b → (u : Turn) → AfterRestBy layout e b after u → Fits layout new after × ((jobs.who after.own).cpu ≡ (jobs.who c.own).cpu)
         by-more on_ rest false is u goes-so = behind-rest e u (rested rest (all-told is)) refl goes-so
         by-more on_ rest true is u (inl refuses) = to (record e { own = jobs.give_up k }) refuses.0 (refused rest is going.passed) (ap (λ (w : Who). w.cpu) (give-up-who k))
-        by-more on_ rest true is u (inr (x, has, goes-so)) = behind-rest x u (collected rest is (going.passed on_) c.watching on_ fits.collector x has) (collected-own c.watching x has) goes-so
+        by-more on_ rest true is u (inr (x, has, goes-so)) = behind-rest x u (collected rest is (going.passed on_) c.watching on_ fits.collector x (collecting-by layout e x has)) (collected-own c.watching x (collecting-by layout e x has)) goes-so
 
         by-rest : collects c.watching ≡ true → (b : Bool) → rests k ≡ b → AfterOwnBy layout e b t after turn → Fits layout new after × ((jobs.who after.own).cpu ≡ (jobs.who c.own).cpu)
         by-rest on_ false is next-so = to (record e { noted = passed k c.noted }) next-so.0 (on (passed k c.noted) (passed-within k c.noted grown) (λ on_. passes-on layout c.own k found got t c.noted next (going.passed on_))) refl

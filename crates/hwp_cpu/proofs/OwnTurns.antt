@@ -7,7 +7,8 @@ use Rattle.std.proofs.Common.{zero, ◌++◌, ◌<◌, Some, ◌≡◌, refl, le
 use Rattle.hwp_cpu_row.specs.hwp_core_rule.Lists.{EachMember}
 use Rattle.hwp_cpu.specs.Serving.{left_so_far, noted_by, GoesOn, task, marked_so_far, IsUnderWay, marked_beside, KeepsWatch, OwnGoesOn, HasToldAll}
 use Rattle.hwp_cpu.proofs.OwnRests.{copy-holds, copy-known, left-still, pause-holds, answer-known, own-on, HoldsNone, AnswerKnown, pause-known, fits-still}
-use Rattle.hwp_cpu.specs.Courses.{going_on, answer, part_of, IsGoingOn, told_since, AfterCollecting, AfterCollectingBy, AfterRest, AfterRestBy, FitsOf, FitsOwn, HasRefused, IsGoing, answer_of, has_more, rests, AfterOwnIf, AfterOwnBy, AfterOwn, passed}
+use Rattle.hwp_cpu.specs.Courses.{going_on, answer, part_of, IsGoingOn, told_since, AfterCollecting, AfterRest, AfterRestBy, FitsOf, FitsOwn, HasRefused, IsGoing, answer_of, has_more, rests, AfterOwnIf, AfterOwnBy, AfterOwn, passed}
+use Rattle.hwp_cpu.proofs.ToldSince.{AfterCollectingBy, collecting-by}
 use Rattle.hwp_law_served.specs.Handles.{answers_by}
 use Rattle.hwp_cpu.specs.Beside.{ArePriorWith, CanCollect, IsOwnServed}
 use Rattle.hwp_cpu_row.specs.Locals.{collects}
@@ -282,7 +283,7 @@ module _ (layout : Layout) (old new : View) (cpu : Cpu) (list : List Command) (r
     pages-next = rule.for_pages
 
     collected-turn : (d after : Course) (turn : Turn) → courses.Fits layout new after → AfterCollecting layout next d → IsGoingOn d after turn → Turned layout new cpu list rows local after (answer after)
-    collected-turn d after turn rule_after took follows = which c.watching refl collecting took
+    collected-turn d after turn rule_after took follows = which c.watching refl collecting (collecting-by layout next d took)
       where
         which : (o : Option Watching) → c.watching ≡ o → collects o ≡ true → AfterCollectingBy layout next o d → Turned layout new cpu list rows local after (answer after)
         which None is collecting_by none = absurd none

@@ -1,5 +1,5 @@
 -- How many events a command told of since the collector got some last, where it rests: an access no more than one machine check tells,
--- any other command no more than are told of in all.
+-- any other command no more than are told of in all. And what the collector took of them.
 use Rattle.std.proofs.Common.{◌≡◌, inl, inr, ℕ, ◌+◌, ◌-◌, ◌*◌, ◌≤◌, Bool, true, false, List, [], Option, Some, None, drop, is_some, length, refl, sym, ap, ◌∙◌, subst, ◌++◌, true≢false, arith}
 use Rattle.std.proofs.lemmas.Bool.{both_ways}
 use Rattle.std.proofs.lemmas.List.{length-append, length-drop}
@@ -41,7 +41,11 @@ use Rattle.hwp_cpu_command.specs.hwp_evict.declared.EvictAnswer.TheVariants as e
 use Rattle.hwp_cpu_command.specs.hwp_evict.Evicts as evicts
 use Rattle.hwp_cpu_command.specs.hwp_scrub.Raises as raises
 use Rattle.hwp_cpu_command.specs.hwp_scrub.Scrubs as scrubs
-use Rattle.hwp_cpu.specs.Courses.{HasPassed, due_room, gives_up_access, gives_up_copy, rests}
+use Rattle.hwp_cpu_row.specs.hwp_law.hwp_cec.Counters.{Counters}
+use Rattle.hwp_cpu_row.specs.declared.Watching.{Watching}
+use Rattle.hwp_cpu_row.specs.Dues.{DueValue, HasCollected, HasTaken}
+use Rattle.hwp_cpu.specs.declared.course.Course.{Course}
+use Rattle.hwp_cpu.specs.Courses.{AfterCollecting, HasPassed, due_room, gives_up_access, gives_up_copy, rests, told_since}
 use Rattle.hwp_cpu.proofs.CopyRests.{copy-paused}
 use Rattle.hwp_cpu.proofs.RestLaws.{some-of}
 
@@ -167,3 +171,18 @@ since-few base layout old new (kinds.Nested x) k step found got turn fits after 
 since-few base layout old new (kinds.Inject x) k step found got turn fits after planned made next noted passed rest = subst (λ (x : Job). length (drop noted (jobs.told_of x)) ≤ most x) (sym next.1) (none-told noted due_room)
 since-few base layout old new (kinds.Soft x) k step found got turn fits after planned made next noted passed rest = subst (λ (x : Job). length (drop noted (jobs.told_of x)) ≤ most x) (sym next.1) (none-told noted due_room)
 since-few base layout old new (kinds.Unpoison x) k step found got turn fits after planned made next noted passed rest = subst (λ (x : Job). length (drop noted (jobs.told_of x)) ≤ most x) (sym next.0) (none-told noted due_room)
+
+-- ---- what was taken, by the collector that the processor has
+
+abbrev pub AfterCollectingBy : Layout → Course → Option Watching → Course → Type 0
+AfterCollectingBy layout c None after = ⊥
+AfterCollectingBy layout c (Some w) after =
+    (counters : Counters) × (d : DueValue) × HasCollected layout (told_since c) c.due w.collector d counters
+    × (after ≡ record c { watching = Some (record w { collector = counters }); noted = length (jobs.told_of c.own); due = d })
+
+pub collecting-by : (layout : Layout) (c after : Course) → AfterCollecting layout c after → AfterCollectingBy layout c c.watching after
+collecting-by layout c after (kept, due, took, is) = by c.watching took
+  where
+    by : (o : Option Watching) → HasTaken layout (told_since c) o c.due kept due → AfterCollectingBy layout c o after
+    by None none = none
+    by (Some w) (counters, has, back) = (counters, due, has, is ∙ ap (λ (x : Option Watching). record c { watching = x; noted = length (jobs.told_of c.own); due = due }) back)

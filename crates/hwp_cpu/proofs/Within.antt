@@ -6,7 +6,8 @@ use Rattle.hwp_cpu.proofs.commands.Beside.{give-up-within, behind-within, within
 use Rattle.hwp_cpu.proofs.commands.DeniedAnswers.{denial-bare, denial-behind, denial-next, denial-up}
 use Rattle.hwp_cpu_row.specs.hwp_geom.declared.Layout.{Layout}
 use Rattle.hwp_cpu_command.specs.hwp_soft.declared.Soft.{Soft}
-use Rattle.hwp_cpu.specs.Courses.{AfterRestBy, AfterOwn, AfterOwnIf, rests, AfterCollectingBy, AfterOwnBy, bare_of, going_on, IsGoingOn, AfterSoft, with_result, has_more}
+use Rattle.hwp_cpu.specs.Courses.{AfterRestBy, AfterOwn, AfterOwnIf, rests, AfterOwnBy, bare_of, going_on, IsGoingOn, AfterSoft, with_result, has_more}
+use Rattle.hwp_cpu.proofs.ToldSince.{AfterCollectingBy, collecting-by}
 use Rattle.hwp_cpu_row.specs.hwp_geom.declared.Frame.{Frame}
 use Rattle.hwp_cpu.specs.declared.course.Course.{Course}
 use Rattle.hwp_cpu_row.specs.Dues.{next_due}
@@ -44,7 +45,7 @@ module _ (P : Job → Type 0) (turns : (layout : Layout) (j k : Job) (found : �
           at-rest : (b : Bool) (u : Turn) → AfterRestBy layout (record c { own = k }) b d u → P d.own
           at-rest false u goes = goes-keeps (record c { own = k }) now d u goes
           at-rest true u (inl refused) = subst (λ (x : Course). P x.own) (sym refused.0) (gives k now)
-          at-rest true u (inr (e, took, goes)) = goes-keeps e (collected c.watching e took) d u goes
+          at-rest true u (inr (e, took, goes)) = goes-keeps e (collected c.watching e (collecting-by layout (record c { own = k }) e took)) d u goes
 
           by-rest : (b : Bool) → AfterOwnBy layout (record c { own = k }) b t d turn → P d.own
           by-rest false same = subst (λ (x : Course). P x.own) (sym same.0) now

@@ -23,7 +23,7 @@ use Rattle.hwp_cpu_row.specs.hwp_core_rule.Ranks.{failure_weight, stale_weight}
 use Rattle.hwp_cpu_row.specs.hwp_core_rule.Turns.{Member}
 use Rattle.hwp_cpu_row.specs.hwp_law.Notes.{is_for_pages}
 use Rattle.hwp_cpu_row.specs.hwp_law.hwp_cec.Ages.{CecEvent}
-use Rattle.hwp_cpu_row.specs.hwp_law.hwp_cec.Counters.{Counters, StandsFor}
+use Rattle.hwp_cpu_row.specs.hwp_law.hwp_cec.Counters.{StandsFor}
 use Rattle.hwp_cpu_row.specs.hwp_claim.declared.EventOutcome.{EventOutcome}
 use Rattle.hwp_cpu_row.specs.declared.Local.{Local}
 use Rattle.hwp_cpu_row.specs.declared.Offlining.{Offlining}
@@ -60,7 +60,7 @@ use Rattle.hwp_cpu_command.specs.hwp_soft.Offline as offline
 use Rattle.hwp_cpu_command.specs.hwp_soft.Softs as softs
 use Rattle.hwp_cpu_row.specs.hwp_claim.hwp_guest.declared.Admit.{Admit}
 use Rattle.hwp_cpu.specs.declared.course.Course.{Course}
-use Rattle.hwp_cpu_row.specs.Dues.{DueValue, HasCollected, next_due, no_due, with_offlining}
+use Rattle.hwp_cpu_row.specs.Dues.{Covers, DueValue, HasTaken, next_due, no_due, with_offlining}
 
 -- ---- its beginning and its end
 
@@ -162,14 +162,10 @@ abbrev pub has_more : Layout → Course → Bool
 has_more layout c = nat_lt c.noted (length (jobs.told_of c.own)) && (layout.frames == c.frames)
 
 -- the collector took what they note, and the frames that are due by them come last
-abbrev pub AfterCollectingBy : Layout → Course → Option Watching → Course → Type 0
-AfterCollectingBy layout c None after = ⊥
-AfterCollectingBy layout c (Some w) after =
-    (counters : Counters) × (d : DueValue) × HasCollected layout (told_since c) c.due w.collector d counters
-    × (after ≡ record c { watching = Some (record w { collector = counters }); noted = length (jobs.told_of c.own); due = d })
-
 abbrev pub AfterCollecting : Layout → Course → Course → Type 0
-AfterCollecting layout c after = AfterCollectingBy layout c c.watching after
+AfterCollecting layout c after =
+    (w : Option Watching) × (d : DueValue) × HasTaken layout (told_since c) c.watching c.due w d
+    × (after ≡ record c { watching = w; noted = length (jobs.told_of c.own); due = d })
 
 -- or there was no room, and the command gives up
 abbrev pub HasRefused : Course → Course → Turn → Type 0
@@ -207,11 +203,6 @@ NextOf layout c (Some soft) found got after turn = (s : Soft) × (t : Turn) × s
 
 abbrev pub Next : Layout → Course → ℕ → Option BodyValue → Course → Turn → Type 0
 Next layout c found got after turn = NextOf layout c c.beside found got after turn
-
--- the collector has room for the frames
-abbrev pub Covers : ℕ → Option Watching → Type 0
-Covers frames None = Unit {0}
-Covers frames (Some w) = frames ≤ length w.collector.counts
 
 abbrev pub ShowsOf : Course → Option Soft → ℕ → Option BodyValue → Type 0
 ShowsOf c None found got = jobs.Shows c.own found got × Covers c.frames c.watching

@@ -1,16 +1,17 @@
-ghost use Rattle.std.specs.Prelude.{◌≡◌, ◌<◌, ◌≤◌, true, None, Some, cond, length, OnOk, OnErr};
+ghost use Rattle.std.specs.Prelude.{◌≡◌, ◌<◌, true, None, Some, cond};
 ghost use Rattle.hwp_cpu_row.specs.hwp_geom.Layout.{IsSound};
 ghost use Rattle.hwp_cpu_row.specs.hwp_script_read.Valid.{IsCommandOf};
 ghost use Rattle.hwp_cpu_row.specs.Locals.{collects};
 ghost use Rattle.hwp_cpu_command.specs.Begins.{CanCopy, CanDeny};
 ghost use Rattle.hwp_cpu_command.specs.FileHandles.{HasChangeWithin, StandsOn};
-ghost use Rattle.hwp_cpu_command.specs.Jobs.{told_of};
-ghost use Rattle.hwp_cpu.specs.Courses.{AfterCollecting, AfterOwnBy, AfterRest, BeginsCourse, Covers, IsGoingOn, answer, local_after, local_left, offline_result, passed, rests, row_of, with_result};
+ghost use Rattle.hwp_cpu_command.specs.Jobs.{pauses};
+ghost use Rattle.hwp_cpu.specs.Courses.{AfterOwnBy, BeginsCourse, IsGoingOn, answer, local_after, local_left, offline_result, passed, rests, row_of, with_result};
+ghost use Rattle.hwp_cpu_row.specs.Dues.{Covers};
 
 use hwp_cpu_command::{Job, offlined_by};
 use hwp_cpu_row::{
     Admit, Answer, Body, Command, DueFrames, Frame, Layout, Local, OfflineResult, Offlining,
-    OutOfMemory, Ranked, Row, Scheduled, Step, Task, Turn, VSlot, Watching, Who,
+    Ranked, Row, Scheduled, Step, Task, Turn, VSlot, Watching, Who, take_notes,
 };
 use hwp_soft::{Soft, SoftAnswer};
 use std::alloc::Global;
@@ -98,61 +99,29 @@ impl Course {
         self.own.finish(alloc, answer, offlined, local)
     }
 
-    /// The turn of its own task, where the processor collects.
+    /// The turn of its own task, where the processor collects. Where that rests, what it told since is noted, and the first frame that is due
+    /// is taken out of use. Without room for that the command is given up.
     fn after_own(&mut self, layout: &Layout, turn: Turn) -> Turn
         requires on { collects self.old.watching ≡ true }
         requires covered { Covers self.old.frames self.old.watching }
         ensures { AfterOwnBy layout.now self.old (rests self.old.own) turn self.new result }
     {
-        if let Some(noted) = passed(&self.own, self.noted) {
+        let (passed, pauses) = passed(&self.own, self.noted);
+        if let Some(noted) = passed {
             self.noted = noted;
             return turn;
         }
-        let pauses = self.own.pauses();
-        let then = self.after_rest(layout);
-        if pauses { turn } else { then }
-    }
-
-    /// Its own task rests, and the processor collects: what it told since is noted, and the first frame that is due is taken out of use.
-    /// Without room for that the command is given up.
-    fn after_rest(&mut self, layout: &Layout) -> Turn
-        requires on { collects self.old.watching ≡ true }
-        requires covered { Covers self.old.frames self.old.watching }
-        ensures { AfterRest layout.now self.old self.new result }
-    {
-        let told = self.own.told().len();
-        if self.noted < told && layout.frames == self.frames && self.collect(layout).is_err() {
-            self.own.give_up();
-            return Turn::Moved;
-        }
-        self.go_on()
-    }
-
-    /// The collector takes the notes of what the command told since it got some last.
-    fn collect(&mut self, layout: &Layout) -> Result<(), OutOfMemory>
-        requires on { collects self.old.watching ≡ true }
-        requires covered { Covers layout.now.frames self.old.watching }
-        requires noted { self.old.noted ≤ length (told_of self.old.own) }
-        ensures ok { OnOk result (AfterCollecting layout.now self.old self.new) }
-        ensures err { OnErr result (self.new ≡ self.old) }
-    {
-        let Some(mut watching) = self.watching.take() else {
-            unreachable!()
-        };
         let told = self.own.told();
-        let (_, since) = told.split_at(self.noted);
-        let noted = told.len();
-        match self.due.collect(layout, since, &mut watching.collector) {
-            Ok(()) => {
-                self.noted = noted;
-                set(&mut self.watching, Some(watching));
-                Ok(())
+        let count = told.len();
+        if self.noted < count && layout.frames == self.frames {
+            if take_notes(layout, told, self.noted, &mut self.watching, &mut self.due).is_err() {
+                self.own.give_up();
+                return turned(pauses, turn, Turn::Moved);
             }
-            Err(refused) => {
-                set(&mut self.watching, Some(watching));
-                Err(refused)
-            }
+            self.noted = count;
+            return turned(pauses, turn, self.go_on());
         }
+        turned(pauses, turn, self.go_on())
     }
 
     /// The frame that was taken out of use beside it came to this.
@@ -208,24 +177,33 @@ impl Drop for Course {
 }
 
 /// How much of what the task told its collector has got or passed over, while the task goes on: what an access told without a pause notes
-/// nothing. `None` where the task rests, so that frames may be taken out of use: an access pauses, or any other command has its answer.
-fn passed(own: &Job, noted: usize) -> Option<usize>
-    ensures { result ≡ cond (rests own.now) None (Some (passed own.now noted)) }
+/// nothing. `None` where the task rests, so that frames may be taken out of use: an access pauses, or any other command has its answer. And
+/// whether it pauses, behind a machine check that kept an event: then it goes on.
+fn passed(own: &Job, noted: usize) -> (Option<usize>, bool)
+    ensures noted { result.0 ≡ cond (rests own.now) None (Some (passed own.now noted)) }
+    ensures pauses { result.1 ≡ pauses own.now }
 {
     match own {
         Job::Instruction(instruction) => match instruction.pause() {
-            Some(_) => None,
-            None => Some(instruction.told().len()),
+            Some(_) => (None, true),
+            None => (Some(instruction.told().len()), false),
         },
         Job::Copying(copying) => match copying.pause() {
-            Some(_) => None,
-            None => Some(copying.told().len()),
+            Some(_) => (None, true),
+            None => (Some(copying.told().len()), false),
         },
         other => match other.answer() {
-            Some(_) => None,
-            None => Some(noted),
+            Some(_) => (None, false),
+            None => (Some(noted), false),
         },
     }
+}
+
+/// What a turn comes to behind which a task rests: as it was where the task pauses, and else what comes then.
+fn turned(pauses: bool, turn: Turn, then: Turn) -> Turn
+    ensures { result ≡ cond pauses turn then }
+{
+    if pauses { turn } else { then }
 }
 
 /// What was there is let go where it lies.

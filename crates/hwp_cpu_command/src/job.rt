@@ -52,7 +52,7 @@ pub enum Job {
 
 impl Job {
     ghost use Rattle.hwp_cpu_command.specs.FileHandles.{HasChangeWithin, StandsOn, local_after};
-    ghost use Rattle.hwp_cpu_command.specs.Jobs.{answer, give_up, pauses, resume, row_of, told_of};
+    ghost use Rattle.hwp_cpu_command.specs.Jobs.{answer, give_up, resume, row_of, told_of};
 
     /// What the command answers; `None` until it is over, and where it gave up because memory ran out. Most turns are of an access: what any
     /// other kind needs room for stands in a function of its own.
@@ -128,29 +128,6 @@ impl Job {
             | Job::Soft(_)
             | Job::Unpoison(_)
             | Job::Denied(_) => &[],
-        }
-    }
-
-    /// Whether it pauses behind a machine check that kept an event: frames may be taken out of use now, and then it goes on.
-    pub fn pauses(&self) -> bool
-        ensures { result ≡ pauses self.now }
-    {
-        match self {
-            Job::Instruction(instruction) => instruction.pause().is_some(),
-            Job::Copying(copying) => copying.pause().is_some(),
-            Job::Evict(_)
-            | Job::Fsync(_)
-            | Job::Prctl(_)
-            | Job::Fork(_)
-            | Job::Log(_)
-            | Job::Raise(_)
-            | Job::Scrub(_)
-            | Job::Spoil(_)
-            | Job::Nested(_)
-            | Job::Inject(_)
-            | Job::Soft(_)
-            | Job::Unpoison(_)
-            | Job::Denied(_) => false,
         }
     }
 

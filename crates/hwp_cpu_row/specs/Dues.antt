@@ -1,11 +1,12 @@
 -- The frames that are taken out of use beside a command, and how the collector of corrected errors makes them due.
-use Rattle.std.specs.Prelude.{◌≡◌, ℕ, suc, ◌-◌, ◌≤◌, nat_lt, List, [], ◌∷◌, ◌++◌, Option, cond, length, map, slice_get}
+use Rattle.std.specs.Prelude.{◌≡◌, ℕ, suc, ◌-◌, ◌≤◌, nat_lt, List, [], ◌∷◌, ◌++◌, Option, Some, None, cond, length, map, slice_get}
 use Rattle.std.specs.List.{cons_option}
 use Rattle.hwp_claim.specs.hwp_geom.declared.Frame.{Frame}
 use Rattle.hwp_claim.specs.hwp_geom.declared.Layout.{Layout}
 use Rattle.hwp_claim.specs.declared.EventOutcome.{EventOutcome}
 use Rattle.hwp_claim.specs.hwp_law.hwp_cec.Counters.{Counters}
 use Rattle.hwp_claim.specs.hwp_law.Notes.{noted_frame, notes_of_check}
+use Rattle.hwp_cpu_row.specs.declared.local.Watching.{Watching}
 use Rattle.hwp_cpu_row.specs.declared.row.Offlining.{Offlining}
 use Rattle.hwp_cpu_row.specs.Acts.{event_at, told_notes}
 use Rattle.hwp_cpu_row.specs.Locals.{Collects}
@@ -49,3 +50,13 @@ HasNoted notes c due after all = (more : List Frame) × (all ≡ due ++ more) ×
 abbrev pub HasCollected : Layout → List EventOutcome → DueValue → Counters → DueValue → Counters → Type 0
 HasCollected layout told d c after counters =
     (more : List Frame) × (spare : ℕ) × (after ≡ record { frames = d.frames ++ more; offlined = d.offlined; spare = spare }) × (length told ≤ spare) × Collects (told_notes layout told) c counters more
+
+-- the collector has room for the frames
+abbrev pub Covers : ℕ → Option Watching → Type 0
+Covers frames None = Unit {0}
+Covers frames (Some w) = frames ≤ length w.collector.counts
+
+-- a processor's collector took the notes of these events, and the frames that are due by them came last
+abbrev pub HasTaken : Layout → List EventOutcome → Option Watching → DueValue → Option Watching → DueValue → Type 0
+HasTaken layout told None d after due = ⊥
+HasTaken layout told (Some w) d after due = (counters : Counters) × HasCollected layout told d w.collector due counters × (after ≡ Some (record w { collector = counters }))

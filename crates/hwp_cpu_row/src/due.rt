@@ -1,7 +1,9 @@
-ghost use Rattle.std.specs.Prelude.{◌≡◌, ◌<◌, ◌≤◌, length, OnOk, OnErr};
-ghost use Rattle.hwp_cpu_row.specs.Dues.{HasCollected, next_due, no_due, with_offlining};
+ghost use Rattle.std.specs.Prelude.{◌≡◌, ◌<◌, ◌≤◌, true, drop, length, OnOk, OnErr};
+ghost use Rattle.hwp_cpu_row.specs.Dues.{Covers, HasCollected, HasTaken, next_due, no_due, with_offlining};
+ghost use Rattle.hwp_cpu_row.specs.Locals.{collects};
 
 use crate::collect::collect;
+use crate::local::Watching;
 use crate::row::Offlining;
 use hwp_claim::{Collector, EventOutcome, Frame, Layout, List, OutOfMemory};
 use std::alloc::Global;
@@ -80,5 +82,34 @@ impl DueFrames {
     {
         let DueFrames { offlined, .. } = mem::replace(self, DueFrames::new(alloc));
         List::from_vec(offlined)
+    }
+}
+
+/// The processor's collector takes the notes of what was told but for the first so many events, and the frames that are due by them come
+/// last.
+///
+/// # Errors
+/// `OutOfMemory` where there is no room, and nothing changes.
+pub fn take_notes(
+    layout: &Layout,
+    told: &[EventOutcome],
+    noted: usize,
+    watching: &mut Option<Watching>,
+    due: &mut DueFrames,
+) -> Result<(), OutOfMemory>
+    requires on { collects watching.old ≡ true }
+    requires covered { Covers layout.now.frames watching.old }
+    requires noted { noted ≤ length told.now }
+    ensures ok { OnOk result (HasTaken layout.now (drop noted told.now) watching.old due.old watching.new due.new) }
+    ensures err { OnErr result (watching.new ≡ watching.old) }
+    ensures not_due { OnErr result (due.new ≡ due.old) }
+{
+    let (_, since) = told.split_at(noted);
+    match watching {
+        Some(watching) => {
+            due.collect(layout, since, &mut watching.collector)?;
+            Ok(())
+        }
+        None => unreachable!(),
     }
 }

@@ -10,7 +10,7 @@ mod local;
 mod row;
 
 pub use cows::{Cow, Cows};
-pub use due::DueFrames;
+pub use due::{DueFrames, take_notes};
 pub use guests::Guests;
 pub use hwp_claim::{
     Acted, Admit, Answer, BANKS, Bank, Board, Body, CacheWord, Collector, Command, CounterWord,
