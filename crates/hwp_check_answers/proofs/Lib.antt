@@ -15,3 +15,5 @@ mod Places
 mod Processors
 mod Reports
 mod OfflinedOrder
+mod TallyLaws
+mod OfflinedLaws

@@ -22,7 +22,7 @@ use Rattle.hwp_check_rules.specs.Rules.{AnswersFit}
 use Rattle.hwp_check_rules.specs.Standing.{cpu_line}
 use Rattle.hwp_check_events.specs.declared.Misfits.{Misfits}
 use Rattle.hwp_check_rules.proofs.OfflinedFaults.{frame-due, none-lacks}
-use Rattle.hwp_check_offlined.specs.Judged.{AreSuch, IsFirstOther, IsJudged, IsTold, LacksNone, LacksOne}
+use Rattle.hwp_check_answers.specs.Judged.{AreSuch, IsFirstOther, IsJudged, IsTold, LacksNone, LacksOne}
 use Rattle.hwp_check_answers.specs.Facts.{at_number}
 use Rattle.hwp_check_answers.specs.Firsts.{line_of}
 use Rattle.hwp_check_answers.specs.Offlining.{AreAllDue, AreAllOfflined, AreDueTo, IsAnsweredIf, IsFirstOfflined, IsFirstUndue, IsOfflinedLine, IsUndueLine}

@@ -5,7 +5,7 @@ use Rattle.std.proofs.lemmas.List.Sums.{sum_by-cons}
 use Rattle.std.proofs.lemmas.Option.{none-some, same_Some}
 use Rattle.hwp_check_evidence.specs.hwp_report_text.declared.CpuLine.{CpuLine}
 use Rattle.hwp_check_evidence.specs.hwp_report_text.declared.CpuLine.TheVariants as lines
-use Rattle.hwp_check_events.specs.Indexed.{shown_from}
+use Rattle.hwp_check_rules.specs.hwp_check_event_line.OfCommands.{shown_from}
 use Rattle.hwp_check_rules.specs.hwp_check_event_line.declared.Shown.{Shown}
 use Rattle.hwp_check_rules.specs.Answered.{events_before, is_event}
 use Rattle.hwp_check_rules.specs.hwp_law.Lines.{seq_of}

@@ -8,3 +8,5 @@ pub mod Joining
 pub mod Firsts
 pub mod Values
 pub mod Walk
+pub mod Judged
+pub mod Tallied

@@ -1,11 +1,12 @@
-//! The rule of answers: each line of a processor in its place, an answer for each command, each answer and each event line right;
-//! and the first line of a report that breaks it.
+//! The rule of answers: each line of a processor in its place, an answer for each command, each answer, each event line and each line
+//! of a frame taken out of use right; and the first line of a report that breaks it.
 #![tactic(auto)]
 
 mod answering;
 mod disorders;
 mod events;
 mod facts;
+mod faults;
 mod given;
 mod judging;
 mod offlines;
@@ -14,6 +15,7 @@ mod processor;
 mod rule;
 mod sifting;
 mod so_far;
+mod tally;
 mod walk;
 
 pub use rule::answers_fault;

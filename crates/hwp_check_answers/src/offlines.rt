@@ -6,8 +6,8 @@ ghost use Rattle.hwp_check_rules.specs.Standing.{last_line};
 ghost use Rattle.hwp_check_answers.specs.Offlining.{AreAllDue, AreAllOfflined, IsAnsweredIf, IsFirstOfflined, IsOfflinedLine};
 
 use crate::events::line_of;
+use crate::faults::offlined_faults;
 use crate::placing::unanswered;
-use hwp_check_offlined::offlined_faults;
 use hwp_check_rules::{Command, Cpu, CpuLine, OutOfMemory, Report, Script, cpu_at, watches};
 use std::alloc::Global;
 

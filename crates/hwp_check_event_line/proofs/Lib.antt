@@ -1,4 +1,6 @@
 pub mod Lookups
+pub mod OfCommandLaws
+pub mod ScriptLaws
 mod NearLaws
 mod RunLaws
 mod NearSteps

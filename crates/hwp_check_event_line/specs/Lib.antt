@@ -3,6 +3,7 @@ pub mod Windows
 pub mod Results
 pub mod Ended
 pub mod Firsts
+pub mod OfCommands
 pub mod Found
 pub mod Lines
 pub mod Scrubs

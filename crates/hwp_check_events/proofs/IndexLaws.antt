@@ -1,14 +1,10 @@
 -- The event lines of each command, line by line.
-use Rattle.std.proofs.Common.{◌≡◌, ◌⊎◌, inl, inr, ℕ, zero, suc, ◌+◌, ◌<◌, ◌≤◌, ◌==◌, Bool, true, false, cond, List, [], ◌∷◌, ◌++◌, Option, Some, None, get_or, length, replicate, slice_get, slice_index_or, take, refl, sym, ap, ◌∙◌, subst, arith}
+use Rattle.std.proofs.Common.{◌≡◌, ◌⊎◌, inl, inr, ℕ, zero, suc, ◌+◌, ◌<◌, ◌≤◌, Bool, cond, List, [], ◌∷◌, ◌++◌, Option, Some, None, get_or, length, replicate, slice_get, slice_index_or, take, refl, sym, ap, ◌∙◌, subst, arith}
 use Rattle.std.proofs.lemmas.Bool.{cases_eq, eq-eqb, ne_eqb}
 use Rattle.std.proofs.lemmas.List.{append_assoc, get_or-set_other, get_or-set_same, length-replicate, length-set, length-take-le, take_all, take_more}
 use Rattle.std.proofs.lemmas.Option.{get_or_from_slice_get, none-some, same_Some, slice_get-get_or, slice_get_within}
 use Rattle.hwp_law.specs.hwp_report_text.declared.CpuLine.{CpuLine}
-use Rattle.hwp_law.specs.hwp_report_text.declared.CpuLine.TheVariants as lines
-use Rattle.hwp_law.specs.hwp_report_text.declared.EventLine.{EventLine}
-use Rattle.hwp_law.specs.Lines.{events_among}
-use Rattle.hwp_check_events.specs.Indexed.{AreShown, own_shown, shown_at, shown_from, with_shown}
-use Rattle.hwp_check_event_line.specs.Firsts.{shown_lines}
+use Rattle.hwp_check_event_line.specs.OfCommands.{AreShown, own_shown, shown_at, shown_from, with_shown}
 use Rattle.hwp_check_event_line.specs.declared.Shown.{Shown}
 
 append-none : (l : List Shown) → l ++ [] ≡ l
@@ -88,21 +84,3 @@ so-first rows count lists is = record { size = ap length is ∙ length-replicate
 
 pub so-last : (rows : List CpuLine) (count n : ℕ) (lists : List (List Shown)) → length rows ≤ n → So rows count n lists → AreShown rows count lists
 so-last rows count n lists all so = subst (λ (r : List CpuLine). AreShown r count lists) (take_all n rows all) so
-
--- the lists are what the law calls a command's event lines
-told-from : (seq : ℕ) (rows : List CpuLine) (place : ℕ) → shown_lines (shown_from seq place rows) ≡ events_among rows seq
-told-from seq [] place = refl
-told-from seq (lines.Answer s answer ∷ rows) place = told-from seq rows (place + 1)
-told-from seq (lines.Offlined offlined ∷ rows) place = told-from seq rows (place + 1)
-told-from seq (lines.Guest guest ∷ rows) place = told-from seq rows (place + 1)
-told-from seq (lines.Event event ∷ rows) place = by (told-from seq rows (place + 1)) (seq == event.seq)
-  where
-    now : Shown
-    now = record { place = place; line = event }
-
-    by : shown_lines (shown_from seq (place + 1) rows) ≡ events_among rows seq → (b : Bool) → shown_lines (cond b (now ∷ []) [] ++ shown_from seq (place + 1) rows) ≡ cond b (now.line ∷ events_among rows seq) (events_among rows seq)
-    by rest true = ap (λ (l : List EventLine). now.line ∷ l) rest
-    by rest false = rest
-
-pub told-is : (seq : ℕ) (rows : List CpuLine) → shown_lines (shown_from seq 0 rows) ≡ events_among rows seq
-told-is seq rows = told-from seq rows 0

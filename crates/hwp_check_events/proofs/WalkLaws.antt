@@ -14,7 +14,7 @@ use Rattle.hwp_law.specs.hwp_report_text.declared.EventLine.{EventLine}
 use Rattle.hwp_law.specs.hwp_report_text.declared.Report.{Report}
 use Rattle.hwp_law.specs.Lines.{events_of}
 use Rattle.hwp_check_event_line.specs.Firsts.{AreRight, IsFirstWrong, shown_lines}
-use Rattle.hwp_check_events.specs.Indexed.{shown_from}
+use Rattle.hwp_check_event_line.specs.OfCommands.{shown_from}
 use Rattle.hwp_check_events.specs.Judged.{IsJudged}
 use Rattle.hwp_check_event_line.specs.Misfits.{IsRightLine, IsWrong, Lacks, found_by, leaves, left_by}
 use Rattle.hwp_check_events.specs.Walked.{AllRight, IsFirstRow, IsWalked, IsWrongRow, LacksSome, joined, joined_wrong, place_at}

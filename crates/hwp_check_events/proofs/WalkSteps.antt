@@ -18,7 +18,8 @@ use Rattle.hwp_law.specs.hwp_report_text.declared.Report.{Report}
 use Rattle.hwp_law.specs.Lines.{answer_among, answer_of, events_among, events_of, is_same_command}
 use Rattle.hwp_law.specs.Commands.{is_check}
 use Rattle.hwp_law.specs.Pairings.{entries_of}
-use Rattle.hwp_check_events.specs.Indexed.{AreChecks, AreFirst, checks_in, shown_from}
+use Rattle.hwp_check_events.specs.Indexed.{AreChecks, AreFirst, checks_in}
+use Rattle.hwp_check_event_line.specs.OfCommands.{shown_from}
 use Rattle.hwp_check_events.specs.Judged.{IsJudged, IsTable}
 use Rattle.hwp_check_event_line.specs.Misfits.{IsFit, found_by, leaves, left_by}
 use Rattle.hwp_check_event_line.specs.Firsts.{shown_lines}
@@ -26,9 +27,10 @@ use Rattle.hwp_check_events.specs.Walked.{HasPlace, IsTableOf, IsWalked, joined,
 use Rattle.hwp_check_event_line.specs.declared.Faults.{Faults}
 use Rattle.hwp_check_events.specs.declared.misfits.Misfits.{Misfits}
 use Rattle.hwp_check_event_line.specs.declared.Shown.{Shown}
-use Rattle.hwp_check_events.proofs.IndexLaws.{told-is}
+use Rattle.hwp_check_event_line.proofs.OfCommandLaws.{told-is}
 use Rattle.hwp_check_events.proofs.TableLaws.{table-next, table-size}
-use Rattle.hwp_check_events.proofs.ValidLaws.{command-of, fits}
+use Rattle.hwp_check_event_line.proofs.ScriptLaws.{command-of}
+use Rattle.hwp_check_events.proofs.ValidLaws.{fits}
 use Rattle.hwp_check_events.proofs.WalkLaws.{left-next, walked-first, walked-next}
 use Rattle.hwp_banks.specs.hwp_geom.declared.VSlot.{VSlot}
 

@@ -16,7 +16,8 @@ use Rattle.hwp_check_event_line.specs.Reading.{copies_in}
 use Rattle.hwp_check_event_line.specs.Scripts.{IsDeclared}
 use Rattle.hwp_check_event_line.specs.declared.Shown.{Shown}
 use Rattle.hwp_check_events.specs.Copied.{AreCopied, copied_by}
-use Rattle.hwp_check_events.specs.Indexed.{AreChecks, AreFirst, AreShown, shown_from}
+use Rattle.hwp_check_events.specs.Indexed.{AreChecks, AreFirst}
+use Rattle.hwp_check_event_line.specs.OfCommands.{AreShown, shown_from}
 use Rattle.hwp_check_event_line.specs.Misfits.{IsFit}
 use Rattle.hwp_check_events.specs.declared.known.Known.{Known}
 

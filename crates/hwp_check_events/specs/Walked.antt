@@ -13,7 +13,7 @@ use Rattle.hwp_banks.specs.Banks.{empty_banks}
 use Rattle.hwp_law.specs.Events.{AreEventsFrom}
 use Rattle.hwp_law.specs.Lines.{events_of}
 use Rattle.hwp_check_event_line.specs.Firsts.{AreRight}
-use Rattle.hwp_check_events.specs.Indexed.{shown_from}
+use Rattle.hwp_check_event_line.specs.OfCommands.{shown_from}
 use Rattle.hwp_check_event_line.specs.Misfits.{IsRightLine, IsWrong, Lacks, found_by}
 use Rattle.hwp_check_event_line.specs.Scrubs.{lowest, place_of}
 use Rattle.hwp_check_event_line.specs.declared.Faults.{Faults}

@@ -1,5 +1,6 @@
 ghost use Rattle.std.specs.Prelude.{◌≡◌, [], replicate, IfOk, OnOk};
-ghost use Rattle.hwp_check_events.specs.Indexed.{AreFirst, AreShown, first_answer, shown_at, with_answer, with_shown};
+ghost use Rattle.hwp_check_events.specs.Indexed.{AreFirst, first_answer, with_answer};
+ghost use Rattle.hwp_check_event_line.specs.OfCommands.{AreShown, shown_at, with_shown};
 
 use hwp_check_event_line::Shown;
 use hwp_law::{Answer, CpuLine, List, OutOfMemory};

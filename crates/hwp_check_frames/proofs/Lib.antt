@@ -9,3 +9,6 @@ pub mod BesideLaws
 mod GivenLaws
 mod FlagLaws
 mod IndexLaws
+pub mod NoteLoop
+mod CollectLaws
+pub mod DueLaws

@@ -7,3 +7,6 @@ pub mod Softs
 pub mod Given
 pub mod Flags
 pub mod Index
+pub mod Noting
+pub mod Collecting
+pub mod Dues

@@ -1,5 +1,0 @@
-mod NoteLoop
-mod CollectLaws
-mod DueLaws
-mod TallyLaws
-mod JudgeLaws

@@ -1,5 +1,0 @@
-use Rattle.hwp_check_offlined.specs.Tallied.{AreTallied}
-use Rattle.hwp_check_offlined.proofs.tally.scan.Given as goal
-
-abbrev pub invariant-loop-number : goal.invariant-loop-number
-invariant-loop-number l = AreTallied l.fn.dues l.fn.rows l.number l.passed.items l.told.items l.wrong
