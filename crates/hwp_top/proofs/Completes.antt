@@ -13,7 +13,7 @@ use Rattle.hwp_script.specs.hwp_script_read.declared.Why.TheVariants as whys
 use Rattle.hwp_script.proofs.of_hwp_script_read.OneScript.{one_script}
 use Rattle.hwp_script.proofs.of_hwp_script_read.ReadLaws.{apart}
 use Rattle.hwp_report.specs.hwp_report_text.declared.Report.{Report}
-use Rattle.hwp_table_words.specs.Ends.{EndValue}
+use Rattle.hwp_top_report.specs.hwp_table_words.Ends.{EndValue}
 use Rattle.hwp_top_report.specs.Caches.{IsCachedEnd}
 use Rattle.hwp_top.specs.declared.served.Call.{Call}
 use Rattle.hwp_top.specs.declared.served.Call.TheVariants as calls

@@ -4,21 +4,21 @@ use Rattle.std.proofs.lemmas.Bool.{cases_lt}
 use Rattle.std.proofs.lemmas.List.{length-append}
 use Rattle.std.proofs.lemmas.List.Sums.{get_or-le-sum_by}
 use Rattle.std.proofs.lemmas.Option.{get_or_from_slice_get, same_Some, slice_get-get_or, slice_get_within}
-use Rattle.hwp_table_words.specs.hwp_geom.declared.Cpu.{Cpu}
-use Rattle.hwp_table_words.specs.hwp_geom.declared.Layout.{Layout}
-use Rattle.hwp_table_words.specs.hwp_core_rule.declared.State.{State}
-use Rattle.hwp_table_words.specs.hwp_core_rule.Opening.{opening}
-use Rattle.hwp_table_words.specs.hwp_core_rule.Rule.{Holds}
-use Rattle.hwp_table_words.specs.hwp_core_rule.declared.Turn.{Turn}
-use Rattle.hwp_table_words.specs.hwp_core_rule.Boards.{AreSeated, Played, view_of}
-use Rattle.hwp_table_words.specs.hwp_core_rule.Ranks.{Made}
-use Rattle.hwp_plain.specs.hwp_script_read.declared.Command.{Command}
-use Rattle.hwp_plain.specs.hwp_script_read.declared.Script.{Script}
-use Rattle.hwp_plain.specs.hwp_script_read.Forks.{is_fork_of}
-use Rattle.hwp_plain.specs.hwp_script_read.Valid.{AreLists, IsCommandOf, IsValid}
-use Rattle.hwp_plain.specs.Order.{InOrder, IsAt, Running, cpu_of, running}
-use Rattle.hwp_plain.specs.Ready.{IsCrew}
-use Rattle.hwp_plain.proofs.CrewOpens.{opening-crew}
+use Rattle.hwp_top_report.specs.hwp_geom.declared.Cpu.{Cpu}
+use Rattle.hwp_top_report.specs.hwp_geom.declared.Layout.{Layout}
+use Rattle.hwp_top_report.specs.hwp_core_rule.declared.State.{State}
+use Rattle.hwp_top_report.specs.hwp_core_rule.Opening.{opening}
+use Rattle.hwp_top_report.specs.hwp_core_rule.Rule.{Holds}
+use Rattle.hwp_top_report.specs.hwp_core_rule.declared.Turn.{Turn}
+use Rattle.hwp_top_report.specs.hwp_core_rule.Boards.{AreSeated, Played, view_of}
+use Rattle.hwp_top_report.specs.hwp_core_rule.Ranks.{Made}
+use Rattle.hwp_script.specs.hwp_script_read.declared.Command.{Command}
+use Rattle.hwp_script.specs.hwp_script_read.declared.Script.{Script}
+use Rattle.hwp_script.specs.hwp_script_read.Forks.{is_fork_of}
+use Rattle.hwp_script.specs.hwp_script_read.Valid.{AreLists, IsCommandOf, IsValid}
+use Rattle.hwp_top_report.specs.hwp_plain.Order.{InOrder, IsAt, Running, cpu_of, running}
+use Rattle.hwp_top_report.specs.hwp_plain.Ready.{IsCrew}
+use Rattle.hwp_top_report.proofs.of_hwp_plain.CrewOpens.{opening-crew}
 use Rattle.hwp_top_report.proofs.of_hwp_law_served.Homes.{there-is}
 use Rattle.hwp_top_report.proofs.of_hwp_law_served.turns.TurnKeeps.{kept-ordered}
 use Rattle.hwp_top_report.specs.hwp_cpu_row.declared.Row.{Row}

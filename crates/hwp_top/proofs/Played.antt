@@ -1,17 +1,17 @@
 -- The tasks of a script on a board at opening, and where their turns lead.
 use Rattle.std.proofs.Common.{◌≡◌, ℕ, ◌++◌, List, length, take, drop, refl, sym, ap, ◌∙◌, subst, arith}
 use Rattle.std.proofs.lemmas.List.{take_all, take-append-le}
-use Rattle.hwp_table_words.specs.hwp_geom.declared.Cpu.{Cpu}
-use Rattle.hwp_table_words.specs.hwp_geom.declared.Layout.{Layout}
-use Rattle.hwp_table_words.specs.hwp_core_rule.declared.State.{State}
-use Rattle.hwp_table_words.specs.hwp_core_rule.Opening.{opening}
-use Rattle.hwp_table_words.specs.hwp_core_rule.Rule.{Holds}
-use Rattle.hwp_table_words.specs.hwp_core_rule.Boards.{AreSeated, Played}
-use Rattle.hwp_plain.specs.hwp_script_read.declared.Go.{Go}
-use Rattle.hwp_plain.specs.hwp_script_read.declared.Script.{Script}
-use Rattle.hwp_plain.specs.hwp_script_read.Valid.{IsValid}
-use Rattle.hwp_plain.specs.Order.{AreOver, Grows, InOrder, Running, logged, running}
-use Rattle.hwp_plain.specs.Ready.{IsCrew}
+use Rattle.hwp_top_report.specs.hwp_geom.declared.Cpu.{Cpu}
+use Rattle.hwp_top_report.specs.hwp_geom.declared.Layout.{Layout}
+use Rattle.hwp_top_report.specs.hwp_core_rule.declared.State.{State}
+use Rattle.hwp_top_report.specs.hwp_core_rule.Opening.{opening}
+use Rattle.hwp_top_report.specs.hwp_core_rule.Rule.{Holds}
+use Rattle.hwp_top_report.specs.hwp_core_rule.Boards.{AreSeated, Played}
+use Rattle.hwp_script.specs.hwp_script_read.declared.Go.{Go}
+use Rattle.hwp_script.specs.hwp_script_read.declared.Script.{Script}
+use Rattle.hwp_script.specs.hwp_script_read.Valid.{IsValid}
+use Rattle.hwp_top_report.specs.hwp_plain.Order.{AreOver, Grows, InOrder, Running, logged, running}
+use Rattle.hwp_top_report.specs.hwp_plain.Ready.{IsCrew}
 use Rattle.hwp_top_report.specs.hwp_law_served.Turns.{Leads}
 use Rattle.hwp_top_report.proofs.of_hwp_law_served.turns.TurnKeeps.{same-ordered}
 use Rattle.hwp_top_report.proofs.of_hwp_law_served.turns.TurnLeads.{leads-hold, leads-ordered}

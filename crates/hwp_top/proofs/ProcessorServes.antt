@@ -1,18 +1,18 @@
 -- Processors that are finished have served their commands, whatever led them there.
 use Rattle.std.proofs.Common.{◌≡◌, ℕ, zero, suc, ◌<◌, List, [], ◌∷◌, Option, Some, None, slice_get, refl, sym, ap, ◌∙◌, subst, arith}
 use Rattle.std.proofs.lemmas.Option.{none-some, same_Some, slice_get_within}
-use Rattle.hwp_table_words.specs.hwp_geom.declared.Cpu.{Cpu}
-use Rattle.hwp_table_words.specs.hwp_geom.declared.Layout.{Layout}
-use Rattle.hwp_table_words.specs.hwp_page.History.{BodyValue}
-use Rattle.hwp_table_words.specs.hwp_core_rule.declared.State.{State}
-use Rattle.hwp_table_words.specs.hwp_core_rule.Rule.{Holds}
-use Rattle.hwp_table_words.proofs.of_hwp_core_rule.Lists.{at_map}
-use Rattle.hwp_table_words.specs.hwp_core_rule.declared.Turn.{Turn}
-use Rattle.hwp_table_words.specs.hwp_core_rule.Boards.{AreSeated, view_of}
-use Rattle.hwp_plain.specs.hwp_script_read.declared.Command.{Command}
-use Rattle.hwp_plain.specs.hwp_script_read.declared.Script.{Script}
-use Rattle.hwp_plain.specs.hwp_script_read.Valid.{IsValid}
-use Rattle.hwp_plain.specs.Order.{cpu_of}
+use Rattle.hwp_top_report.specs.hwp_geom.declared.Cpu.{Cpu}
+use Rattle.hwp_top_report.specs.hwp_geom.declared.Layout.{Layout}
+use Rattle.hwp_top_report.specs.hwp_page.History.{BodyValue}
+use Rattle.hwp_top_report.specs.hwp_core_rule.declared.State.{State}
+use Rattle.hwp_top_report.specs.hwp_core_rule.Rule.{Holds}
+use Rattle.hwp_top_report.proofs.of_hwp_core_rule.Lists.{at_map}
+use Rattle.hwp_top_report.specs.hwp_core_rule.declared.Turn.{Turn}
+use Rattle.hwp_top_report.specs.hwp_core_rule.Boards.{AreSeated, view_of}
+use Rattle.hwp_script.specs.hwp_script_read.declared.Command.{Command}
+use Rattle.hwp_script.specs.hwp_script_read.declared.Script.{Script}
+use Rattle.hwp_script.specs.hwp_script_read.Valid.{IsValid}
+use Rattle.hwp_top_report.specs.hwp_plain.Order.{cpu_of}
 use Rattle.hwp_top_report.proofs.of_hwp_law_served.Homes.{there-is}
 use Rattle.hwp_top_report.specs.hwp_cpu_row.declared.Row.{Row}
 use Rattle.hwp_top_report.specs.hwp_law_served.Rows.{lines_from}

@@ -3,7 +3,7 @@ use Rattle.std.specs.Prelude.{◌≡◌, ℕ, List, Option, Some, None, IsSomeAn
 use Rattle.std.proofs.Common.{subst, sym}
 use Rattle.std.specs.Io.KnownBytes.{Appends}
 use Rattle.hwp_report.specs.hwp_report_text.declared.Report.{Report}
-use Rattle.hwp_table_words.specs.Ends.{EndValue}
+use Rattle.hwp_top_report.specs.hwp_table_words.Ends.{EndValue}
 use Rattle.hwp_top.specs.declared.served.Call.{Call}
 use Rattle.hwp_top.specs.declared.served.Call.TheVariants as calls
 use Rattle.hwp_top.specs.Calls.{IsCall}

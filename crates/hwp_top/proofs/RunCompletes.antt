@@ -3,12 +3,12 @@
 use Rattle.std.proofs.Common.{◌≡◌, ◌⊎◌, inl, inr, ℕ, zero, suc, ◌<◌, List, [], ◌∷◌, Option, Some, None, length, slice_index_or, refl, sym, true≢false, ap, ◌∙◌, subst, arith}
 use Rattle.std.specs.Prelude.{Bool, true, false, not, Contains, IsTrue}
 use Rattle.std.specs.Io.KnownBytes.{Appends}
-use Rattle.hwp_plain.specs.hwp_script_read.Reads.{Reads}
-use Rattle.hwp_plain.specs.hwp_script_read.declared.Refused.{Refused}
-use Rattle.hwp_plain.specs.hwp_script_read.declared.Script.{Script}
-use Rattle.hwp_plain.proofs.of_hwp_script_read.OneScript.{one_script}
+use Rattle.hwp_script.specs.hwp_script_read.Reads.{Reads}
+use Rattle.hwp_script.specs.hwp_script_read.declared.Refused.{Refused}
+use Rattle.hwp_script.specs.hwp_script_read.declared.Script.{Script}
+use Rattle.hwp_script.proofs.of_hwp_script_read.OneScript.{one_script}
 use Rattle.hwp_top_report.specs.hwp_report_text.declared.Report.{Report}
-use Rattle.hwp_table_words.specs.Ends.{EndValue}
+use Rattle.hwp_top_report.specs.hwp_table_words.Ends.{EndValue}
 use Rattle.hwp_top_report.specs.Caches.{IsCachedEnd}
 use Rattle.hwp_top.specs.Outputs.{tlb_entries}
 use Rattle.hwp_top.specs.Serving.{end_at}

@@ -1,7 +1,7 @@
 -- The report level of what `run` and `run tlb` write follows from their output.
 use Rattle.std.specs.Prelude.{ℕ, Bool, true, false, List, Option, Some, None, IsSomeAnd}
 use Rattle.hwp_top_report.specs.hwp_report_text.declared.Report.{Report}
-use Rattle.hwp_table_words.specs.Ends.{EndValue}
+use Rattle.hwp_top_report.specs.hwp_table_words.Ends.{EndValue}
 use Rattle.hwp_top.specs.Outputs.{IsStepReport}
 use Rattle.hwp_top.specs.RunCalls.{IsThreaded, IsThreadedOf}
 

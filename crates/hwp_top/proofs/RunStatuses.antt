@@ -2,7 +2,7 @@
 use Rattle.std.specs.Prelude.{◌≡◌, ℕ, Bool, true, false, List, ◌⊎◌, Option, Some, None}
 use Rattle.std.proofs.Common.{lit<, refl, subst, sym, ◌∙◌, inl, inr}
 use Rattle.hwp_top_report.specs.hwp_report_text.declared.Report.{Report}
-use Rattle.hwp_table_words.specs.Ends.{EndValue}
+use Rattle.hwp_top_report.specs.hwp_table_words.Ends.{EndValue}
 use Rattle.hwp_top.specs.Top.{IsDone, done_status}
 use Rattle.hwp_top.proofs.Statuses.{RunStatus, report_is_done, report_is_run_status}
 use Rattle.hwp_top.specs.RunCalls.{IsThreadedOf}

@@ -4,7 +4,7 @@ use Rattle.std.specs.Prelude.{Bool, Option}
 use Rattle.std.specs.Io.KnownBytes.{Appends}
 use Rattle.hwp_io.specs.Causes.{AppendsStrictFront}
 use Rattle.hwp_top_report.specs.hwp_report_text.declared.Report.{Report}
-use Rattle.hwp_table_words.specs.Ends.{EndValue}
+use Rattle.hwp_top_report.specs.hwp_table_words.Ends.{EndValue}
 use Rattle.hwp_top.specs.Top.{IsDone}
 use Rattle.hwp_top.specs.RunCalls.{IsRun, IsThreadedCall, IsThreadedOf}
 

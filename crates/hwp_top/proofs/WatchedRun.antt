@@ -1,12 +1,12 @@
 -- The lines of a board that was watched are the trace of its run.
 use Rattle.std.proofs.Common.{◌≡◌, List, [], sym, ap, ◌∙◌, subst}
-use Rattle.hwp_table_words.specs.hwp_core_rule.Boards.{Played}
-use Rattle.hwp_plain.specs.Boards.{Board}
-use Rattle.hwp_plain.specs.Order.{logged}
-use Rattle.hwp_plain.specs.Traced.{AreTold}
-use Rattle.hwp_plain.specs.declared.TraceLine.{TraceLine}
-use Rattle.hwp_plain.specs.hwp_script_read.declared.Script.{Script}
-use Rattle.hwp_plain.proofs.ToldTurns.{all-told}
+use Rattle.hwp_top_report.specs.hwp_core_rule.Boards.{Played}
+use Rattle.hwp_top_report.specs.hwp_plain.Boards.{Board}
+use Rattle.hwp_top_report.specs.hwp_plain.Order.{logged}
+use Rattle.hwp_top_report.specs.hwp_plain.Traced.{AreTold}
+use Rattle.hwp_top_report.specs.hwp_plain.declared.TraceLine.{TraceLine}
+use Rattle.hwp_script.specs.hwp_script_read.declared.Script.{Script}
+use Rattle.hwp_top_report.proofs.of_hwp_plain.ToldTurns.{all-told}
 use Rattle.hwp_top_report.specs.hwp_report_text.declared.Report.{Report}
 use Rattle.hwp_top.specs.Runs.{IsReportOf}
 use Rattle.hwp_top.specs.Traces.{IsTrace}

@@ -1,19 +1,19 @@
 -- The report of a run is lawful, and the law of the run holds of it.
 use Rattle.std.proofs.Common.{List, [], sym, subst}
-use Rattle.hwp_plain.specs.hwp_script_read.declared.Script.{Script}
-use Rattle.hwp_plain.specs.hwp_script_read.Valid.{IsValid}
+use Rattle.hwp_script.specs.hwp_script_read.declared.Script.{Script}
+use Rattle.hwp_script.specs.hwp_script_read.Valid.{IsValid}
 use Rattle.hwp_top_report.specs.hwp_report_text.declared.Report.{Report}
 use Rattle.hwp_top_report.specs.hwp_law.Acting.{acting_script, copied_at}
-use Rattle.hwp_table_words.specs.hwp_core_rule.declared.State.{State}
-use Rattle.hwp_table_words.specs.hwp_core_rule.Opening.{opening}
-use Rattle.hwp_table_words.specs.hwp_core_rule.Boards.{Played}
-use Rattle.hwp_plain.specs.Order.{logged}
+use Rattle.hwp_top_report.specs.hwp_core_rule.declared.State.{State}
+use Rattle.hwp_top_report.specs.hwp_core_rule.Opening.{opening}
+use Rattle.hwp_top_report.specs.hwp_core_rule.Boards.{Played}
+use Rattle.hwp_top_report.specs.hwp_plain.Order.{logged}
 use Rattle.hwp_top_report.specs.hwp_law_served.Ends.{EndsWith}
 use Rattle.hwp_top_report.specs.hwp_law_served.Turns.{Leads}
 use Rattle.hwp_top_report.specs.hwp_cpu_row.declared.Row.{Row}
 use Rattle.hwp_top_report.specs.hwp_law_served.Runs.{HaveServed, IsRunOf}
 use Rattle.hwp_top_report.proofs.AnswerSights.{report-shown, scrubs-shown}
-use Rattle.hwp_table_words.specs.Ends.{EndValue}
+use Rattle.hwp_top_report.specs.hwp_table_words.Ends.{EndValue}
 use Rattle.hwp_top_report.specs.Closing.{IsClosing}
 use Rattle.hwp_top_report.specs.Finishes.{HasEndedAt, IsFinished, own_seat}
 use Rattle.hwp_top.specs.Runs.{HasClosed, IsCoreRun, IsPlayed, IsReportOf, IsTablePlayed, IsTableRun}

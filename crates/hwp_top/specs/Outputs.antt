@@ -10,7 +10,7 @@ use Rattle.hwp_report.specs.hwp_report_text.declared.Report.{Report}
 use Rattle.hwp_report.specs.hwp_report_text.ReportText.{report_text}
 use Rattle.hwp_report.specs.Counts.{summary_of}
 use Rattle.hwp_report.specs.SummaryText.{summary_text}
-use Rattle.hwp_table_words.specs.Ends.{EndValue}
+use Rattle.hwp_top_report.specs.hwp_table_words.Ends.{EndValue}
 use Rattle.hwp_top_report.specs.Caches.{IsCachedEnd}
 use Rattle.hwp_top.specs.declared.served.Call.{Call}
 use Rattle.hwp_top.specs.declared.served.Call.TheVariants as calls

@@ -1,18 +1,18 @@
 -- The run of a script: the processors' tasks as they begin, how they end, and the law of the report.
 use Rattle.std.specs.Prelude.{◌≡◌, ℕ, List, [], Some, length, map, slice_get}
-use Rattle.hwp_table_words.specs.hwp_geom.declared.Cpu.{Cpu}
-use Rattle.hwp_table_words.specs.hwp_geom.declared.Layout.{Layout}
-use Rattle.hwp_table_words.specs.hwp_core_rule.declared.State.{State}
-use Rattle.hwp_table_words.specs.hwp_core_rule.Opening.{opening}
-use Rattle.hwp_table_words.specs.hwp_core_rule.Boards.{AreSeated, Played}
-use Rattle.hwp_table_words.specs.hwp_core_rule.Turns.{Member}
-use Rattle.hwp_table_words.specs.hwp_plain.Openings.{home_with}
-use Rattle.hwp_table_words.specs.Ends.{EndValue, HasAll}
-use Rattle.hwp_table_words.specs.Known.{Known}
+use Rattle.hwp_top_report.specs.hwp_geom.declared.Cpu.{Cpu}
+use Rattle.hwp_top_report.specs.hwp_geom.declared.Layout.{Layout}
+use Rattle.hwp_top_report.specs.hwp_core_rule.declared.State.{State}
+use Rattle.hwp_top_report.specs.hwp_core_rule.Opening.{opening}
+use Rattle.hwp_top_report.specs.hwp_core_rule.Boards.{AreSeated, Played}
+use Rattle.hwp_top_report.specs.hwp_core_rule.Turns.{Member}
+use Rattle.hwp_top_report.specs.hwp_plain.Openings.{home_with}
+use Rattle.hwp_top_report.specs.hwp_table_words.Ends.{EndValue, HasAll}
+use Rattle.hwp_top_report.specs.hwp_table_words.Known.{Known}
 use Rattle.hwp_table.specs.Boards.{whole_then}
-use Rattle.hwp_plain.specs.hwp_script_read.declared.Command.{Command}
-use Rattle.hwp_plain.specs.hwp_script_read.declared.Script.{Script}
-use Rattle.hwp_plain.specs.Order.{InOrder, Running, logged, running}
+use Rattle.hwp_script.specs.hwp_script_read.declared.Command.{Command}
+use Rattle.hwp_script.specs.hwp_script_read.declared.Script.{Script}
+use Rattle.hwp_top_report.specs.hwp_plain.Order.{InOrder, Running, logged, running}
 use Rattle.hwp_top_report.specs.hwp_report_text.declared.Report.{Report}
 use Rattle.hwp_top_report.specs.hwp_law.Law.{IsLawful}
 use Rattle.hwp_top_report.specs.hwp_law.Runs.{IsOfRun}

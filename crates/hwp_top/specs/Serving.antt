@@ -4,7 +4,7 @@ use Rattle.std.specs.Io.KnownBytes.{Appends}
 use Rattle.hwp_script.specs.hwp_script_read.declared.Script.{Script}
 use Rattle.hwp_report.specs.hwp_report_text.declared.Report.{Report}
 use Rattle.hwp_report.specs.hwp_report_text.ReportText.{report_text}
-use Rattle.hwp_table_words.specs.Ends.{EndValue}
+use Rattle.hwp_top_report.specs.hwp_table_words.Ends.{EndValue}
 use Rattle.hwp_top_report.specs.Caches.{IsCachedEnd}
 use Rattle.hwp_top.specs.Outputs.{tlb_entries}
 use Rattle.hwp_top.specs.Top.{IsReportOfRun, done_status}

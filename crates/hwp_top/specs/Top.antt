@@ -9,7 +9,7 @@ use Rattle.hwp_script.specs.hwp_script_read.Reads.{Reads, IsRefused}
 use Rattle.hwp_report.specs.hwp_report_text.declared.Report.{Report}
 use Rattle.hwp_check.specs.hwp_law.Law.{IsLawful}
 use Rattle.hwp_check.specs.hwp_law.Runs.{IsOfRun}
-use Rattle.hwp_table_words.specs.Ends.{EndValue}
+use Rattle.hwp_top_report.specs.hwp_table_words.Ends.{EndValue}
 use Rattle.hwp_top.specs.Runs.{IsCoreRun, IsTableRun}
 
 -- a source gave these bytes, and they are refused so: they are the text of no script; all reasons but the length need the whole input

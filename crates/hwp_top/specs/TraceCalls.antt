@@ -1,11 +1,11 @@
 -- What the program writes.
 use Rattle.std.specs.Prelude.{◌≡◌, ℕ, ◌++◌, ◌==◌, if◌then◌else◌, List, [], ◌∷◌, Option, Some, IsSomeAnd, codes}
-use Rattle.hwp_plain.specs.hwp_script_read.declared.Script.{Script}
+use Rattle.hwp_script.specs.hwp_script_read.declared.Script.{Script}
 use Rattle.hwp_top_report.specs.hwp_report_text.declared.Report.{Report}
 use Rattle.hwp_top.specs.Top.{Takes, done_status}
 use Rattle.hwp_top.specs.Top as top
-use Rattle.hwp_plain.specs.declared.TraceLine.{TraceLine}
-use Rattle.hwp_plain.specs.TraceText.{trace_text}
+use Rattle.hwp_top_report.specs.hwp_plain.declared.TraceLine.{TraceLine}
+use Rattle.hwp_top_report.specs.hwp_plain.TraceText.{trace_text}
 use Rattle.hwp_top.specs.Traces.{IsTrace}
 
 -- the text tells the turns of a run of the script that a source gave, and the report is of that run

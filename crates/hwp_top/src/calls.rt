@@ -12,8 +12,7 @@ use crate::messages::{OUT_OF_MEMORY, READ_FAULT, USAGE, WRITE_FAULT, refusal, te
 use crate::outputs::{Output, output_of};
 use crate::words::call_of;
 use hwp_io::{Sink, Source, WriteFault, write_all};
-use hwp_table_words::{Bare, Cached, Ended};
-use hwp_top_report::Report;
+use hwp_top_report::{Bare, Cached, Ended, Report};
 use std::alloc::Global;
 use std::process::ExitCode;
 

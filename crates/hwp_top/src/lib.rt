@@ -22,6 +22,7 @@ mod words;
 
 pub use calls::{Done, top};
 pub use hwp_threads::{Gate, Open, Point};
+pub use hwp_top_report::Cpu;
 pub use plain::run_plain;
 pub use playing::play;
 pub use run_calls::top_run;

@@ -13,8 +13,7 @@ use crate::served::Call;
 use hwp_io::Source;
 use hwp_report::{print_summary, summary};
 use hwp_script::generate;
-use hwp_table_words::{Bare, Cached, Ended, Ways};
-use hwp_top_report::{Finished, Report, Text};
+use hwp_top_report::{Bare, Cached, Ended, Finished, Report, Text, Ways};
 use std::alloc::Global;
 
 /// What a call writes, the status where all of it is written, and, where it made a run, the report, and what the run's table was

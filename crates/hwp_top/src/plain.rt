@@ -1,13 +1,12 @@
 ghost use Rattle.std.specs.Prelude.{◌≡◌, IfOk};
 ghost use Rattle.hwp_top_report.specs.hwp_law.Law.{IsLawful};
 ghost use Rattle.hwp_top_report.specs.hwp_law.Runs.{IsOfRun};
-ghost use Rattle.hwp_plain.specs.hwp_script_read.Valid.{IsValid};
+ghost use Rattle.hwp_script.specs.hwp_script_read.Valid.{IsValid};
 ghost use Rattle.hwp_top.specs.Runs.{IsCoreRun, IsPlayed, IsReportOf};
 
 use crate::playing::play;
 use hwp_cpu::Rows;
-use hwp_plain::PlainBoard;
-use hwp_top_report::{OutOfMemory, Report, Script, report};
+use hwp_top_report::{OutOfMemory, PlainBoard, Report, Script, report};
 use std::alloc::Global;
 
 /// The report of a run in turns that was made on a plain board.

@@ -1,11 +1,10 @@
 ghost use Rattle.std.specs.Prelude.{◌≡◌, IfOk};
-ghost use Rattle.hwp_plain.specs.hwp_script_read.Valid.{IsValid};
+ghost use Rattle.hwp_script.specs.hwp_script_read.Valid.{IsValid};
 ghost use Rattle.hwp_top.specs.Runs.{IsOpened, IsPlayed};
 
 use crate::crew::crew_of;
 use hwp_cpu::{Rows, rows_of};
-use hwp_plain::step_all;
-use hwp_top_report::{Board, OutOfMemory, Script};
+use hwp_top_report::{Board, OutOfMemory, Script, step_all};
 use std::alloc::Global;
 
 /// All turns of a script's processors on a board at opening, in the order of its schedule: the rows of each processor.

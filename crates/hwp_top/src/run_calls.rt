@@ -1,7 +1,7 @@
 ghost use Rattle.std.specs.Prelude.{◌≡◌, ◌≢◌, ◌↔◌, ◌<◌, ℕ, List, [], ◌∷◌, true, map, string_bytes, Contains, IfSome, IfNone, IsSomeAnd, IsTrue, Some, None};
 ghost use Rattle.std.specs.Io.KnownBytes.{Appends};
 ghost use Rattle.hwp_io.specs.Causes.{AppendsStrictFront};
-ghost use Rattle.hwp_plain.specs.hwp_script_read.declared.Refused.{Refused};
+ghost use Rattle.hwp_script.specs.hwp_script_read.declared.Refused.{Refused};
 ghost use Rattle.hwp_top.specs.Outputs.{IsStepReport};
 ghost use Rattle.hwp_top.specs.Top.{IsDone, Refuses, Told, refusal_text, told_text};
 ghost use Rattle.hwp_top.specs.RunCalls.{AsksRun, IsNoRun, IsRun, IsThreadedCall};

@@ -1,17 +1,18 @@
 ghost use Rattle.std.specs.Prelude.{◌≡◌, [], IfOk};
 ghost use Rattle.hwp_top_report.specs.hwp_law.Law.{IsLawful};
 ghost use Rattle.hwp_top_report.specs.hwp_law.Runs.{IsOfRun};
-ghost use Rattle.hwp_plain.specs.hwp_script_read.Valid.{IsValid};
-ghost use Rattle.hwp_table_words.specs.Known.{first_knowing};
-ghost use Rattle.hwp_table_words.specs.Seats.{IsTableOf};
+ghost use Rattle.hwp_script.specs.hwp_script_read.Valid.{IsValid};
+ghost use Rattle.hwp_top_report.specs.hwp_table_words.Known.{first_knowing};
+ghost use Rattle.hwp_top_report.specs.hwp_table_words.Seats.{IsTableOf};
 ghost use Rattle.hwp_top_report.specs.Caches.{IsCachedEnd};
 ghost use Rattle.hwp_top.specs.Runs.{IsCoreRun, IsTablePlayed, IsTableRun, KnowsRun};
 
 use crate::playing::play;
 use hwp_cpu::Rows;
 use hwp_table::{OfTable, SeatBoard};
-use hwp_table_words::{Ended, Pass, Sheet, Slot, Ways, begin, close};
-use hwp_top_report::{Finished, OutOfMemory, Script, finish_run};
+use hwp_top_report::{
+    Ended, Finished, OutOfMemory, Pass, Script, Sheet, Slot, Ways, begin, close, finish_run,
+};
 use std::alloc::{AllocError, Global};
 use std::marker::Brand;
 use std::sync::Arc;

@@ -1,6 +1,6 @@
 //! What `run` and `run tlb` write.
 ghost use Rattle.std.specs.Prelude.{◌≡◌, ◌<◌, true, false, IfOk, IsErrOf};
-ghost use Rattle.hwp_plain.specs.hwp_script_read.declared.Refused.{Refused};
+ghost use Rattle.hwp_script.specs.hwp_script_read.declared.Refused.{Refused};
 ghost use Rattle.hwp_top_report.specs.hwp_report_text.ReportText.{report_text};
 ghost use Rattle.hwp_top.specs.Top.{Refuses};
 ghost use Rattle.hwp_top_report.specs.Caches.{IsCachedEnd};
@@ -10,9 +10,8 @@ use crate::inputs::{InputFault, take_script};
 use crate::outputs::{Output, status_of};
 use crate::threading::run_on_threads;
 use hwp_io::Source;
-use hwp_table_words::{Bare, Cached, Ways};
 use hwp_threads::Gate;
-use hwp_top_report::{Finished, Text};
+use hwp_top_report::{Bare, Cached, Finished, Text, Ways};
 use std::alloc::Global;
 use std::sync::Wait;
 use std::thread::Threads;

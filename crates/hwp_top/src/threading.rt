@@ -1,7 +1,7 @@
 ghost use Rattle.std.specs.Prelude.{◌≡◌, [], IfOk};
 ghost use Rattle.hwp_top_report.specs.hwp_law.Law.{IsLawful};
 ghost use Rattle.hwp_top_report.specs.hwp_law.Runs.{IsOfRun};
-ghost use Rattle.hwp_plain.specs.hwp_script_read.Valid.{IsValid};
+ghost use Rattle.hwp_script.specs.hwp_script_read.Valid.{IsValid};
 ghost use Rattle.hwp_threads.specs.hwp_table_words.Known.{first_knowing};
 ghost use Rattle.hwp_threads.specs.hwp_table_words.Seats.{IsTableOf};
 ghost use Rattle.hwp_top_report.specs.Caches.{IsCachedEnd};
@@ -9,9 +9,10 @@ ghost use Rattle.hwp_top.specs.ThreadRuns.{HaveRun, IsThreadPlayed, IsThreadRun}
 
 use crate::crew::crew_of;
 use hwp_cpu::{Processor, Rows, rows_of};
-use hwp_table_words::{Ended, Pass, Sheet, Slot, Ways, begin, close};
 use hwp_threads::{Gate, deal, gather, run_all};
-use hwp_top_report::{Finished, OutOfMemory, Script, finish_run};
+use hwp_top_report::{
+    Ended, Finished, OutOfMemory, Pass, Script, Sheet, Slot, Ways, begin, close, finish_run,
+};
 use std::alloc::{AllocError, Global};
 use std::sync::{Arc, Wait};
 use std::thread::Threads;

@@ -1,7 +1,7 @@
 ghost use Rattle.std.specs.Prelude.{◌≡◌, ◌≢◌, ◌↔◌, ◌<◌, ℕ, List, [], ◌∷◌, Contains, None, Some};
 ghost use Rattle.std.specs.Io.KnownBytes.{Appends};
 ghost use Rattle.hwp_io.specs.Causes.{AppendsStrictFront};
-ghost use Rattle.hwp_plain.specs.hwp_script_read.declared.Refused.{Refused};
+ghost use Rattle.hwp_script.specs.hwp_script_read.declared.Refused.{Refused};
 ghost use Rattle.hwp_top.specs.Top.{IsDone, Refuses, Told, refusal_text};
 ghost use Rattle.hwp_top.specs.TraceCalls.{IsShown, told_text};
 

@@ -1,6 +1,6 @@
 //! The trace of a script that a source gives.
 ghost use Rattle.std.specs.Prelude.{◌≡◌, ◌<◌, None, IfOk, IsErrOf};
-ghost use Rattle.hwp_plain.specs.hwp_script_read.declared.Refused.{Refused};
+ghost use Rattle.hwp_script.specs.hwp_script_read.declared.Refused.{Refused};
 ghost use Rattle.hwp_top.specs.Top.{Refuses, done_status};
 ghost use Rattle.hwp_top.specs.TraceCalls.{IsShown, IsTraceOf};
 
@@ -8,8 +8,7 @@ use crate::inputs::{InputFault, take_script};
 use crate::outputs::{Output, status_of};
 use crate::tracing::trace;
 use hwp_io::Source;
-use hwp_plain::print_trace;
-use hwp_top_report::{Report, Text};
+use hwp_top_report::{Report, Text, print_trace};
 use std::alloc::Global;
 
 /// The report of the run of the script that a source gives, and the text of its trace.

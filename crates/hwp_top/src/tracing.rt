@@ -1,11 +1,10 @@
 ghost use Rattle.std.specs.Prelude.{IfOk};
-ghost use Rattle.hwp_plain.specs.hwp_script_read.Valid.{IsValid};
+ghost use Rattle.hwp_script.specs.hwp_script_read.Valid.{IsValid};
 ghost use Rattle.hwp_top.specs.Traces.{IsTrace};
 
 use crate::plain::report_of;
 use crate::playing::play;
-use hwp_plain::{TraceLine, TracedBoard};
-use hwp_top_report::{List, OutOfMemory, Report, Script};
+use hwp_top_report::{List, OutOfMemory, Report, Script, TraceLine, TracedBoard};
 use std::alloc::Global;
 
 /// A run that was watched: its report, and a line for each turn.

@@ -37,3 +37,5 @@ mod LedBodies
 mod CachedEnds
 mod SwappedMarks
 pub use Rattle.hwp_law_served.proofs as of_hwp_law_served
+pub use Rattle.hwp_plain.proofs as of_hwp_plain
+pub use Rattle.hwp_table_words.proofs.of_hwp_core_rule as of_hwp_core_rule

@@ -14,9 +14,7 @@ mod words;
 pub use closing::report;
 pub use finishing::{Finished, finish_run};
 pub use hwp_cpu_row::{
-    Board, CacheWord, CounterWord, Cpu, Entry, Frame, FrameWord, Kind, Layout, List, MAX_SCRIPT,
-    Ops, OutOfMemory, Page, PageWord, PolicyWord, ProcessWord, Pte, Report, Row, Script,
-    SharedWord, StopWord, Task, Text, Turn, Who, index, is_text, kind_name, policy_word, print,
-    read_number,
+    Board, Cpu, List, MAX_SCRIPT, OutOfMemory, Report, Script, Text, is_text, print, read_number,
 };
-pub use hwp_plain::histories;
+pub use hwp_plain::{PlainBoard, TraceLine, TracedBoard, print_trace, step_all};
+pub use hwp_table_words::{Bare, Cached, Ended, Pass, Sheet, Slot, Ways, begin, close};

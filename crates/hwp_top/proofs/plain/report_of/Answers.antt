@@ -1,6 +1,6 @@
 use Rattle.std.proofs.Common.{length, ap, ◌∙◌}
 use Rattle.std.proofs.lemmas.Result.{IfOk-weaker}
-use Rattle.hwp_table_words.specs.hwp_geom.declared.Layout.{Layout}
+use Rattle.hwp_top_report.specs.hwp_geom.declared.Layout.{Layout}
 use Rattle.hwp_top.specs.Runs.{IsReportOf}
 use Rattle.hwp_top_report.proofs.Came.{Closes, last-bare, last-came, last-told}
 use Rattle.hwp_top.proofs.Whole.{reported}

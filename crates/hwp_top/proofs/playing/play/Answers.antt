@@ -1,6 +1,6 @@
 use Rattle.std.proofs.Common.{◌≡◌, ◌++◌, List, length, take, drop, arith, subst}
 use Rattle.std.proofs.lemmas.Result.{IfOk-weaker}
-use Rattle.hwp_plain.specs.Order.{running}
+use Rattle.hwp_top_report.specs.hwp_plain.Order.{running}
 use Rattle.hwp_cpu.specs.declared.Processor.{Processor}
 use Rattle.hwp_cpu.specs.Processors.{AreFinished}
 use Rattle.hwp_top.specs.Runs.{IsPlayed}

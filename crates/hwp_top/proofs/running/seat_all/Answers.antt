@@ -1,6 +1,6 @@
 use Rattle.std.proofs.Common.{subst}
-use Rattle.hwp_table_words.specs.hwp_geom.declared.Layout.{Layout}
-use Rattle.hwp_table_words.specs.Ends.{HasAll}
+use Rattle.hwp_top_report.specs.hwp_geom.declared.Layout.{Layout}
+use Rattle.hwp_top_report.specs.hwp_table_words.Ends.{HasAll}
 use Rattle.hwp_top_report.proofs.Came.{last-bare}
 use Rattle.hwp_top.proofs.running.seat_all.Goals as goal
 
