@@ -70,6 +70,12 @@ pub record HaveRun (script : Script) (v : Known) (now : List Processor) : Type 0
   pub now_are : now ≡ tasks_then owns
   pub others : EachMember (λ (x : ℕ × View). HoldsNothing x.1 ⊎ ((o : Own Processor) × (slice_get owns x.0 ≡ Some o) × (x.1 ≡ o.to.view))) v.mines
 
+-- one seat knows what processors did whose commands are answered by these rows
+pub record KnowsOwnRuns (script : Script) (v : Known) (rows : List (List Row)) : Type 0 where
+  pub now : List Processor
+  pub ran : HaveRun script v now
+  pub finished : AreFinished now rows
+
 -- the table was closed with what they led to, by a seat that had the view of each processor: the views and the parts of the moves are
 -- those that it knew
 pub record IsThreadPlayed (script : Script) (ended : EndValue) (rows : List (List Row)) : Type 0 where

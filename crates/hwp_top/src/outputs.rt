@@ -27,6 +27,24 @@ pub(crate) struct Output {
     pub tlb: Option<Ended<Cached>>,
 }
 
+/// The run, and the text of its report.
+pub(crate) fn printed<W: Ways>(
+    alloc: Global,
+    run: Finished<W>,
+) -> Result<(Finished<W>, Text), InputFault>
+    ensures run { IfOk result (λ done. done.0 ≡ run) }
+    ensures text { IfOk result (λ done. done.1 ≡ report_text run.report) }
+    ensures memory { (fault : InputFault) → IsErrOf result fault → fault ≡ InputFault.OutOfMemory }
+{
+    match hwp_top_report::print(alloc, &run.report) {
+        Ok(text) => Ok((run, text)),
+        Err(_) => {
+            drop(run);
+            Err(InputFault::OutOfMemory)
+        }
+    }
+}
+
 /// The run of the script that a source gives, and the text of its report.
 fn report_of<S: Source, W: Ways>(
     alloc: Global,
@@ -42,13 +60,8 @@ fn report_of<S: Source, W: Ways>(
     match run_in_turns::<W>(alloc, &script) {
         Ok(run) => {
             drop(script);
-            match hwp_top_report::print(alloc, &run.report) {
-                Ok(text) => Ok((run, text)),
-                Err(_) => {
-                    drop(run);
-                    Err(InputFault::OutOfMemory)
-                }
-            }
+            let (run, text) = printed(alloc, run)?;
+            Ok((run, text))
         }
         Err(_) => {
             drop(script);

@@ -7,7 +7,7 @@ ghost use Rattle.hwp_top_report.specs.Caches.{IsCachedEnd};
 ghost use Rattle.hwp_top.specs.RunCalls.{IsThreadedOf, Reports};
 
 use crate::inputs::{InputFault, take_script};
-use crate::outputs::{Output, status_of};
+use crate::outputs::{Output, printed, status_of};
 use crate::threading::run_on_threads;
 use hwp_io::Source;
 use hwp_threads::Gate;
@@ -33,13 +33,8 @@ fn report_of<R: Threads + Wait + Sync, W: Ways + Send, S: Source, G: Gate + Sync
     match run_on_threads::<R, W, G>(rt, alloc, &script, gate) {
         Ok(run) => {
             drop(script);
-            match hwp_top_report::print(alloc, &run.report) {
-                Ok(text) => Ok((run, text)),
-                Err(_) => {
-                    drop(run);
-                    Err(InputFault::OutOfMemory)
-                }
-            }
+            let (run, text) = printed(alloc, run)?;
+            Ok((run, text))
         }
         Err(_) => {
             drop(script);

@@ -5,10 +5,10 @@ ghost use Rattle.hwp_script.specs.hwp_script_read.Valid.{IsValid};
 ghost use Rattle.hwp_threads.specs.hwp_table_words.Known.{first_knowing};
 ghost use Rattle.hwp_threads.specs.hwp_table_words.Seats.{IsTableOf};
 ghost use Rattle.hwp_top_report.specs.Caches.{IsCachedEnd};
-ghost use Rattle.hwp_top.specs.ThreadRuns.{HaveRun, IsThreadPlayed, IsThreadRun};
+ghost use Rattle.hwp_top.specs.ThreadRuns.{IsThreadPlayed, IsThreadRun, KnowsOwnRuns};
 
 use crate::crew::crew_of;
-use hwp_cpu::{Processor, Rows, rows_of};
+use hwp_cpu::{Rows, rows_of};
 use hwp_threads::{Gate, deal, gather, run_all};
 use hwp_top_report::{
     Ended, Finished, OutOfMemory, Pass, Script, Sheet, Slot, Ways, begin, close, finish_run,
@@ -17,7 +17,8 @@ use std::alloc::{AllocError, Global};
 use std::sync::{Arc, Wait};
 use std::thread::Threads;
 
-/// All turns of a script's processors, each on a thread of its own: the one seat that has all views again, and the tasks.
+/// All turns of a script's processors, each on a thread of its own: the one seat that has all views again, and the rows of each
+/// processor.
 fn run_crew<R: Threads + Wait + Sync, W: Ways + Send, G: Gate + Sync>(
     rt: &R,
     alloc: Global,
@@ -25,17 +26,19 @@ fn run_crew<R: Threads + Wait + Sync, W: Ways + Send, G: Gate + Sync>(
     script: &Script,
     pass: Pass,
     gate: &G,
-) -> Result<(Pass, Vec<Processor>), OutOfMemory>
+) -> Result<(Pass, Rows), OutOfMemory>
     requires valid { IsValid script.now }
     requires table { IsTableOf W.ways script.now.layout sheet.now.table_id × (sheet.now.key ≡ script.now.layout) }
     requires seat { (pass.table_id ≡ sheet.now.table_id) × (pass.me ≡ (first_knowing script.now.layout, [])) }
     ensures same { IfOk result (λ r. r.0.table_id ≡ sheet.now.table_id) }
-    ensures ran { IfOk result (λ r. HaveRun script.now r.0.me.0.known r.1.items) }
+    ensures knows { IfOk result (λ r. KnowsOwnRuns script.now r.0.me.0.known r.1) }
 {
     let crew = crew_of(alloc, script)?;
     let (pass, mut workers) = deal(alloc, sheet, &script.layout, pass, crew)?;
     run_all(rt, &mut workers, gate);
-    gather(alloc, sheet, pass, workers)
+    let (seat, tasks) = gather(alloc, sheet, pass, workers)?;
+    let rows = rows_of(alloc, tasks)?;
+    Ok((seat, rows))
 }
 
 /// The turns of a script's processors at a table of their own: what the table was closed with, the bodies that were in its
@@ -52,8 +55,7 @@ fn play_on_threads<R: Threads + Wait + Sync, W: Ways + Send, G: Gate + Sync>(
 {
     let layout = Arc::new(alloc, script.layout.copy(alloc)?)?;
     let (table, pass) = begin::<W>(alloc, &layout)?;
-    let (pass, tasks) = run_crew(rt, alloc, &table.shared, script, pass, gate)?;
-    let rows = rows_of(alloc, tasks)?;
+    let (pass, rows) = run_crew(rt, alloc, &table.shared, script, pass, gate)?;
     let Ok((ended, slots)) = close(alloc, &script.layout, table, pass) else {
         return Err(AllocError);
     };

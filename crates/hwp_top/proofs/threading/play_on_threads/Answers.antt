@@ -5,9 +5,10 @@ use Rattle.hwp_top.proofs.Closed.{closed-run, has-all}
 use Rattle.hwp_top.proofs.threading.play_on_threads.Goals as goal
 
 pub close-requires-clause-all : goal.close-requires-clause-all
-close-requires-clause-all g c = has-all c.args.script.now c.in_ok-pass.pass.me.0.known c.in_ok-pass.tasks.items c.in_ok-rows.rows c.requires.valid c.in_ok-pass.ensures.ran c.in_ok-rows.ensures
+close-requires-clause-all g c = let did = c.in_ok-pass.ensures.knows in has-all c.args.script.now c.in_ok-pass.pass.me.0.known did.now c.in_ok-pass.rows c.requires.valid did.ran did.finished
 
 pub returns-clause-played : goal.returns-clause-played
 returns-clause-played g c =
-    closed-run g.W.Ways.ways c.args.script.now c.in-Ok.ended c.in_ok-pass.tasks.items c.in_ok-rows.rows c.requires.valid c.in-Ok.ensures.layout
-    (subst (λ (v : Known). HaveRun c.args.script.now v c.in_ok-pass.tasks.items) (sym c.in-Ok.ensures.known) c.in_ok-pass.ensures.ran) c.in_ok-rows.ensures c.reached.ensures
+    let did = c.in_ok-pass.ensures.knows in
+    closed-run g.W.Ways.ways c.args.script.now c.in-Ok.ended did.now c.in_ok-pass.rows c.requires.valid c.in-Ok.ensures.layout
+    (subst (λ (v : Known). HaveRun c.args.script.now v did.now) (sym c.in-Ok.ensures.known) did.ran) did.finished c.reached.ensures

@@ -1,6 +1,5 @@
 use denote.Param.Send.{sendable}
 use Rattle.std.proofs.Common.{◌≡◌, length, sym, ap, subst, arith}
-use Rattle.std.proofs.lemmas.Result.{IfOk-weaker}
 use Rattle.hwp_threads.specs.hwp_table_words.Stands.{Me}
 use Rattle.hwp_threads.specs.Dealing.{CanDeal}
 use Rattle.hwp_threads.proofs.SeatMoves.{stays-ready}
@@ -31,10 +30,13 @@ gather-requires-clause-bare g c =
     bare-then c.args.script.now c.in_ok-crew.crew.items c.requires.valid c.in_ok-crew.ensures c.args.sheet.now.table_id c.in_ok-pass.workers.items c.deref_mut.result.now c.in_ok-pass.ensures.workers c.deref_mut.ensures.value
     c.in_ok-pass.workers.len c.run_all.new.workers whole c.run_all.ensures.count c.run_all.ensures.ran
 
-pub returns-clause-ran : goal.returns-clause-ran
-returns-clause-ran g c =
+pub returns-clause-knows : goal.returns-clause-knows
+returns-clause-knows g c =
     let whole : length c.run_all.new.workers ≡ c.in_ok-pass.workers.len = omega (arith, c.run_all.ensures.count, c.deref_mut.ensures.len) in
-    IfOk-weaker c.gather.result _ _ (λ r gathered.
-    run-then c.args.script.now c.in_ok-crew.crew.items c.requires.valid c.in_ok-crew.ensures c.args.sheet.now.table_id c.in_ok-pass.workers.items c.deref_mut.result.now c.in_ok-pass.ensures.workers c.deref_mut.ensures.value
-    c.in_ok-pass.workers.len c.run_all.new.workers whole c.run_all.ensures.count c.run_all.ensures.ran
-    c.in_ok-pass.pass.me.0.known c.in_ok-pass.ensures.left.unused r.0.table_id r.0.me r.1.items gathered) c.gather.ensures
+    record {
+      now = c.in_ok-seat.tasks.items;
+      ran = run-then c.args.script.now c.in_ok-crew.crew.items c.requires.valid c.in_ok-crew.ensures c.args.sheet.now.table_id c.in_ok-pass.workers.items c.deref_mut.result.now c.in_ok-pass.ensures.workers c.deref_mut.ensures.value
+          c.in_ok-pass.workers.len c.run_all.new.workers whole c.run_all.ensures.count c.run_all.ensures.ran
+          c.in_ok-pass.pass.me.0.known c.in_ok-pass.ensures.left.unused c.in_ok-seat.seat.table_id c.in_ok-seat.seat.me c.in_ok-seat.tasks.items c.in_ok-seat.ensures;
+      finished = c.in_ok-rows.ensures;
+    }
