@@ -4,7 +4,7 @@ use Rattle.hwp_check_rules.specs.hwp_geom.declared.VSlot.{VSlot}
 use Rattle.hwp_check_rules.specs.hwp_geom.declared.Who.{Who}
 use Rattle.hwp_check_rules.specs.hwp_law.Acting.{acting_script, copied_at}
 use Rattle.hwp_check_rules.specs.hwp_report_text.declared.Report.{Report}
-use Rattle.hwp_check_rules.specs.hwp_script_read.declared.Script.{Script}
+use Rattle.hwp_check_rules.specs.hwp_script_words.declared.Script.{Script}
 use Rattle.hwp_check_rules.specs.AnswerFaults.{IsAnswerFault}
 use Rattle.hwp_check_rules.specs.Faults.{IsCountFault, IsFrameFault, IsHistoryFault, IsLossFault, IsSeenFault, IsShapeFault, IsStopFault}
 use Rattle.hwp_check_rules.specs.Firsts.{IsClear, IsFirstFault}

@@ -5,8 +5,8 @@ use Rattle.hwp_check_rules.specs.hwp_geom.declared.VSlot.{VSlot}
 use Rattle.hwp_check_rules.specs.hwp_law.Acting.{acting_script, copied_at}
 use Rattle.hwp_check_rules.specs.hwp_law.Commands.{has_fork}
 use Rattle.hwp_check_rules.specs.hwp_report_text.declared.Report.{Report}
-use Rattle.hwp_check_rules.specs.hwp_script_read.Valid.{IsValid}
-use Rattle.hwp_check_rules.specs.hwp_script_read.declared.Script.{Script}
+use Rattle.hwp_check_rules.specs.hwp_script_words.Valid.{IsValid}
+use Rattle.hwp_check_rules.specs.hwp_script_words.declared.Script.{Script}
 use Rattle.hwp_check_rules.specs.hwp_check_event_line.Reading.{copies_in}
 use Rattle.hwp_check_rules.specs.hwp_check_event_line.Scripts.{IsDeclared}
 use Rattle.hwp_check_rules.proofs.of_hwp_law.ActingLaws.{acting-script-unforked, copied-at-unforked}

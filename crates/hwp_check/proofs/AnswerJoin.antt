@@ -8,8 +8,8 @@ use Rattle.hwp_check_rules.specs.hwp_law.Acting.{acting_script, copied_at}
 use Rattle.hwp_check_rules.specs.hwp_law.Guests.{AreGuestsKept}
 use Rattle.hwp_check_rules.specs.hwp_law.Private.{ArePrivate}
 use Rattle.hwp_check_rules.specs.hwp_report_text.declared.Report.{Report}
-use Rattle.hwp_check_rules.specs.hwp_script_read.declared.Script.{Script}
-use Rattle.hwp_check_rules.specs.hwp_script_read.Valid.{IsValid}
+use Rattle.hwp_check_rules.specs.hwp_script_words.declared.Script.{Script}
+use Rattle.hwp_check_rules.specs.hwp_script_words.Valid.{IsValid}
 use Rattle.hwp_check_rules.specs.AnswerFaults.{IsAnswerFault, IsPrivateFault}
 use Rattle.hwp_check_rules.specs.GuestFaults.{IsGuestFault}
 use Rattle.hwp_check_rules.specs.Firsts.{IsClear, IsFirstFault, IsLeast, soonest}

@@ -1,8 +1,8 @@
 -- What a verdict on a text says of the law.
 use Rattle.std.proofs.Common.{◌≡◌, ℕ, ◌<◌, ◌≤◌, ◌^◌, List, Result, Ok, Err, IfOk, IfErr, length, inl, inr, refl, sym, subst, arith}
-use Rattle.hwp_check_rules.specs.hwp_script_read.declared.Script.{Script}
-use Rattle.hwp_check_rules.specs.hwp_script_read.Reads.{Reads}
-use Rattle.hwp_check_rules.specs.hwp_script_read.Valid.{IsValid}
+use Rattle.hwp_check_rules.specs.hwp_script_words.declared.Script.{Script}
+use Rattle.hwp_script_read.specs.Reads.{Reads}
+use Rattle.hwp_check_rules.specs.hwp_script_words.Valid.{IsValid}
 use Rattle.hwp_report.specs.hwp_report_text.declared.Report.{Report}
 use Rattle.hwp_report.specs.declared.reading.BadReport.{BadReport}
 use Rattle.hwp_report.specs.declared.reading.BadReport.TheVariants as faults

@@ -1,8 +1,8 @@
 -- What is said of a text on a script.
 use Rattle.std.specs.Prelude.{◌≡◌, ℕ, ◌⊎◌, List, Result, Ok, Err}
-use Rattle.hwp_check_rules.specs.hwp_script_read.declared.Refused.{Refused}
-use Rattle.hwp_check_rules.specs.hwp_script_read.declared.Script.{Script}
-use Rattle.hwp_check_rules.specs.hwp_script_read.Reads.{IsRefused, Reads}
+use Rattle.hwp_script_read.specs.declared.Refused.{Refused}
+use Rattle.hwp_check_rules.specs.hwp_script_words.declared.Script.{Script}
+use Rattle.hwp_script_read.specs.Reads.{IsRefused, Reads}
 use Rattle.hwp_report.specs.hwp_report_text.declared.Report.{Report}
 use Rattle.hwp_report.specs.declared.reading.BadReport.{BadReport}
 use Rattle.hwp_report.specs.declared.reading.BadReport.TheVariants as faults

@@ -1,7 +1,7 @@
 -- How an input is parted into a script and what stands behind it.
 use Rattle.std.specs.Prelude.{◌≡◌, ◌≢◌, ℕ, ◌⊎◌, List, [], ◌∷◌, ◌++◌, codes, All}
 use Rattle.std.specs.List.{flat_map}
-use Rattle.hwp_report.specs.hwp_script_lines.Lines.{words_of}
+use Rattle.hwp_report.specs.hwp_script_words.Words.{words_of}
 use Rattle.hwp_report.specs.Cutting.{IsCut}
 
 -- the only word of the line is `end`

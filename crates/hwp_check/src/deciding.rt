@@ -1,5 +1,5 @@
 ghost use Rattle.std.specs.Prelude.{◌<◌, ◌^◌, IfOk, MatchOption};
-ghost use Rattle.hwp_check_rules.specs.hwp_script_read.Valid.{IsValid};
+ghost use Rattle.hwp_check_rules.specs.hwp_script_words.Valid.{IsValid};
 ghost use Rattle.hwp_check_rules.specs.Standing.{last_line};
 ghost use Rattle.hwp_check_rules.specs.Verdicts.{HoldBelow, IsBroken, IsVerdict, Holds};
 ghost use Rattle.hwp_check_rules.specs.declared.Rule.TheVariants.{Answers};

@@ -1,14 +1,15 @@
 ghost use Rattle.std.specs.Prelude.{◌≡◌, ◌<◌, ◌^◌, Ok, IfOk, IsErrOf};
-ghost use Rattle.hwp_check_rules.specs.hwp_script_read.Valid.{IsValid};
-ghost use Rattle.hwp_check_rules.specs.hwp_script_read.declared.Refused.{Refused};
+ghost use Rattle.hwp_check_rules.specs.hwp_script_words.Valid.{IsValid};
+ghost use Rattle.hwp_script_read.specs.declared.Refused.{Refused};
 ghost use Rattle.hwp_check_rules.specs.Standing.{last_line};
 ghost use Rattle.hwp_check.specs.Judging.{IsJudgedInput, IsRefusedInput, IsSaid};
 
 use crate::check;
 use crate::parting::parted;
-use hwp_check_rules::{OutOfMemory, ReadScript, Rule, Script, Verdict, read};
+use hwp_check_rules::{OutOfMemory, Rule, Script, Verdict};
 use hwp_io::Bytes;
 use hwp_report::{BadReport, Report, read as read_report};
+use hwp_script_read::{ReadScript, read};
 use std::alloc::{AllocError, Global};
 
 /// The verdict on what was read of a text: whether it is that of a report which a run of the script can have. A text that is no

@@ -1,7 +1,7 @@
 -- What is known of commands by their numbers is what is known of each.
 use Rattle.std.proofs.Common.{◌≡◌, false, List, length, replicate, Option}
 use Rattle.hwp_check_evidence.specs.hwp_geom.declared.Cpu.{Cpu}
-use Rattle.hwp_check_evidence.specs.hwp_script_read.declared.Command.{Command}
+use Rattle.hwp_check_evidence.specs.hwp_script_words.declared.Command.{Command}
 use Rattle.hwp_check_evidence.specs.hwp_report_text.declared.CpuLine.{CpuLine}
 use Rattle.hwp_check_evidence.specs.hwp_report_text.declared.Report.{Report}
 use Rattle.hwp_check_evidence.specs.Firsts.{AreNames, is_named}

@@ -8,9 +8,9 @@ use Rattle.hwp_check_evidence.specs.hwp_geom.declared.Who.{Who}
 use Rattle.hwp_check_evidence.specs.hwp_geom.declared.Mask.{Mask}
 use Rattle.hwp_check_evidence.specs.hwp_page.declared.At.{At}
 use Rattle.hwp_check_evidence.specs.hwp_page.declared.PageState.{PageState}
-use Rattle.hwp_check_evidence.specs.hwp_script_read.declared.Command.{Command}
-use Rattle.hwp_check_evidence.specs.hwp_script_read.declared.Command.TheVariants as commands
-use Rattle.hwp_check_evidence.specs.hwp_script_read.declared.Script.{Script}
+use Rattle.hwp_check_evidence.specs.hwp_script_words.declared.Command.{Command}
+use Rattle.hwp_check_evidence.specs.hwp_script_words.declared.Command.TheVariants as commands
+use Rattle.hwp_check_evidence.specs.hwp_script_words.declared.Script.{Script}
 use Rattle.hwp_check_evidence.specs.hwp_report_text.declared.Answer.{Answer}
 use Rattle.hwp_check_evidence.specs.hwp_report_text.declared.Answer.TheVariants as answers
 use Rattle.hwp_check_evidence.specs.hwp_report_text.declared.CpuLine.{CpuLine}

@@ -2,8 +2,8 @@
 use Rattle.std.specs.Prelude.{◌≡◌, ◌<◌, ℕ, false, List, Some, length, replicate, slice_get, take, Option}
 use Rattle.hwp_check_evidence.specs.hwp_geom.declared.Cpu.{Cpu}
 use Rattle.hwp_check_evidence.specs.hwp_geom.declared.Who.{Who}
-use Rattle.hwp_check_evidence.specs.hwp_script_read.declared.Command.{Command}
-use Rattle.hwp_check_evidence.specs.hwp_script_read.declared.Script.{Script}
+use Rattle.hwp_check_evidence.specs.hwp_script_words.declared.Command.{Command}
+use Rattle.hwp_check_evidence.specs.hwp_script_words.declared.Script.{Script}
 use Rattle.hwp_check_evidence.specs.hwp_report_text.declared.Answer.{Answer}
 use Rattle.hwp_check_evidence.specs.hwp_report_text.declared.CpuLine.{CpuLine}
 use Rattle.hwp_check_evidence.specs.hwp_report_text.declared.CpuLine.TheVariants as lines

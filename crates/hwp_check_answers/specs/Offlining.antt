@@ -2,8 +2,8 @@
 use Rattle.std.specs.Prelude.{◌≡◌, ◌⊎◌, ℕ, ◌+◌, ◌<◌, ◌≤◌, true, List, Option, Some, MatchOption, length, slice_get}
 use Rattle.std.specs.List.{list_any}
 use Rattle.hwp_check_evidence.specs.hwp_geom.declared.Cpu.{Cpu}
-use Rattle.hwp_check_evidence.specs.hwp_script_read.declared.Command.{Command}
-use Rattle.hwp_check_evidence.specs.hwp_script_read.declared.Script.{Script}
+use Rattle.hwp_check_evidence.specs.hwp_script_words.declared.Command.{Command}
+use Rattle.hwp_check_evidence.specs.hwp_script_words.declared.Script.{Script}
 use Rattle.hwp_check_evidence.specs.hwp_report_text.declared.CpuLine.{CpuLine}
 use Rattle.hwp_check_evidence.specs.hwp_report_text.declared.CpuLine.TheVariants as lines
 use Rattle.hwp_check_evidence.specs.hwp_report_text.declared.OfflinedLine.{OfflinedLine}

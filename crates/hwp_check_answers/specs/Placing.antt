@@ -1,6 +1,6 @@
 -- The lines of one processor: in place, and with an answer for each command.
 use Rattle.std.specs.Prelude.{◌≡◌, ℕ, ◌<◌, Bool, true, false, List, Some, length, slice_get, slice_set}
-use Rattle.hwp_check_evidence.specs.hwp_script_read.declared.Command.{Command}
+use Rattle.hwp_check_evidence.specs.hwp_script_words.declared.Command.{Command}
 use Rattle.hwp_check_evidence.specs.hwp_report_text.declared.CpuLine.{CpuLine}
 use Rattle.hwp_check_evidence.specs.hwp_report_text.declared.CpuLine.TheVariants as lines
 use Rattle.hwp_check_rules.specs.Answered.{HasAnswer, IsInPlace, is_well_before}

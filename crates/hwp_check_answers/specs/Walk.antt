@@ -1,6 +1,6 @@
 -- The lines of a processor in the order in which they are read: what the lines before one tell, and whether one is good.
 use Rattle.std.specs.Prelude.{ℕ, count_by, take}
-use Rattle.hwp_check_evidence.specs.hwp_script_read.declared.Command.{Command}
+use Rattle.hwp_check_evidence.specs.hwp_script_words.declared.Command.{Command}
 use Rattle.hwp_check_evidence.specs.hwp_report_text.declared.Answer.{Answer}
 use Rattle.hwp_check_evidence.specs.hwp_report_text.declared.CpuLine.{CpuLine}
 use Rattle.hwp_check_rules.specs.Answered.{is_answer}

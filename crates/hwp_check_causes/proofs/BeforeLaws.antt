@@ -7,8 +7,8 @@ use Rattle.std.proofs.lemmas.Option.{slice_get-get_or, slice_get_within}
 use Rattle.hwp_check_evidence.specs.hwp_geom.declared.Layout.{Layout}
 use Rattle.hwp_check_evidence.specs.hwp_kill.declared.Policy.{Policy}
 use Rattle.hwp_check_evidence.specs.hwp_kill.declared.Policy.TheVariants.{Default}
-use Rattle.hwp_check_evidence.specs.hwp_script_read.declared.Command.{Command}
-use Rattle.hwp_check_evidence.specs.hwp_script_read.declared.Command.TheVariants as commands
+use Rattle.hwp_check_evidence.specs.hwp_script_words.declared.Command.{Command}
+use Rattle.hwp_check_evidence.specs.hwp_script_words.declared.Command.TheVariants as commands
 use Rattle.hwp_check_evidence.specs.hwp_report_text.declared.CpuLine.{CpuLine}
 use Rattle.hwp_check_evidence.specs.hwp_law.Settings.{last_policy}
 use Rattle.hwp_check_rules.specs.Pasts.{AreDone}

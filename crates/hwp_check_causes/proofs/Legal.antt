@@ -14,7 +14,7 @@ use Rattle.hwp_check_evidence.specs.hwp_page.declared.PageState.{PageState}
 use Rattle.hwp_check_evidence.specs.hwp_page.declared.What.{What}
 use Rattle.hwp_check_evidence.specs.hwp_page.declared.What.TheVariants as entries
 use Rattle.hwp_check_rules.specs.hwp_check_event_line.Scripts.{IsDeclared}
-use Rattle.hwp_check_evidence.specs.hwp_script_read.declared.Script.{Script}
+use Rattle.hwp_check_evidence.specs.hwp_script_words.declared.Script.{Script}
 use Rattle.hwp_check_evidence.specs.hwp_report_text.declared.Report.{Report}
 use Rattle.hwp_check_evidence.specs.Glances.{AreLegalSteps}
 use Rattle.hwp_check_rules.specs.Rules.{ShapeFits, AreLegal}

@@ -6,7 +6,7 @@ use Rattle.hwp_check_evidence.specs.hwp_geom.declared.Mask.{Mask}
 use Rattle.hwp_check_evidence.specs.hwp_page.declared.At.{At}
 use Rattle.hwp_check_evidence.specs.hwp_report_text.declared.FrameLine.{FrameLine}
 use Rattle.hwp_check_evidence.specs.hwp_report_text.declared.Report.{Report}
-use Rattle.hwp_check_evidence.specs.hwp_script_read.declared.Script.{Script}
+use Rattle.hwp_check_evidence.specs.hwp_script_words.declared.Script.{Script}
 use Rattle.hwp_check_evidence.specs.hwp_law.Causes.{AreBadLines, HadBadLines}
 use Rattle.hwp_check_evidence.specs.hwp_law.Lines.{bad_lines_of}
 use Rattle.hwp_check_evidence.specs.hwp_law.States.{HadState}

@@ -5,9 +5,9 @@ use Rattle.hwp_check_evidence.specs.hwp_geom.declared.Layout.{Layout}
 use Rattle.hwp_check_evidence.specs.hwp_geom.declared.Thread.{Thread}
 use Rattle.hwp_check_evidence.specs.hwp_kill.declared.Policy.{Policy}
 use Rattle.hwp_check_evidence.specs.hwp_kill.declared.Policy.TheVariants.{Default}
-use Rattle.hwp_check_evidence.specs.hwp_script_read.declared.Command.{Command}
-use Rattle.hwp_check_evidence.specs.hwp_script_read.declared.Command.TheVariants as commands
-use Rattle.hwp_check_evidence.specs.hwp_script_read.declared.PrctlArgs.{PrctlArgs}
+use Rattle.hwp_check_evidence.specs.hwp_script_words.declared.Command.{Command}
+use Rattle.hwp_check_evidence.specs.hwp_script_words.declared.Command.TheVariants as commands
+use Rattle.hwp_check_evidence.specs.hwp_script_words.declared.PrctlArgs.{PrctlArgs}
 use Rattle.hwp_check_evidence.specs.hwp_report_text.declared.CpuLine.{CpuLine}
 use Rattle.hwp_check_evidence.specs.hwp_law.Settings.{last_policy, settings}
 use Rattle.hwp_check_evidence.specs.hwp_law.Lines.{answered}

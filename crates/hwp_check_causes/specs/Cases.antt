@@ -1,7 +1,7 @@
 -- A command with its script and the report, and that what is known of them is right.
 use Rattle.hwp_check_evidence.specs.hwp_geom.declared.Who.{Who}
-use Rattle.hwp_check_evidence.specs.hwp_script_read.declared.Command.{Command}
-use Rattle.hwp_check_evidence.specs.hwp_script_read.declared.Script.{Script}
+use Rattle.hwp_check_evidence.specs.hwp_script_words.declared.Command.{Command}
+use Rattle.hwp_check_evidence.specs.hwp_script_words.declared.Script.{Script}
 use Rattle.hwp_check_evidence.specs.hwp_report_text.declared.Report.{Report}
 use Rattle.hwp_check_causes.specs.Knowing.{IsKnown, IsOwn, IsTold}
 use Rattle.hwp_check_causes.specs.declared.facts.CommandFacts.{CommandFacts}

@@ -4,9 +4,9 @@ use Rattle.std.specs.List.{list_any}
 use Rattle.hwp_check_evidence.specs.hwp_geom.declared.Cpu.{Cpu}
 use Rattle.hwp_check_evidence.specs.hwp_geom.declared.Thread.{Thread}
 use Rattle.hwp_check_evidence.specs.hwp_geom.declared.Who.{Who}
-use Rattle.hwp_check_evidence.specs.hwp_script_read.declared.Command.{Command}
-use Rattle.hwp_check_evidence.specs.hwp_script_read.declared.Command.TheVariants as commands
-use Rattle.hwp_check_evidence.specs.hwp_script_read.declared.PrctlArgs.{PrctlArgs}
+use Rattle.hwp_check_evidence.specs.hwp_script_words.declared.Command.{Command}
+use Rattle.hwp_check_evidence.specs.hwp_script_words.declared.Command.TheVariants as commands
+use Rattle.hwp_check_evidence.specs.hwp_script_words.declared.PrctlArgs.{PrctlArgs}
 use Rattle.hwp_check_evidence.specs.hwp_law.Notes.{ends_machine}
 use Rattle.hwp_check_evidence.specs.hwp_law.Lines.{events_of}
 use Rattle.hwp_check_evidence.specs.hwp_law.Policies.{policy_before}
@@ -17,7 +17,7 @@ use Rattle.hwp_check_event_line.specs.Nears.{IsPast}
 use Rattle.hwp_check_event_line.specs.Results.{AreResults}
 use Rattle.hwp_check_causes.specs.declared.facts.ProcessorFacts.{ProcessorFacts}
 use Rattle.hwp_check_causes.specs.declared.facts.CommandFacts.{CommandFacts}
-use Rattle.hwp_check_evidence.specs.hwp_script_read.declared.Script.{Script}
+use Rattle.hwp_check_evidence.specs.hwp_script_words.declared.Script.{Script}
 use Rattle.hwp_check_evidence.specs.hwp_report_text.declared.Report.{Report}
 use Rattle.hwp_check_evidence.specs.hwp_law.Answers.{is_ample}
 use Rattle.hwp_check_evidence.specs.Glances.{AreGlances}

@@ -1,9 +1,9 @@
 -- Answers that the command alone, the layout, a frame's bad lines, or the number of the command's event lines explains.
 use Rattle.std.specs.Prelude.{◌≡◌, ℕ, ◌<◌, Bool, true, false}
 use Rattle.hwp_check_evidence.specs.hwp_geom.declared.Who.{Who}
-use Rattle.hwp_check_evidence.specs.hwp_script_read.declared.Command.{Command}
-use Rattle.hwp_check_evidence.specs.hwp_script_read.declared.Command.TheVariants as commands
-use Rattle.hwp_check_evidence.specs.hwp_script_read.declared.Script.{Script}
+use Rattle.hwp_check_evidence.specs.hwp_script_words.declared.Command.{Command}
+use Rattle.hwp_check_evidence.specs.hwp_script_words.declared.Command.TheVariants as commands
+use Rattle.hwp_check_evidence.specs.hwp_script_words.declared.Script.{Script}
 use Rattle.hwp_check_evidence.specs.hwp_report_text.declared.Answer.{Answer}
 use Rattle.hwp_check_evidence.specs.hwp_report_text.declared.Answer.TheVariants as answers
 use Rattle.hwp_check_evidence.specs.hwp_report_text.declared.Report.{Report}

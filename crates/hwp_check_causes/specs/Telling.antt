@@ -12,8 +12,8 @@ use Rattle.hwp_check_evidence.specs.hwp_page.declared.Met.{Met}
 use Rattle.hwp_check_evidence.specs.hwp_page.declared.Met.TheVariants.{Sigbus, Word}
 use Rattle.hwp_check_evidence.specs.hwp_page.declared.What.{What}
 use Rattle.hwp_check_evidence.specs.hwp_page.declared.What.TheVariants as entries
-use Rattle.hwp_check_evidence.specs.hwp_script_read.declared.Command.{Command}
-use Rattle.hwp_check_evidence.specs.hwp_script_read.declared.Command.TheVariants as commands
+use Rattle.hwp_check_evidence.specs.hwp_script_words.declared.Command.{Command}
+use Rattle.hwp_check_evidence.specs.hwp_script_words.declared.Command.TheVariants as commands
 use Rattle.hwp_check_evidence.specs.hwp_report_text.declared.Answer.{Answer}
 use Rattle.hwp_check_evidence.specs.hwp_report_text.declared.Answer.TheVariants as answers
 use Rattle.hwp_check_evidence.specs.hwp_law.Causes.{SendsSigbus}

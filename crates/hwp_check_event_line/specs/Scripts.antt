@@ -4,8 +4,8 @@ use Rattle.std.specs.Prelude.{◌≡◌, ◌≤◌, length}
 use Rattle.std.specs.List.{sum_by}
 use Rattle.hwp_law.specs.hwp_geom.Layout.{IsSound}
 use Rattle.hwp_law.specs.hwp_geom.Limits.{command_limit}
-use Rattle.hwp_law.specs.hwp_script_read.Valid.{AreLists}
-use Rattle.hwp_law.specs.hwp_script_read.declared.Script.{Script}
+use Rattle.hwp_law.specs.hwp_script_words.Valid.{AreLists}
+use Rattle.hwp_law.specs.hwp_script_words.declared.Script.{Script}
 
 -- its layout is sound, and it has a list of declared commands for each processor, not too many in all
 pub record IsDeclared (script : Script) : Type 0 where

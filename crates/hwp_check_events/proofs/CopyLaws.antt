@@ -13,8 +13,8 @@ use Rattle.hwp_law.specs.hwp_page.declared.Entry.{Entry}
 use Rattle.hwp_law.specs.hwp_page.declared.What.{What}
 use Rattle.hwp_law.specs.hwp_page.declared.What.TheVariants as entries
 use Rattle.hwp_law.specs.hwp_report_text.declared.Report.{Report}
-use Rattle.hwp_law.specs.hwp_script_read.declared.Command.{Command}
-use Rattle.hwp_law.specs.hwp_script_read.declared.Command.TheVariants as commands
+use Rattle.hwp_law.specs.hwp_script_words.declared.Command.{Command}
+use Rattle.hwp_law.specs.hwp_script_words.declared.Command.TheVariants as commands
 use Rattle.hwp_law.specs.Copies.{copy_checks, own_in, checks_by, is_load, is_store, lines_at}
 use Rattle.hwp_law.specs.Events.{access_lines, store_lines}
 use Rattle.hwp_law.specs.Lines.{is_same_command}

@@ -4,8 +4,8 @@ use Rattle.std.proofs.lemmas.Bool.{cases_eq, eq-eqb, ne_eqb}
 use Rattle.std.proofs.lemmas.List.{get_or-set_other, get_or-set_same, length-set, take_more}
 use Rattle.std.proofs.lemmas.List.Sums.{fold-append}
 use Rattle.hwp_banks.specs.hwp_geom.Limits.{line_limit}
-use Rattle.hwp_law.specs.hwp_script_read.declared.Command.{Command}
-use Rattle.hwp_law.specs.hwp_script_read.declared.Command.TheVariants as commands
+use Rattle.hwp_law.specs.hwp_script_words.declared.Command.{Command}
+use Rattle.hwp_law.specs.hwp_script_words.declared.Command.TheVariants as commands
 use Rattle.hwp_check_event_line.specs.Scrubs.{lowest, marked_at}
 use Rattle.hwp_check_events.specs.Walked.{HasPlace, IsTableOf, noted, with_mark}
 use Rattle.hwp_check_events.proofs.LowestMarks.{from-start}

@@ -8,11 +8,11 @@ use Rattle.hwp_banks.specs.hwp_geom.declared.Layout.{Layout}
 use Rattle.hwp_banks.specs.hwp_geom.declared.Who.{Who}
 use Rattle.hwp_banks.specs.declared.Origin.{Origin}
 use Rattle.hwp_banks.specs.declared.Origin.TheVariants as origins
-use Rattle.hwp_law.specs.hwp_script_read.Valid.{IsCommandOf}
+use Rattle.hwp_law.specs.hwp_script_words.Valid.{IsCommandOf}
 use Rattle.hwp_check_event_line.specs.Scripts.{IsDeclared}
-use Rattle.hwp_law.specs.hwp_script_read.declared.Command.{Command}
-use Rattle.hwp_law.specs.hwp_script_read.declared.Command.TheVariants as commands
-use Rattle.hwp_law.specs.hwp_script_read.declared.Script.{Script}
+use Rattle.hwp_law.specs.hwp_script_words.declared.Command.{Command}
+use Rattle.hwp_law.specs.hwp_script_words.declared.Command.TheVariants as commands
+use Rattle.hwp_law.specs.hwp_script_words.declared.Script.{Script}
 use Rattle.hwp_law.specs.Events.{marking}
 use Rattle.hwp_check_event_line.specs.Misfits.{IsFit}
 use Rattle.hwp_check_event_line.proofs.ScriptLaws.{command-of}

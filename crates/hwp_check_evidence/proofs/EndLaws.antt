@@ -17,7 +17,7 @@ use Rattle.hwp_law.specs.hwp_page.declared.Met.TheVariants.{Sigbus}
 use Rattle.hwp_law.specs.hwp_page.declared.What.{What}
 use Rattle.hwp_law.specs.hwp_page.declared.What.TheVariants as entries
 use Rattle.hwp_law.specs.hwp_report_text.declared.Report.{Report}
-use Rattle.hwp_law.specs.hwp_script_read.declared.Script.{Script}
+use Rattle.hwp_law.specs.hwp_script_words.declared.Script.{Script}
 use Rattle.hwp_law.specs.Endings.{HasEnding}
 use Rattle.hwp_check_evidence.specs.Ends.{ArePageEnds, HadEnded, any_ended, ended_by, ended_in, never, none_ended, own_ended, own_ends, own_page_ends, page_ends, process_numbers, signalled}
 use Rattle.hwp_check_evidence.proofs.ListItems.{item_at}

@@ -13,7 +13,7 @@ use Rattle.hwp_law.specs.hwp_page.declared.Met.TheVariants.{Sigbus}
 use Rattle.hwp_law.specs.hwp_page.declared.What.{What}
 use Rattle.hwp_law.specs.hwp_page.declared.What.TheVariants as entries
 use Rattle.hwp_law.specs.hwp_report_text.declared.Report.{Report}
-use Rattle.hwp_law.specs.hwp_script_read.declared.Script.{Script}
+use Rattle.hwp_law.specs.hwp_script_words.declared.Script.{Script}
 use Rattle.hwp_law.specs.Endings.{HasEnded}
 
 -- what stands for no command

@@ -1,12 +1,12 @@
 -- The collector of a processor, and what its commands make of it.
 use Rattle.std.specs.Prelude.{◌≡◌, ℕ, Bool, true, false, ◌&&◌, List, [], ◌∷◌, map, length, Option, Some, None, MatchBool, MatchOption, if◌then◌else◌, ◌==◌}
 use Rattle.hwp_check_rules.specs.hwp_geom.declared.Frame.{Frame}
-use Rattle.hwp_check_rules.specs.hwp_script_read.declared.Command.{Command}
-use Rattle.hwp_check_rules.specs.hwp_script_read.declared.Command.TheVariants as commands
+use Rattle.hwp_check_rules.specs.hwp_script_words.declared.Command.{Command}
+use Rattle.hwp_check_rules.specs.hwp_script_words.declared.Command.TheVariants as commands
 use Rattle.hwp_check_rules.specs.hwp_report_text.declared.Answer.{Answer}
 use Rattle.hwp_check_rules.specs.hwp_report_text.declared.Answer.TheVariants as answers
 use Rattle.hwp_check_rules.specs.hwp_law.Watched.{Watched, offlining, told}
-use Rattle.hwp_check_rules.specs.hwp_script_read.hwp_script_lines.Grammar.{IsCollectorWithin}
+use Rattle.hwp_check_rules.specs.hwp_script_words.Commands.{IsCollectorWithin}
 use Rattle.hwp_cec.specs.Ages.{Note, Round, live}
 use Rattle.hwp_cec.specs.Counters.{Counters, StandsFor}
 use Rattle.hwp_cec.specs.declared.collector.Noted.{Noted}

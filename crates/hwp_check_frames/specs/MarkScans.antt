@@ -4,9 +4,9 @@ use Rattle.hwp_check_rules.specs.hwp_geom.declared.Frame.{Frame}
 use Rattle.hwp_check_rules.specs.hwp_geom.declared.Who.{Who}
 use Rattle.hwp_check_rules.specs.hwp_banks.Addresses.{frame_at}
 use Rattle.hwp_check_rules.specs.hwp_page.declared.Outcome.{Outcome}
-use Rattle.hwp_check_rules.specs.hwp_script_read.declared.Command.{Command}
-use Rattle.hwp_check_rules.specs.hwp_script_read.declared.Command.TheVariants as commands
-use Rattle.hwp_check_rules.specs.hwp_script_read.declared.Script.{Script}
+use Rattle.hwp_check_rules.specs.hwp_script_words.declared.Command.{Command}
+use Rattle.hwp_check_rules.specs.hwp_script_words.declared.Command.TheVariants as commands
+use Rattle.hwp_check_rules.specs.hwp_script_words.declared.Script.{Script}
 use Rattle.hwp_check_rules.specs.hwp_report_text.declared.Acted.{Acted}
 use Rattle.hwp_check_rules.specs.hwp_report_text.declared.Answer.TheVariants as answers
 use Rattle.hwp_check_rules.specs.hwp_report_text.declared.CpuLine.{CpuLine}

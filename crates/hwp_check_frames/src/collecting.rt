@@ -1,7 +1,7 @@
 ghost use Rattle.std.specs.Prelude.{◌≡◌, ◌<◌, ◌++◌, All, IfOk, OnOk, IfSome, length};
 ghost use Rattle.hwp_cec.specs.Limits.{threshold_limit, window_limit};
 ghost use Rattle.hwp_check_rules.specs.hwp_geom.declared.Frame.{Frame as FrameValue};
-ghost use Rattle.hwp_check_rules.specs.hwp_script_read.hwp_script_lines.Grammar.{IsCollectorWithin};
+ghost use Rattle.hwp_check_rules.specs.hwp_script_words.Commands.{IsCollectorWithin};
 ghost use Rattle.hwp_check_rules.specs.hwp_check_event_line.Firsts.{shown_lines};
 ghost use Rattle.hwp_check_rules.specs.hwp_law.Notes.{notes};
 ghost use Rattle.hwp_check_frames.specs.Collecting.{AreDue, AreTaken, IsBegun, IsGoneOn, IsLimited, IsNoted, IsRounded, begun_by, ends_round, if_goes, is_offline};

@@ -5,7 +5,7 @@ use Rattle.hwp_check_rules.specs.hwp_geom.declared.Who.{Who}
 use Rattle.hwp_check_rules.specs.hwp_page.declared.Entry.{Entry}
 use Rattle.hwp_check_rules.specs.hwp_page.declared.What.{What}
 use Rattle.hwp_check_rules.specs.hwp_page.declared.What.TheVariants as entries
-use Rattle.hwp_check_rules.specs.hwp_script_read.declared.Script.{Script}
+use Rattle.hwp_check_rules.specs.hwp_script_words.declared.Script.{Script}
 use Rattle.hwp_check_rules.specs.hwp_report_text.declared.Report.{Report}
 use Rattle.hwp_check_rules.specs.hwp_law.Pairings.{has_page, is_soft}
 use Rattle.hwp_check_rules.specs.Firsts.{sooner_if}

@@ -3,7 +3,7 @@ use Rattle.std.specs.Prelude.{◌≡◌, ℕ, ◌+◌, ◌<◌, nat_lt, Bool, tr
 use Rattle.std.specs.HashMap.{HashMap}
 use Rattle.hwp_check_rules.specs.hwp_geom.declared.Frame.{Frame}
 use Rattle.hwp_check_rules.specs.hwp_geom.declared.Who.{Who}
-use Rattle.hwp_check_rules.specs.hwp_script_read.declared.Script.{Script}
+use Rattle.hwp_check_rules.specs.hwp_script_words.declared.Script.{Script}
 use Rattle.hwp_check_rules.specs.hwp_report_text.declared.CpuLine.{CpuLine}
 use Rattle.hwp_check_rules.specs.hwp_report_text.declared.CpuLine.TheVariants as lines
 use Rattle.hwp_check_rules.specs.hwp_report_text.declared.Report.{Report}

@@ -10,7 +10,7 @@ use Rattle.hwp_check_rules.specs.hwp_report_text.declared.Answer.TheVariants as 
 use Rattle.hwp_check_rules.specs.hwp_report_text.declared.CpuLine.{CpuLine}
 use Rattle.hwp_check_rules.specs.hwp_report_text.declared.CpuLine.TheVariants as lines
 use Rattle.hwp_check_rules.specs.hwp_report_text.declared.Report.{Report}
-use Rattle.hwp_check_rules.specs.hwp_script_read.declared.Command.{Command}
+use Rattle.hwp_check_rules.specs.hwp_script_words.declared.Command.{Command}
 use Rattle.hwp_check_rules.specs.hwp_law.Lines.{answer_among}
 use Rattle.hwp_check_processes.specs.Loads.{AreKept, IsFirstWrong, IsWordWrong, IsWrongRow, expected}
 

@@ -10,8 +10,8 @@ use Rattle.hwp_check_rules.specs.hwp_report_text.declared.Answer.TheVariants as 
 use Rattle.hwp_check_rules.specs.hwp_report_text.declared.CpuLine.{CpuLine}
 use Rattle.hwp_check_rules.specs.hwp_report_text.declared.CpuLine.TheVariants as lines
 use Rattle.hwp_check_rules.specs.hwp_report_text.declared.Report.{Report}
-use Rattle.hwp_check_rules.specs.hwp_script_read.declared.Command.{Command}
-use Rattle.hwp_check_rules.specs.hwp_script_read.declared.Script.{Script}
+use Rattle.hwp_check_rules.specs.hwp_script_words.declared.Command.{Command}
+use Rattle.hwp_check_rules.specs.hwp_script_words.declared.Script.{Script}
 use Rattle.hwp_check_rules.specs.hwp_law.Lines.{answer_among, answered}
 use Rattle.hwp_check_rules.specs.hwp_law.Policies.{answered_before}
 use Rattle.hwp_check_rules.specs.hwp_law.Private.{ArePrivate, freeze_from, loaded, private_word}

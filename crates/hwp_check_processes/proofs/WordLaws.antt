@@ -12,8 +12,8 @@ use Rattle.hwp_check_rules.specs.hwp_law.Cows.{cow_after, own_page}
 use Rattle.hwp_check_rules.specs.hwp_report_text.declared.Answer.{Answer}
 use Rattle.hwp_check_rules.specs.hwp_report_text.declared.Answer.TheVariants as answers
 use Rattle.hwp_check_rules.specs.hwp_report_text.declared.Report.{Report}
-use Rattle.hwp_check_rules.specs.hwp_script_read.declared.Command.{Command}
-use Rattle.hwp_check_rules.specs.hwp_script_read.declared.Command.TheVariants as commands
+use Rattle.hwp_check_rules.specs.hwp_script_words.declared.Command.{Command}
+use Rattle.hwp_check_rules.specs.hwp_script_words.declared.Command.TheVariants as commands
 use Rattle.hwp_check_processes.specs.Loads.{expected, word_expected}
 use Rattle.hwp_check_rules.specs.hwp_check_event_line.Reading.{entries_through}
 use Rattle.hwp_check_processes.specs.Words.{last_before, last_stored, pair_in, word_if}

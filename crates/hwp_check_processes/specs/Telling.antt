@@ -7,7 +7,7 @@ use Rattle.hwp_check_rules.specs.hwp_geom.declared.Mode.{Mode}
 use Rattle.hwp_check_rules.specs.hwp_geom.declared.Mode.TheVariants as modes
 use Rattle.hwp_check_rules.specs.hwp_banks.Addresses.{line_address}
 use Rattle.hwp_check_rules.specs.hwp_banks.Events.{line_misc, own_status}
-use Rattle.hwp_check_rules.specs.hwp_script_read.declared.Command.{Command}
+use Rattle.hwp_check_rules.specs.hwp_script_words.declared.Command.{Command}
 use Rattle.hwp_check_rules.specs.hwp_report_text.declared.Answer.{Answer}
 use Rattle.hwp_check_rules.specs.hwp_report_text.declared.Answer.TheVariants as answers
 use Rattle.hwp_check_rules.specs.hwp_report_text.declared.CpuLine.{CpuLine}

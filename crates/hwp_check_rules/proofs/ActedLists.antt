@@ -12,8 +12,8 @@ use Rattle.hwp_law.specs.Cows.{acting, copied_from}
 use Rattle.hwp_law.specs.hwp_report_text.declared.Answer.{Answer}
 use Rattle.hwp_law.specs.hwp_report_text.declared.CpuLine.{CpuLine}
 use Rattle.hwp_law.specs.hwp_report_text.declared.Report.{Report}
-use Rattle.hwp_law.specs.hwp_script_read.declared.Command.{Command}
-use Rattle.hwp_law.specs.hwp_script_read.declared.Script.{Script}
+use Rattle.hwp_law.specs.hwp_script_words.declared.Command.{Command}
+use Rattle.hwp_law.specs.hwp_script_words.declared.Script.{Script}
 use Rattle.hwp_law.specs.Acting.{acting_from, acting_lists, acting_script, copied_at}
 use Rattle.hwp_law.specs.Lines.{answered, answers_to}
 use Rattle.hwp_law.specs.Policies.{answered_before}

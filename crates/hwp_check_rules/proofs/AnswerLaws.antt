@@ -5,7 +5,7 @@ use Rattle.hwp_law.specs.hwp_report_text.declared.Answer.{Answer}
 use Rattle.hwp_law.specs.hwp_report_text.declared.Answer.TheVariants as answers
 use Rattle.hwp_law.specs.hwp_report_text.declared.CpuLine.{CpuLine}
 use Rattle.hwp_law.specs.hwp_report_text.declared.CpuLine.TheVariants as lines
-use Rattle.hwp_law.specs.hwp_script_read.declared.Command.{Command}
+use Rattle.hwp_law.specs.hwp_script_words.declared.Command.{Command}
 use Rattle.hwp_law.specs.Lines.{answer_among, answers_from, answers_to}
 use Rattle.hwp_law.proofs.AnswersInOrder.{other-answer, own-answer, same-from}
 use Rattle.hwp_check_rules.specs.ActedOn.{noted}

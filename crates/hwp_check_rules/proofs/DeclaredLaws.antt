@@ -14,10 +14,10 @@ use Rattle.hwp_law.specs.Cows.{acting, cow_of, twin_or}
 use Rattle.hwp_law.specs.hwp_report_text.declared.Answer.{Answer}
 use Rattle.hwp_law.specs.hwp_report_text.declared.CpuLine.{CpuLine}
 use Rattle.hwp_law.specs.hwp_report_text.declared.Report.{Report}
-use Rattle.hwp_law.specs.hwp_script_read.Valid.{AreLists, AreTwinsFit, ArePaired, IsAccess, IsAnon, IsCommandOf, IsValid}
-use Rattle.hwp_law.specs.hwp_script_read.declared.Command.{Command}
-use Rattle.hwp_law.specs.hwp_script_read.declared.Command.TheVariants as commands
-use Rattle.hwp_law.specs.hwp_script_read.declared.Script.{Script}
+use Rattle.hwp_law.specs.hwp_script_words.Valid.{AreLists, AreTwinsFit, ArePaired, IsAccess, IsAnon, IsCommandOf, IsValid}
+use Rattle.hwp_law.specs.hwp_script_words.declared.Command.{Command}
+use Rattle.hwp_law.specs.hwp_script_words.declared.Command.TheVariants as commands
+use Rattle.hwp_law.specs.hwp_script_words.declared.Script.{Script}
 use Rattle.hwp_law.specs.Acting.{acting_from, acting_lists, acting_script}
 use Rattle.hwp_law.specs.Lines.{answers_to}
 use Rattle.hwp_law.proofs.ActedLaws.{acting-length}

@@ -14,10 +14,10 @@ use Rattle.hwp_law.specs.hwp_geom.declared.Thread.{Thread}
 use Rattle.hwp_law.specs.hwp_kill.Prctl.{policy_set}
 use Rattle.hwp_law.specs.hwp_kill.declared.Policy.{Policy}
 use Rattle.hwp_law.specs.hwp_kill.declared.Policy.TheVariants.{Default}
-use Rattle.hwp_law.specs.hwp_script_read.Forks.{is_thread_of}
-use Rattle.hwp_law.specs.hwp_script_read.declared.Command.{Command}
-use Rattle.hwp_law.specs.hwp_script_read.declared.Command.TheVariants as commands
-use Rattle.hwp_law.specs.hwp_script_read.declared.Script.{Script}
+use Rattle.hwp_law.specs.hwp_script_words.Forks.{is_thread_of}
+use Rattle.hwp_law.specs.hwp_script_words.declared.Command.{Command}
+use Rattle.hwp_law.specs.hwp_script_words.declared.Command.TheVariants as commands
+use Rattle.hwp_law.specs.hwp_script_words.declared.Script.{Script}
 use Rattle.hwp_law.specs.hwp_report_text.declared.Answer.{Answer}
 use Rattle.hwp_law.specs.hwp_report_text.declared.Answer.TheVariants as answers
 use Rattle.hwp_law.specs.hwp_report_text.declared.CpuLine.{CpuLine}

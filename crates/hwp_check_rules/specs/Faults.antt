@@ -13,7 +13,7 @@ use Rattle.hwp_law.specs.hwp_page.Step.{Allowed, opening_of}
 use Rattle.hwp_law.specs.hwp_page.declared.At.{At}
 use Rattle.hwp_law.specs.hwp_page.declared.Entry.{Entry}
 use Rattle.hwp_law.specs.hwp_page.declared.PageState.{PageState}
-use Rattle.hwp_law.specs.hwp_script_read.declared.Script.{Script}
+use Rattle.hwp_law.specs.hwp_script_words.declared.Script.{Script}
 use Rattle.hwp_law.specs.hwp_report_text.declared.FrameLine.{FrameLine}
 use Rattle.hwp_law.specs.hwp_report_text.declared.Whereabouts.{Whereabouts}
 use Rattle.hwp_law.specs.hwp_report_text.declared.Whereabouts.TheVariants as places

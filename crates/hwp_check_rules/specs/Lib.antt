@@ -16,5 +16,5 @@ pub use Rattle.hwp_law.specs.hwp_kill as hwp_kill
 pub use Rattle.hwp_law.specs as hwp_law
 pub use Rattle.hwp_law.specs.hwp_page as hwp_page
 pub use Rattle.hwp_law.specs.hwp_report_text as hwp_report_text
-pub use Rattle.hwp_law.specs.hwp_script_read as hwp_script_read
+pub use Rattle.hwp_law.specs.hwp_script_words as hwp_script_words
 pub use Rattle.hwp_law.specs.hwp_guest as hwp_guest

@@ -1,6 +1,6 @@
 -- The verdict on a report: legal, or the lowest rule that is broken with the first line that breaks it.
 use Rattle.std.specs.Prelude.{ℕ, ◌<◌, ◌≤◌, Option, ◌⊎◌}
-use Rattle.hwp_law.specs.hwp_script_read.declared.Script.{Script}
+use Rattle.hwp_law.specs.hwp_script_words.declared.Script.{Script}
 use Rattle.hwp_law.specs.hwp_report_text.declared.Report.{Report}
 use Rattle.hwp_law.specs.Law.{IsLawful}
 use Rattle.hwp_check_rules.specs.declared.verdicts.Rule.{Rule}

@@ -1,7 +1,7 @@
 ghost use Rattle.std.specs.Prelude.{◌≡◌};
 ghost use Rattle.hwp_law.specs.Cows.{cow_after, cow_of, froze_slot, own_page};
-ghost use Rattle.hwp_law.specs.hwp_script_read.Forks.{freezes, froze};
-ghost use Rattle.hwp_law.specs.hwp_script_read.declared.Command.TheVariants as commands;
+ghost use Rattle.hwp_law.specs.hwp_script_words.Forks.{freezes, froze};
+ghost use Rattle.hwp_law.specs.hwp_script_words.declared.Command.TheVariants as commands;
 ghost use Rattle.hwp_check_rules.specs.ActedOn.{cow_in, stored_after};
 
 use hwp_law::{Answer, Command, Layout, Page, Proc, Thread, VSlot};

@@ -26,9 +26,8 @@ pub use hwp_law::{
     Access, Acted, Admit, Answer, At, Code, Command, Cpu, CpuLine, Entry, EventLine, FileNo, Frame,
     FrameLine, GuestAccess, GuestLine, How, Layout, Line, List, MarkLine, Mask, McgBits, Met, Mode,
     OfflineResult, OfflinedLine, OutOfMemory, Outcome, Page, PageKind, PageState, Policy,
-    PrctlArgs, Proc, ReadScript, Reply, Report, Script, Seen, Signal, Situation, Stop, StopCause,
-    Text, Thread, VSlot, Version, What, Whereabouts, Who, guest_access, is_text, prctl, read,
-    words_in,
+    PrctlArgs, Proc, Reply, Report, Script, Seen, Signal, Situation, Stop, StopCause, Text, Thread,
+    VSlot, Version, What, Whereabouts, Who, guest_access, is_text, prctl, words_in,
 };
 pub use making::{command_of, is_made_by, leads_to};
 pub use pairs::{answers_to, pairs_of};

@@ -1,7 +1,7 @@
 ghost use Rattle.std.specs.Prelude.{◌≡◌, ◌<◌, ◌≤◌, length};
 ghost use Rattle.hwp_law.specs.hwp_kill.Prctl.{policy_set};
 ghost use Rattle.hwp_law.specs.Settings.{arguments};
-ghost use Rattle.hwp_law.specs.hwp_script_read.Forks.{is_thread_of};
+ghost use Rattle.hwp_law.specs.hwp_script_words.Forks.{is_thread_of};
 ghost use Rattle.hwp_check_rules.specs.Pasts.{next_of, policy_by, set_if, set_in, step_of};
 
 use hwp_law::{Command, Layout, Policy, PrctlArgs, Proc, Thread};

@@ -7,7 +7,7 @@ use Rattle.std.proofs.lemmas.List.Elements.{All-contains, All-push, Contains-app
 use Rattle.hwp_check_state.specs.declared.sights.Sight.{Sight}
 use Rattle.hwp_check_rules.specs.Firsts.{IsLeast, sooner_if}
 use Rattle.hwp_check_rules.specs.hwp_kill.declared.Policy.TheVariants.{Late}
-use Rattle.hwp_check_rules.specs.hwp_script_read.declared.Script.{Script}
+use Rattle.hwp_check_rules.specs.hwp_script_words.declared.Script.{Script}
 use Rattle.hwp_check_rules.specs.hwp_report_text.declared.Report.{Report}
 use Rattle.hwp_check_state.specs.Sights.{IsFirstOf, IsLineOf, IsRight, IsWrong}
 

@@ -21,9 +21,9 @@ use Rattle.hwp_check_rules.specs.hwp_page.declared.What.{What}
 use Rattle.hwp_check_rules.specs.hwp_page.declared.What.TheVariants as entries
 use Rattle.hwp_check_rules.specs.hwp_page.Actions.{acted}
 use Rattle.hwp_check_rules.proofs.of_hwp_page.Histories.{Leads-state}
-use Rattle.hwp_check_rules.specs.hwp_script_read.declared.Command.{Command}
-use Rattle.hwp_check_rules.specs.hwp_script_read.declared.Command.TheVariants as commands
-use Rattle.hwp_check_rules.specs.hwp_script_read.declared.Script.{Script}
+use Rattle.hwp_check_rules.specs.hwp_script_words.declared.Command.{Command}
+use Rattle.hwp_check_rules.specs.hwp_script_words.declared.Command.TheVariants as commands
+use Rattle.hwp_check_rules.specs.hwp_script_words.declared.Script.{Script}
 use Rattle.hwp_check_rules.specs.hwp_report_text.declared.FrameLine.{FrameLine}
 use Rattle.hwp_check_rules.specs.hwp_report_text.declared.Whereabouts.{Whereabouts}
 use Rattle.hwp_check_rules.specs.hwp_report_text.declared.Whereabouts.TheVariants as places

@@ -9,9 +9,9 @@ use Rattle.hwp_check_rules.specs.hwp_geom.declared.Page.{Page}
 use Rattle.hwp_check_rules.specs.hwp_page.History.{IsReplay}
 use Rattle.hwp_check_rules.specs.hwp_page.declared.Entry.{Entry}
 use Rattle.hwp_check_rules.specs.hwp_page.declared.PageState.{PageState}
-use Rattle.hwp_check_rules.specs.hwp_script_read.declared.Command.{Command}
-use Rattle.hwp_check_rules.specs.hwp_script_read.declared.Command.TheVariants as commands
-use Rattle.hwp_check_rules.specs.hwp_script_read.declared.Script.{Script}
+use Rattle.hwp_check_rules.specs.hwp_script_words.declared.Command.{Command}
+use Rattle.hwp_check_rules.specs.hwp_script_words.declared.Command.TheVariants as commands
+use Rattle.hwp_check_rules.specs.hwp_script_words.declared.Script.{Script}
 use Rattle.hwp_check_rules.specs.hwp_report_text.declared.FrameLine.{FrameLine}
 use Rattle.hwp_check_rules.specs.hwp_report_text.declared.Whereabouts.TheVariants as places
 use Rattle.hwp_check_rules.specs.hwp_report_text.declared.Report.{Report}

@@ -14,7 +14,7 @@ use Rattle.hwp_check_rules.specs.hwp_page.declared.At.{At}
 use Rattle.hwp_check_rules.specs.hwp_page.declared.Entry.{Entry}
 use Rattle.hwp_check_rules.specs.hwp_page.declared.PageState.{PageState}
 use Rattle.hwp_check_rules.proofs.of_hwp_page.Histories.{Leads-state}
-use Rattle.hwp_check_rules.specs.hwp_script_read.declared.Script.{Script}
+use Rattle.hwp_check_rules.specs.hwp_script_words.declared.Script.{Script}
 use Rattle.hwp_check_rules.specs.hwp_report_text.declared.Report.{Report}
 use Rattle.hwp_check_rules.specs.hwp_law.Entries.{IsMadeBy}
 use Rattle.hwp_check_rules.specs.hwp_law.Places.{entry_at}

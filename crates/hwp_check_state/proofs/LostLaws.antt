@@ -12,7 +12,7 @@ use Rattle.hwp_check_rules.specs.hwp_geom.declared.PageKind.TheVariants.{Anon, F
 use Rattle.hwp_check_rules.specs.hwp_geom.declared.Who.{Who}
 use Rattle.hwp_check_rules.specs.hwp_page.declared.Entry.{Entry}
 use Rattle.hwp_check_rules.specs.hwp_page.Losses.{is_loss}
-use Rattle.hwp_check_rules.specs.hwp_script_read.declared.Script.{Script}
+use Rattle.hwp_check_rules.specs.hwp_script_words.declared.Script.{Script}
 use Rattle.hwp_check_rules.specs.hwp_report_text.declared.Report.{Report}
 use Rattle.hwp_check_rules.specs.hwp_law.Losses.{found_in, is_earlier, is_lost, is_lost_before, losses_such}
 use Rattle.hwp_check_state.specs.declared.lost.Loss.{Loss}

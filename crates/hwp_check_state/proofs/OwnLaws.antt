@@ -8,7 +8,7 @@ use Rattle.hwp_check_rules.specs.hwp_geom.declared.Who.{Who}
 use Rattle.hwp_check_rules.specs.hwp_kill.declared.Policy.{Policy}
 use Rattle.hwp_check_rules.specs.hwp_kill.declared.Policy.TheVariants.{Default}
 use Rattle.hwp_check_rules.specs.hwp_kill.declared.Seen.{Seen}
-use Rattle.hwp_check_rules.specs.hwp_script_read.declared.Script.{Script}
+use Rattle.hwp_check_rules.specs.hwp_script_words.declared.Script.{Script}
 use Rattle.hwp_check_rules.specs.hwp_report_text.declared.Report.{Report}
 use Rattle.hwp_check_rules.specs.hwp_law.Settings.{last_policy, settings}
 use Rattle.hwp_check_rules.specs.hwp_law.Policies.{answered_before, answered_on}

@@ -9,7 +9,7 @@ use Rattle.hwp_check_rules.specs.hwp_geom.declared.Who.{Who}
 use Rattle.hwp_check_rules.specs.hwp_kill.declared.Seen.{Seen}
 use Rattle.hwp_check_rules.specs.hwp_page.declared.At.{At}
 use Rattle.hwp_check_rules.specs.hwp_page.declared.Entry.{Entry}
-use Rattle.hwp_check_rules.specs.hwp_script_read.declared.Script.{Script}
+use Rattle.hwp_check_rules.specs.hwp_script_words.declared.Script.{Script}
 use Rattle.hwp_check_rules.specs.hwp_report_text.declared.Report.{Report}
 use Rattle.hwp_check_rules.specs.hwp_law.Places.{entry_at}
 use Rattle.hwp_check_rules.specs.hwp_law.SeenPolicies.{IsOwnCount, seen_in}

@@ -4,13 +4,12 @@ use Rattle.std.proofs.lemmas.Bool.{cases_eq, cases_lt}
 use Rattle.std.proofs.lemmas.List.{take_more, get_or-set_same, get_or-set_other, get_or_past, get_or-replicate, length-replicate, length-set, take_all}
 use Rattle.std.proofs.lemmas.List.Sums.{sum_by_more, sum_by_more_le}
 use Rattle.std.proofs.lemmas.Option.{get_or_from_slice_get, same_Some, slice_get_within}
-use Rattle.hwp_check_rules.specs.hwp_geom.Layout.{is_locked}
+use Rattle.hwp_check_rules.specs.hwp_geom.Layout.{is_locked, IsSound}
 use Rattle.hwp_check_rules.specs.hwp_geom.declared.Cpu.{Cpu}
 use Rattle.hwp_check_rules.specs.hwp_geom.declared.Layout.{Layout}
 use Rattle.hwp_check_rules.specs.hwp_geom.declared.Page.{Page}
 use Rattle.hwp_check_rules.specs.hwp_geom.declared.PageKind.{PageKind}
 use Rattle.hwp_check_rules.specs.hwp_geom.declared.TransDecl.{TransDecl}
-use Rattle.hwp_check_rules.specs.hwp_geom.Layout.{IsSound}
 use Rattle.hwp_check_rules.specs.hwp_geom.Limits.{translation_limit}
 use Rattle.hwp_check_rules.specs.hwp_page.Step.{Allowed, MapsWithin, after, opening_of}
 use Rattle.hwp_check_rules.specs.hwp_page.declared.Entry.{Entry}
@@ -18,7 +17,7 @@ use Rattle.hwp_check_rules.specs.hwp_page.declared.PageState.{PageState}
 use Rattle.hwp_check_rules.specs.hwp_page.declared.What.{What}
 use Rattle.hwp_check_rules.specs.hwp_page.declared.What.TheVariants as entries
 use Rattle.hwp_check_rules.proofs.of_hwp_page.Histories.{IsReplay-more}
-use Rattle.hwp_check_rules.specs.hwp_script_read.declared.Script.{Script}
+use Rattle.hwp_check_rules.specs.hwp_script_words.declared.Script.{Script}
 use Rattle.hwp_check_state.specs.Histories.{FirstFit, IsBehindIn, IsRightEntry, IsWrongAt, IsWrongEntry, PageFits}
 use Rattle.hwp_check_rules.specs.Standing.{entry_height}
 use Rattle.hwp_check_rules.specs.hwp_geom.declared.VSlot.{VSlot}

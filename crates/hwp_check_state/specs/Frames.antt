@@ -7,9 +7,9 @@ use Rattle.hwp_check_rules.specs.hwp_page.declared.Situation.{Situation}
 use Rattle.hwp_check_rules.specs.hwp_page.declared.Situation.TheVariants as situations
 use Rattle.hwp_check_rules.specs.hwp_page.declared.What.{What}
 use Rattle.hwp_check_rules.specs.hwp_page.declared.What.TheVariants as entries
-use Rattle.hwp_check_rules.specs.hwp_script_read.declared.Command.{Command}
-use Rattle.hwp_check_rules.specs.hwp_script_read.declared.Command.TheVariants as commands
-use Rattle.hwp_check_rules.specs.hwp_script_read.declared.Script.{Script}
+use Rattle.hwp_check_rules.specs.hwp_script_words.declared.Command.{Command}
+use Rattle.hwp_check_rules.specs.hwp_script_words.declared.Command.TheVariants as commands
+use Rattle.hwp_check_rules.specs.hwp_script_words.declared.Script.{Script}
 use Rattle.hwp_check_rules.specs.hwp_report_text.declared.Answer.TheVariants as answers
 use Rattle.hwp_check_rules.specs.hwp_report_text.declared.FrameLine.{FrameLine}
 use Rattle.hwp_check_rules.specs.hwp_report_text.declared.Whereabouts.{Whereabouts}

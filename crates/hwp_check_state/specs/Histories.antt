@@ -5,7 +5,7 @@ use Rattle.hwp_check_rules.specs.hwp_page.History.{IsReplay}
 use Rattle.hwp_check_rules.specs.hwp_page.Step.{Allowed}
 use Rattle.hwp_check_rules.specs.hwp_page.declared.Entry.{Entry}
 use Rattle.hwp_check_rules.specs.hwp_page.declared.PageState.{PageState}
-use Rattle.hwp_check_rules.specs.hwp_script_read.declared.Script.{Script}
+use Rattle.hwp_check_rules.specs.hwp_script_words.declared.Script.{Script}
 use Rattle.hwp_check_rules.specs.hwp_law.Entries.{IsMadeBy}
 use Rattle.hwp_check_rules.specs.Standing.{entry_height}
 use Rattle.hwp_check_rules.specs.hwp_geom.declared.VSlot.{VSlot}

@@ -7,7 +7,7 @@ use Rattle.hwp_check_rules.specs.hwp_geom.declared.PageKind.{PageKind}
 use Rattle.hwp_check_rules.specs.hwp_geom.declared.PageKind.TheVariants.{Anon, File}
 use Rattle.hwp_check_rules.specs.hwp_page.declared.Entry.{Entry}
 use Rattle.hwp_check_rules.specs.hwp_page.Losses.{is_loss}
-use Rattle.hwp_check_rules.specs.hwp_script_read.declared.Script.{Script}
+use Rattle.hwp_check_rules.specs.hwp_script_words.declared.Script.{Script}
 use Rattle.hwp_check_rules.specs.hwp_report_text.declared.Report.{Report}
 use Rattle.hwp_check_state.specs.declared.lost.Loss.{Loss}
 

@@ -6,7 +6,7 @@ use Rattle.hwp_check_rules.specs.hwp_report_text.declared.CpuLine.TheVariants as
 use Rattle.hwp_check_rules.specs.hwp_report_text.declared.EventLine.{EventLine}
 use Rattle.hwp_check_rules.specs.hwp_report_text.Acts.{is_stopping}
 use Rattle.hwp_check_rules.specs.hwp_geom.declared.Frame.{Frame}
-use Rattle.hwp_check_rules.specs.hwp_script_read.declared.Script.{Script}
+use Rattle.hwp_check_rules.specs.hwp_script_words.declared.Script.{Script}
 use Rattle.hwp_check_rules.specs.hwp_report_text.declared.Report.{Report}
 use Rattle.hwp_check_rules.specs.hwp_law.Halts.{IsStopOf, is_panic_of}
 

@@ -3,9 +3,9 @@ use Rattle.std.specs.Prelude.{ℕ, ◌+◌, ◌-◌, ◌^◌, ◌&&◌, min, not
 use Rattle.hwp_check_rules.specs.hwp_geom.declared.Cpu.{Cpu}
 use Rattle.hwp_check_rules.specs.hwp_geom.declared.FileNo.{FileNo}
 use Rattle.hwp_check_rules.specs.hwp_geom.declared.Who.{Who}
-use Rattle.hwp_check_rules.specs.hwp_script_read.declared.Command.{Command}
-use Rattle.hwp_check_rules.specs.hwp_script_read.declared.Command.TheVariants as commands
-use Rattle.hwp_check_rules.specs.hwp_script_read.declared.Script.{Script}
+use Rattle.hwp_check_rules.specs.hwp_script_words.declared.Command.{Command}
+use Rattle.hwp_check_rules.specs.hwp_script_words.declared.Command.TheVariants as commands
+use Rattle.hwp_check_rules.specs.hwp_script_words.declared.Script.{Script}
 use Rattle.hwp_check_rules.specs.hwp_report_text.declared.Answer.{Answer}
 use Rattle.hwp_check_rules.specs.hwp_report_text.declared.Answer.TheVariants as answers
 use Rattle.hwp_check_rules.specs.hwp_report_text.declared.CpuLine.{CpuLine}

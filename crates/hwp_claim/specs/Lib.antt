@@ -19,7 +19,6 @@ pub use Rattle.hwp_law.specs.hwp_guest as hwp_guest
 pub use Rattle.hwp_law.specs as hwp_law
 pub use Rattle.hwp_claim_frame.specs.hwp_page as hwp_page
 pub use Rattle.hwp_law.specs.hwp_report_text as hwp_report_text
-pub use Rattle.hwp_law.specs.hwp_script_lines as hwp_script_lines
-pub use Rattle.hwp_law.specs.hwp_script_read as hwp_script_read
+pub use Rattle.hwp_law.specs.hwp_script_words as hwp_script_words
 pub use Rattle.hwp_law.specs.hwp_severity as hwp_severity
 pub use Rattle.hwp_claim_frame.specs.hwp_words as hwp_words

@@ -24,7 +24,7 @@ pub use hwp_law::{
     Access, Acted, Admit, Answer, Collector, Command, CpuLine, Decision, EventLine, FrameLine,
     Guest, GuestAccess, GuestLine, How, MAX_SCRIPT, MarkLine, McgBits, Noted, OfflineResult,
     OfflinedLine, PrctlArgs, Report, Script, Stop, StopCause, Taken, Version, Whereabouts, grade,
-    guest_access, handle, is_text, kind_name, policy_word, print, read_number,
+    guest_access, handle, is_text, policy_word, print, read_number,
 };
 pub use inject::Inject;
 pub use lines::ToldLines;

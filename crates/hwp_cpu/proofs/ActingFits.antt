@@ -14,9 +14,9 @@ use Rattle.hwp_cpu_row.specs.hwp_geom.declared.VSlot.{VSlot}
 use Rattle.hwp_cpu_row.specs.hwp_geom.Layout.{twin_of}
 use Rattle.hwp_cpu_row.specs.hwp_geom.declared.Who.{Who}
 use Rattle.hwp_cpu_row.specs.hwp_core_rule.declared.View.{View}
-use Rattle.hwp_cpu_row.specs.hwp_script_lines.declared.Command.{Command}
-use Rattle.hwp_cpu_row.specs.hwp_script_lines.declared.Command.TheVariants as commands
-use Rattle.hwp_cpu_row.specs.hwp_script_read.Valid.{AreTwinsFit, IsAccess, IsAnon, IsCommandOf}
+use Rattle.hwp_cpu_row.specs.hwp_script_words.declared.Command.{Command}
+use Rattle.hwp_cpu_row.specs.hwp_script_words.declared.Command.TheVariants as commands
+use Rattle.hwp_cpu_row.specs.hwp_script_words.Valid.{AreTwinsFit, IsAccess, IsAnon, IsCommandOf}
 use Rattle.hwp_cpu_row.specs.hwp_law.Cows.{Cow, twin_or}
 use Rattle.hwp_cpu_row.specs.CowLists.{acting_in, copied_in, cow_in}
 use Rattle.hwp_cpu_row.specs.GuestLists.{States, admission_in}

@@ -47,7 +47,7 @@ use Rattle.hwp_cpu_row.specs.hwp_geom.declared.Cpu.{Cpu}
 use Rattle.hwp_law_served.specs.Served.{SawRunning, IsOffliningServed}
 use Rattle.hwp_law_served.specs.hwp_page.declared.At.{At}
 use Rattle.hwp_cpu_command.proofs.JobEnds.{soft-ended}
-use Rattle.hwp_cpu_row.specs.hwp_script_lines.declared.Command.{Command}
+use Rattle.hwp_cpu_row.specs.hwp_script_words.declared.Command.{Command}
 use Rattle.hwp_cpu_row.specs.hwp_geom.declared.Who.{Who}
 use Rattle.hwp_cpu_row.specs.declared.Local.{Local}
 use Rattle.hwp_law_served.specs.Rows.{at_number}

@@ -17,7 +17,7 @@ use Rattle.hwp_cpu_command.specs.Jobs.{told_of}
 use Rattle.hwp_cpu_row.specs.hwp_law.Watched.{Watched, due, offlining, told}
 use Rattle.hwp_cpu.specs.Courses.{told_since}
 use Rattle.hwp_cpu_row.specs.Dues.{DueValue}
-use Rattle.hwp_cpu_row.specs.hwp_script_lines.declared.Command.{Command}
+use Rattle.hwp_cpu_row.specs.hwp_script_words.declared.Command.{Command}
 use Rattle.hwp_cpu_row.specs.hwp_geom.declared.Frame.{Frame}
 use Rattle.hwp_cpu_row.specs.declared.Offlining.{Offlining}
 use Rattle.hwp_cpu_row.specs.hwp_cec.Ages.{CecEvent, Note}

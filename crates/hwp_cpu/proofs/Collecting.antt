@@ -15,7 +15,7 @@ use Rattle.hwp_cpu_command.specs.Done.{can_fail}
 use Rattle.hwp_cpu_row.specs.declared.FrameChange.{FrameChange}
 use Rattle.hwp_cpu_row.specs.hwp_geom.declared.FileNo.{FileNo}
 use Rattle.hwp_cpu_command.specs.Jobs.{denial_of, told_of}
-use Rattle.hwp_cpu_row.specs.hwp_script_lines.declared.Command.{Command}
+use Rattle.hwp_cpu_row.specs.hwp_script_words.declared.Command.{Command}
 use Rattle.hwp_cpu_command.specs.Runs.{Runs, RunsAs, RunsDenied}
 use Rattle.hwp_cpu.proofs.causes.HandleNumbers.{IsNumbered}
 use Rattle.hwp_cpu_command.specs.Stays.{IsHalted}
@@ -27,7 +27,7 @@ use Rattle.hwp_cpu_row.specs.hwp_claim.declared.EventOutcome.{EventOutcome}
 use Rattle.std.proofs.lemmas.Bool.{both_ways}
 use Rattle.hwp_cpu_row.specs.hwp_geom.declared.Who.{Who}
 use Rattle.hwp_cpu_row.specs.hwp_core_rule.declared.View.{View}
-use Rattle.hwp_cpu_row.specs.hwp_script_lines.declared.Command.TheVariants as commands
+use Rattle.hwp_cpu_row.specs.hwp_script_words.declared.Command.TheVariants as commands
 use Rattle.hwp_cpu_command.specs.declared.job.Job.TheVariants as kinds
 use Rattle.hwp_cpu_row.specs.hwp_report_text.declared.Answer.TheVariants as answers
 use Rattle.hwp_cpu.proofs.causes.DeniedCauses.{access-by, runs-kind}

@@ -1,11 +1,11 @@
 -- When the command that runs has its answer, its row is right, and the next command may begin.
 use Rattle.hwp_cpu_row.specs.hwp_geom.declared.Frame.{Frame}
 use Rattle.hwp_law_served.specs.Handles.{KnowsNumber, answers_by, number_at}
-use Rattle.hwp_cpu_row.specs.hwp_script_read.Valid.{IsCommandOf}
+use Rattle.hwp_cpu_row.specs.hwp_script_words.Valid.{IsCommandOf}
 use Rattle.hwp_cpu_command.specs.Begins.{BeginsWith}
 use Rattle.hwp_cpu_row.specs.hwp_geom.declared.VSlot.{VSlot}
 use Rattle.hwp_cpu_row.specs.hwp_geom.declared.FileNo.{FileNo}
-use Rattle.hwp_cpu_row.specs.hwp_script_lines.declared.Command.TheVariants as commands
+use Rattle.hwp_cpu_row.specs.hwp_script_words.declared.Command.TheVariants as commands
 use Rattle.hwp_cpu_row.specs.hwp_claim.declared.EventOutcome.{EventOutcome}
 use Rattle.hwp_cpu_row.specs.hwp_law.Cows.{acting}
 use Rattle.hwp_cpu_row.specs.CowLists.{KnowsCows, acting_in, copied_in}
@@ -25,7 +25,7 @@ use Rattle.hwp_cpu_row.specs.hwp_geom.declared.Layout.{Layout}
 use Rattle.hwp_cpu_row.specs.hwp_geom.declared.Thread.{Thread}
 use Rattle.hwp_cpu_row.specs.hwp_geom.declared.Who.{Who}
 use Rattle.hwp_cpu_row.specs.hwp_geom.Pairs.{Pairs}
-use Rattle.hwp_cpu_row.specs.hwp_script_lines.declared.Command.{Command}
+use Rattle.hwp_cpu_row.specs.hwp_script_words.declared.Command.{Command}
 use Rattle.hwp_cpu_row.specs.hwp_claim.hwp_guest.declared.Admit.{Admit}
 use Rattle.hwp_cpu_row.specs.hwp_report_text.declared.Answer.{Answer}
 use Rattle.hwp_cpu_row.specs.hwp_report_text.declared.Answer.TheVariants as answers

@@ -6,8 +6,8 @@ use Rattle.hwp_cpu_row.specs.hwp_geom.declared.Frame.{Frame}
 use Rattle.hwp_cpu_row.specs.hwp_geom.declared.Layout.{Layout}
 use Rattle.hwp_cpu_row.specs.hwp_geom.declared.VSlot.{VSlot}
 use Rattle.hwp_cpu_row.specs.hwp_geom.declared.Who.{Who}
-use Rattle.hwp_cpu_row.specs.hwp_script_lines.declared.Command.{Command}
-use Rattle.hwp_cpu_row.specs.hwp_script_lines.declared.Command.TheVariants as commands
+use Rattle.hwp_cpu_row.specs.hwp_script_words.declared.Command.{Command}
+use Rattle.hwp_cpu_row.specs.hwp_script_words.declared.Command.TheVariants as commands
 use Rattle.hwp_cpu_row.specs.hwp_core_rule.declared.Spoiled.{Spoiled}
 use Rattle.hwp_cpu_row.specs.hwp_core_rule.declared.View.{View}
 use Rattle.hwp_cpu_row.specs.hwp_core_rule.Calls.{IsOnTurn}

@@ -16,10 +16,10 @@ use Rattle.hwp_cpu_row.specs.hwp_geom.declared.Thread.{Thread}
 use Rattle.hwp_cpu_row.specs.hwp_geom.declared.ThreadDecl.{ThreadDecl}
 use Rattle.hwp_cpu_row.specs.hwp_geom.declared.Who.{Who}
 use Rattle.hwp_cpu_command.specs.hwp_kill.declared.Policy.{Policy}
-use Rattle.hwp_cpu_row.specs.hwp_script_lines.declared.Command.{Command}
-use Rattle.hwp_cpu_row.specs.hwp_script_lines.declared.Command.TheVariants as commands
-use Rattle.hwp_cpu_row.specs.hwp_script_read.Forks.{cannot_share, is_away, is_fork_of, is_thread_of, is_used_by, is_wrong_child}
-use Rattle.hwp_cpu_row.specs.hwp_script_read.Valid.{AreForksFit, IsCommandOf}
+use Rattle.hwp_cpu_row.specs.hwp_script_words.declared.Command.{Command}
+use Rattle.hwp_cpu_row.specs.hwp_script_words.declared.Command.TheVariants as commands
+use Rattle.hwp_cpu_row.specs.hwp_script_words.Forks.{cannot_share, is_away, is_fork_of, is_thread_of, is_used_by, is_wrong_child}
+use Rattle.hwp_cpu_row.specs.hwp_script_words.Valid.{AreForksFit, IsCommandOf}
 use Rattle.hwp_cpu_row.specs.hwp_report_text.declared.Answer.{Answer}
 use Rattle.hwp_cpu_row.specs.hwp_report_text.declared.Answer.TheVariants as answers
 use Rattle.hwp_cpu_row.proofs.of_hwp_law.CowLaws.{both-false}

@@ -28,7 +28,7 @@ use Rattle.hwp_law_served.specs.Handles.{number_at, answers_by}
 use Rattle.std.proofs.lemmas.Bool.{and_parts, ltb-true}
 use Rattle.hwp_cpu_row.specs.hwp_core_rule.Lists.{EachMember}
 use Rattle.hwp_cpu_row.specs.hwp_geom.declared.Layout.{Layout}
-use Rattle.hwp_cpu_row.specs.hwp_script_lines.declared.Command.{Command}
+use Rattle.hwp_cpu_row.specs.hwp_script_words.declared.Command.{Command}
 use Rattle.hwp_cpu.proofs.Collected.{not-watched}
 use Rattle.hwp_cpu_command.specs.declared.job.Job.{Job}
 use Rattle.hwp_cpu_row.specs.Acts.{told_notes}

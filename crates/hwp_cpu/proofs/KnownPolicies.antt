@@ -13,8 +13,8 @@ use Rattle.hwp_cpu_row.specs.hwp_geom.declared.ThreadDecl.{ThreadDecl}
 use Rattle.hwp_cpu_row.specs.hwp_geom.Limits.{command_limit}
 use Rattle.hwp_cpu_command.specs.hwp_kill.declared.Policy.{Policy}
 use Rattle.hwp_cpu_command.specs.hwp_kill.Prctl.{policy_set}
-use Rattle.hwp_cpu_row.specs.hwp_script_lines.declared.Command.{Command}
-use Rattle.hwp_cpu_row.specs.hwp_script_lines.declared.Command.TheVariants as commands
+use Rattle.hwp_cpu_row.specs.hwp_script_words.declared.Command.{Command}
+use Rattle.hwp_cpu_row.specs.hwp_script_words.declared.Command.TheVariants as commands
 use Rattle.hwp_cpu_row.specs.hwp_report_text.declared.Answer.{Answer}
 use Rattle.hwp_cpu_row.specs.hwp_report_text.declared.Answer.TheVariants as answers
 use Rattle.hwp_cpu_row.specs.hwp_law.Cows.{acting}

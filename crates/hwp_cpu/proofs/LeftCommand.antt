@@ -14,7 +14,7 @@ use Rattle.hwp_cpu_row.specs.hwp_geom.declared.Frame.{Frame}
 use Rattle.hwp_cpu_command.specs.hwp_soft.declared.SoftAnswer.{SoftAnswer}
 use Rattle.hwp_law_served.specs.Offlinings.{left_among, left_by, left_itself}
 use Rattle.hwp_cpu.proofs.commands.CommandRuns.{runs-who}
-use Rattle.hwp_cpu_row.specs.hwp_script_lines.declared.Command.{Command}
+use Rattle.hwp_cpu_row.specs.hwp_script_words.declared.Command.{Command}
 use Rattle.hwp_cpu_command.specs.Answers.{soft_answer}
 use Rattle.hwp_cpu_row.specs.hwp_report_text.declared.Answer.{Answer}
 use Rattle.hwp_cpu_command.proofs.JobEnds.{mapped}
@@ -23,7 +23,7 @@ use Rattle.hwp_cpu_command.specs.Runs.{RunsAs, RunsDenied}
 use Rattle.hwp_cpu_command.specs.Jobs as jobs
 use Rattle.hwp_cpu_command.specs.hwp_soft.Softs as softs
 use Rattle.hwp_cpu_command.specs.declared.job.Job.TheVariants as kinds
-use Rattle.hwp_cpu_row.specs.hwp_script_lines.declared.Command.TheVariants as commands
+use Rattle.hwp_cpu_row.specs.hwp_script_words.declared.Command.TheVariants as commands
 use Rattle.hwp_cpu_command.specs.hwp_soft.declared.SoftAnswer.TheVariants as soft_answers
 use Rattle.hwp_cpu.proofs.causes.DeniedCauses.{access-by, runs-kind}
 use Rattle.hwp_cpu_row.specs.hwp_geom.declared.VSlot.{VSlot}

@@ -21,7 +21,7 @@ use Rattle.hwp_cpu_command.specs.Stays.{IsHalted, Stepped}
 use Rattle.hwp_cpu.proofs.causes.HandleNumbers.{IsNumbered, numbered}
 use Rattle.hwp_law_served.specs.Accounts.{failures}
 use Rattle.hwp_cpu_row.specs.hwp_report_text.declared.Answer.{Answer}
-use Rattle.hwp_cpu_row.specs.hwp_script_lines.declared.Command.{Command}
+use Rattle.hwp_cpu_row.specs.hwp_script_words.declared.Command.{Command}
 use Rattle.hwp_cpu_row.specs.hwp_core_rule.Calls.{IsOnTurn}
 use Rattle.hwp_cpu.proofs.commands.CommandRuns.{runs-who}
 use Rattle.hwp_cpu_row.specs.declared.Row.{Row}

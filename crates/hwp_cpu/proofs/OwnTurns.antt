@@ -14,7 +14,7 @@ use Rattle.hwp_cpu.specs.Beside.{ArePriorWith, CanCollect, IsOwnServed}
 use Rattle.hwp_cpu_row.specs.Locals.{collects}
 use Rattle.std.specs.List.{cons_option}
 use Rattle.hwp_cpu_row.specs.hwp_core_rule.declared.View.{View}
-use Rattle.hwp_cpu_row.specs.hwp_script_lines.declared.Command.{Command}
+use Rattle.hwp_cpu_row.specs.hwp_script_words.declared.Command.{Command}
 use Rattle.hwp_cpu_row.specs.hwp_core_rule.declared.Turn.{Turn}
 use Rattle.hwp_cpu_row.specs.hwp_law.Notes.{is_for_pages}
 use Rattle.hwp_cpu_row.specs.Dues.{DueValue, next_due}

@@ -15,7 +15,7 @@ use Rattle.hwp_cpu_row.specs.hwp_geom.declared.Damage.{Damage}
 use Rattle.hwp_cpu_row.specs.hwp_geom.declared.Damage.TheVariants as damages
 use Rattle.hwp_cpu_row.specs.hwp_geom.declared.Layout.{Layout}
 use Rattle.hwp_cpu_row.specs.hwp_geom.declared.VSlot.{VSlot}
-use Rattle.hwp_cpu_row.specs.hwp_script_lines.declared.Command.TheVariants as commands
+use Rattle.hwp_cpu_row.specs.hwp_script_words.declared.Command.TheVariants as commands
 use Rattle.hwp_cpu_row.specs.hwp_law.Cows.{acting}
 use Rattle.hwp_law_served.specs.Handles.{answers_by}
 use Rattle.hwp_cpu_row.specs.hwp_geom.declared.Page.{Page}
@@ -40,7 +40,7 @@ use Rattle.hwp_cpu_row.specs.hwp_claim_act.declared.Failed.{Failed}
 use Rattle.hwp_cpu_row.specs.hwp_claim_act.Abandoned as abandoned
 use Rattle.hwp_cpu_row.specs.hwp_claim_frame.Claims.{HasMarkedNone, is_own}
 use Rattle.hwp_cpu_row.specs.hwp_claim_frame.Done.{Grows, Marking, counts_owed, marking_of, poisoning}
-use Rattle.hwp_cpu_row.specs.hwp_script_lines.declared.Command.{Command}
+use Rattle.hwp_cpu_row.specs.hwp_script_words.declared.Command.{Command}
 use Rattle.hwp_cpu_row.specs.hwp_report_text.declared.Answer.{Answer}
 use Rattle.hwp_cpu_row.specs.hwp_report_text.declared.Answer.TheVariants as answers
 use Rattle.hwp_cpu_row.specs.hwp_report_text.declared.How.{How}

@@ -9,7 +9,7 @@ use Rattle.hwp_cpu_row.specs.hwp_cec.Ages.{CecEvent, Note, Round}
 use Rattle.hwp_cpu_command.specs.FileHandles.{watched_by, watching_after, RoundStands, anew_with, StandsOn, rounded_by, CanRound, round_ended}
 use Rattle.hwp_cpu_row.specs.declared.Row.{Row}
 use Rattle.hwp_cpu_row.specs.hwp_geom.declared.Who.{Who}
-use Rattle.hwp_cpu_row.specs.hwp_script_lines.declared.Command.{Command}
+use Rattle.hwp_cpu_row.specs.hwp_script_words.declared.Command.{Command}
 use Rattle.std.proofs.lemmas.Option.{same_Some, slice_get_within, none-some}
 use Rattle.hwp_cpu_command.proofs.OfKind.{of-copying, of-fork, of-fsync, of-raise, of-spoil, of-prctl, of-unpoison, of-scrub, of-nested, of-instruction, of-log, of-soft, of-inject, of-evict}
 use Rattle.hwp_cpu_row.specs.hwp_geom.declared.Layout.{Layout}
@@ -42,7 +42,7 @@ use Rattle.hwp_cpu.specs.declared.course.Course.{Course}
 use Rattle.std.specs.List.{list_any}
 use Rattle.hwp_cpu_row.proofs.of_hwp_core_rule.Lists.{at_push}
 use Rattle.hwp_cpu_command.specs.Jobs as jobs
-use Rattle.hwp_cpu_row.specs.hwp_script_lines.declared.Command.TheVariants as commands
+use Rattle.hwp_cpu_row.specs.hwp_script_words.declared.Command.TheVariants as commands
 use Rattle.hwp_cpu_command.specs.declared.job.Job.TheVariants as kinds
 use Rattle.hwp_cpu_row.specs.hwp_report_text.declared.Answer.TheVariants as answers
 use Rattle.hwp_cpu_command.specs.hwp_scrub.declared.LocalChange.TheVariants as changes

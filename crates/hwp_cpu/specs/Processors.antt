@@ -11,10 +11,10 @@ use Rattle.hwp_cpu_row.specs.hwp_geom.Layout.{IsSound}
 use Rattle.hwp_cpu_row.specs.hwp_geom.Limits.{command_limit}
 use Rattle.hwp_cpu_row.specs.hwp_geom.Pairs.{Pairs}
 use Rattle.hwp_cpu_row.specs.hwp_page.History.{BodyValue}
-use Rattle.hwp_cpu_row.specs.hwp_script_lines.declared.Command.{Command}
+use Rattle.hwp_cpu_row.specs.hwp_script_words.declared.Command.{Command}
 use Rattle.hwp_cpu_row.specs.hwp_law.Commands.{is_watch}
-use Rattle.hwp_cpu_row.specs.hwp_script_read.Forks.{is_fork_of}
-use Rattle.hwp_cpu_row.specs.hwp_script_read.Valid.{AreForksFit, AreTwinsFit, IsCommandOf}
+use Rattle.hwp_cpu_row.specs.hwp_script_words.Forks.{is_fork_of}
+use Rattle.hwp_cpu_row.specs.hwp_script_words.Valid.{AreForksFit, AreTwinsFit, IsCommandOf}
 use Rattle.hwp_cpu_row.specs.hwp_report_text.declared.Answer.{Answer}
 use Rattle.hwp_cpu_row.specs.hwp_core_rule.declared.Step.{Step}
 use Rattle.hwp_cpu_row.specs.hwp_core_rule.Words.{Words}

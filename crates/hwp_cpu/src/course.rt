@@ -1,6 +1,6 @@
 ghost use Rattle.std.specs.Prelude.{◌≡◌, ◌<◌, true, None, Some, cond};
 ghost use Rattle.hwp_cpu_row.specs.hwp_geom.Layout.{IsSound};
-ghost use Rattle.hwp_cpu_row.specs.hwp_script_read.Valid.{IsCommandOf};
+ghost use Rattle.hwp_cpu_row.specs.hwp_script_words.Valid.{IsCommandOf};
 ghost use Rattle.hwp_cpu_row.specs.Locals.{collects};
 ghost use Rattle.hwp_cpu_command.specs.Begins.{CanCopy, CanDeny};
 ghost use Rattle.hwp_cpu_command.specs.FileHandles.{HasChangeWithin, StandsOn};

@@ -8,9 +8,9 @@ use Rattle.hwp_cpu_control.specs.hwp_geom.declared.TransDecl.{TransDecl}
 use Rattle.hwp_cpu_control.specs.hwp_geom.declared.Who.{Who}
 use Rattle.hwp_cpu_control.specs.hwp_geom.Limits.{line_limit}
 use Rattle.hwp_cpu_row.specs.hwp_banks.Banks.{Banks}
-use Rattle.hwp_cpu_row.specs.hwp_script_lines.declared.Command.{Command}
-use Rattle.hwp_cpu_row.specs.hwp_script_lines.declared.Command.TheVariants as commands
-use Rattle.hwp_cpu_row.specs.hwp_script_read.Valid.{IsAccess, IsCommandOf}
+use Rattle.hwp_cpu_row.specs.hwp_script_words.declared.Command.{Command}
+use Rattle.hwp_cpu_row.specs.hwp_script_words.declared.Command.TheVariants as commands
+use Rattle.hwp_cpu_row.specs.hwp_script_words.Valid.{IsAccess, IsCommandOf}
 use Rattle.hwp_cpu_row.specs.hwp_law.Commands.{access, access_of}
 use Rattle.hwp_cpu_command.specs.declared.begin.LineAccess.{LineAccess}
 use Rattle.hwp_cpu_command.specs.declared.job.Job.{Job}

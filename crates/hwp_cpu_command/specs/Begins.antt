@@ -20,10 +20,10 @@ use Rattle.hwp_cpu_row.specs.hwp_banks.declared.Origin.{Origin}
 use Rattle.hwp_cpu_row.specs.hwp_banks.declared.Origin.TheVariants as origins
 use Rattle.hwp_cpu_row.specs.hwp_banks.Events.{bank_count}
 use Rattle.hwp_cpu_row.specs.hwp_severity.declared.McgBits.{McgBits}
-use Rattle.hwp_cpu_row.specs.hwp_script_lines.declared.Command.{Command}
-use Rattle.hwp_cpu_row.specs.hwp_script_lines.declared.Command.TheVariants as commands
-use Rattle.hwp_cpu_row.specs.hwp_script_lines.declared.PrctlArgs.{PrctlArgs}
-use Rattle.hwp_cpu_row.specs.hwp_script_read.Valid.{IsAccess, IsCommandOf}
+use Rattle.hwp_cpu_row.specs.hwp_script_words.declared.Command.{Command}
+use Rattle.hwp_cpu_row.specs.hwp_script_words.declared.Command.TheVariants as commands
+use Rattle.hwp_cpu_row.specs.hwp_script_words.declared.PrctlArgs.{PrctlArgs}
+use Rattle.hwp_cpu_row.specs.hwp_script_words.Valid.{IsAccess, IsCommandOf}
 use Rattle.hwp_cpu_row.specs.hwp_banks.Banks.{Banks, raw_event}
 use Rattle.hwp_cpu_row.specs.hwp_law.Commands.{Access, access_of, arrival_of, process_of_thread}
 use Rattle.hwp_cpu_row.specs.hwp_claim.hwp_guest.declared.Admit.{Admit}

@@ -9,7 +9,7 @@ use Rattle.hwp_evict.specs.declared.fsync.FsyncAt.TheVariants as fsync_at
 use Rattle.hwp_evict.specs.Fsyncs as fsyncs
 use Rattle.hwp_cpu_row.specs.hwp_report_text.declared.Answer.{Answer}
 use Rattle.hwp_cpu_row.specs.hwp_report_text.declared.Answer.TheVariants as answers
-use Rattle.hwp_cpu_row.specs.hwp_script_lines.Grammar.{IsCollectorWithin}
+use Rattle.hwp_cpu_row.specs.hwp_script_words.Commands.{IsCollectorWithin}
 use Rattle.hwp_cpu_row.specs.hwp_law.hwp_cec.Ages.{CecEvent, Round}
 use Rattle.hwp_cpu_row.specs.hwp_law.hwp_cec.Counters.{StandsFor, begun, rounded}
 use Rattle.hwp_cpu_row.specs.declared.Local.{Local}

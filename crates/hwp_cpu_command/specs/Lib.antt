@@ -22,7 +22,7 @@ pub use Rattle.hwp_cpu_control.specs.hwp_kill as hwp_kill
 pub use Rattle.hwp_cpu_row.specs.hwp_law as hwp_law
 pub use Rattle.hwp_cpu_control.specs.hwp_page as hwp_page
 pub use Rattle.hwp_cpu_row.specs.hwp_report_text as hwp_report_text
-pub use Rattle.hwp_cpu_row.specs.hwp_script_lines as hwp_script_lines
+pub use Rattle.hwp_cpu_row.specs.hwp_script_words as hwp_script_words
 pub use Rattle.hwp_scrub.specs as hwp_scrub
 pub use Rattle.hwp_cpu_row.specs.hwp_severity as hwp_severity
 pub use Rattle.hwp_soft.specs as hwp_soft

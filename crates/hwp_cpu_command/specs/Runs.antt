@@ -6,8 +6,8 @@ use Rattle.hwp_cpu_control.specs.hwp_geom.declared.Thread.{Thread}
 use Rattle.hwp_cpu_control.specs.hwp_geom.declared.ThreadDecl.{ThreadDecl}
 use Rattle.hwp_cpu_control.specs.hwp_geom.declared.VSlot.{VSlot}
 use Rattle.hwp_cpu_control.specs.hwp_geom.declared.Who.{Who}
-use Rattle.hwp_cpu_row.specs.hwp_script_lines.declared.Command.{Command}
-use Rattle.hwp_cpu_row.specs.hwp_script_lines.declared.Command.TheVariants as commands
+use Rattle.hwp_cpu_row.specs.hwp_script_words.declared.Command.{Command}
+use Rattle.hwp_cpu_row.specs.hwp_script_words.declared.Command.TheVariants as commands
 use Rattle.hwp_cpu_control.specs.hwp_core_rule.declared.View.{View}
 use Rattle.hwp_cpu_control.specs.hwp_core_rule.parts.Policies.{settings_of}
 use Rattle.hwp_cpu_control.specs.hwp_core_rule.Calls.{IsOnTurn}

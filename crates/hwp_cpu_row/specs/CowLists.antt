@@ -8,9 +8,9 @@ use Rattle.hwp_claim.specs.hwp_geom.declared.Thread.{Thread}
 use Rattle.hwp_claim.specs.hwp_geom.declared.ThreadDecl.{ThreadDecl}
 use Rattle.hwp_claim.specs.hwp_geom.declared.TransDecl.{TransDecl}
 use Rattle.hwp_claim.specs.hwp_geom.declared.VSlot.{VSlot}
-use Rattle.hwp_claim.specs.hwp_script_lines.declared.Command.{Command}
-use Rattle.hwp_claim.specs.hwp_script_lines.declared.Command.TheVariants as commands
-use Rattle.hwp_claim.specs.hwp_script_read.Forks.{freezes}
+use Rattle.hwp_claim.specs.hwp_script_words.declared.Command.{Command}
+use Rattle.hwp_claim.specs.hwp_script_words.declared.Command.TheVariants as commands
+use Rattle.hwp_claim.specs.hwp_script_words.Forks.{freezes}
 use Rattle.hwp_claim.specs.hwp_report_text.declared.Answer.{Answer}
 use Rattle.hwp_claim.specs.hwp_report_text.declared.Answer.TheVariants as answers
 use Rattle.hwp_claim.specs.hwp_law.Cows.{Cow, cow_of, own_page, twin_or}

@@ -6,7 +6,7 @@ use Rattle.hwp_claim.specs.hwp_geom.Layout.{has_guests, is_guest}
 use Rattle.hwp_claim.specs.hwp_geom.Limits.{translation_limit}
 use Rattle.hwp_claim.specs.hwp_geom.declared.Layout.{Layout}
 use Rattle.hwp_claim.specs.hwp_geom.declared.Proc.{Proc}
-use Rattle.hwp_claim.specs.hwp_script_lines.declared.Command.{Command}
+use Rattle.hwp_claim.specs.hwp_script_words.declared.Command.{Command}
 use Rattle.hwp_claim.specs.hwp_report_text.declared.Answer.{Answer}
 use Rattle.hwp_claim.specs.hwp_report_text.declared.Answer.TheVariants as answers
 use Rattle.hwp_claim.specs.hwp_report_text.declared.GuestLine.{GuestLine}

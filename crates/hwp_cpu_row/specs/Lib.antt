@@ -14,6 +14,5 @@ pub use Rattle.hwp_claim.specs.hwp_geom as hwp_geom
 pub use Rattle.hwp_claim.specs.hwp_law as hwp_law
 pub use Rattle.hwp_claim.specs.hwp_page as hwp_page
 pub use Rattle.hwp_claim.specs.hwp_report_text as hwp_report_text
-pub use Rattle.hwp_claim.specs.hwp_script_lines as hwp_script_lines
-pub use Rattle.hwp_claim.specs.hwp_script_read as hwp_script_read
+pub use Rattle.hwp_claim.specs.hwp_script_words as hwp_script_words
 pub use Rattle.hwp_claim.specs.hwp_severity as hwp_severity

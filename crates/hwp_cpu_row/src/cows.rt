@@ -2,7 +2,7 @@ ghost use Rattle.std.specs.Prelude.{◌≡◌, ◌&&◌, ◌==◌, false, get_or
 ghost use Rattle.std.specs.List.{list_any};
 ghost use Rattle.std.specs.Option.{option_map_or};
 ghost use Rattle.hwp_claim.specs.hwp_law.Cows.{own_page, twin_or};
-ghost use Rattle.hwp_claim.specs.hwp_script_read.Forks.{freezes};
+ghost use Rattle.hwp_claim.specs.hwp_script_words.Forks.{freezes};
 ghost use Rattle.hwp_cpu_row.specs.CowLists.{acting_in, copied_by, copied_in, cow_in, first_cows, freezes_at, frozen_by, frozen_from, frozen_in, switched_by, switched_in, through_in, told_in, written_in};
 
 use hwp_claim::{Answer, Command, Layout, OutOfMemory, Page, Proc, Thread, VSlot};

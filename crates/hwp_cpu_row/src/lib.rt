@@ -19,8 +19,7 @@ pub use hwp_claim::{
     MarkLine, Mask, McgBits, Mode, Noted, OfflineResult, OfflinedLine, Ops, Origin, OutOfMemory,
     Page, PageWord, PolicyWord, PrctlArgs, ProcessWord, Pte, Ranked, Report, Scheduled, Script,
     SharedWord, Status, Step, Stop, StopCause, StopWord, Task, Text, Turn, VSlot, Version,
-    Whereabouts, Who, handle, index, is_text, kind_name, no_events, policy_word, print,
-    read_number,
+    Whereabouts, Who, handle, index, is_text, no_events, policy_word, print, read_number,
 };
 pub use local::{Handles, Local, Watching};
 pub use row::{FrameChange, Offlining, Row};

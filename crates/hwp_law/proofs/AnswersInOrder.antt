@@ -1,14 +1,14 @@
 -- Where the lines of a processor have one answer for each of its commands, in order, the first answer with the number n is the n-th.
 use Rattle.std.proofs.Common.{◌≡◌, ℕ, zero, suc, ◌+◌, ◌<◌, ◌≤◌, ◌==◌, Bool, true, false, cond, List, [], ◌∷◌, Option, Some, filter_map, find, length, map, option_map, slice_get, unwrap_or, refl, sym, ap, ◌∙◌, arith}
 use Rattle.std.proofs.lemmas.Bool.{eq-eqb, ne_eqb}
-use Rattle.hwp_script_read.specs.hwp_geom.declared.Cpu.{Cpu}
+use Rattle.hwp_script_words.specs.hwp_geom.declared.Cpu.{Cpu}
 use Rattle.hwp_report_text.specs.declared.Answer.{Answer}
 use Rattle.hwp_report_text.specs.declared.Answer.TheVariants as answers
 use Rattle.hwp_report_text.specs.declared.CpuLine.{CpuLine}
 use Rattle.hwp_report_text.specs.declared.CpuLine.TheVariants as lines
 use Rattle.hwp_report_text.specs.declared.Report.{Report}
-use Rattle.hwp_script_read.specs.declared.Command.{Command}
-use Rattle.hwp_script_read.specs.declared.Script.{Script}
+use Rattle.hwp_script_words.specs.declared.Command.{Command}
+use Rattle.hwp_script_words.specs.declared.Script.{Script}
 use Rattle.hwp_law.specs.Causes.{AreCaused}
 use Rattle.hwp_law.specs.Lines.{AnswerLine, answer_among, answer_in, answers_from, answers_to}
 

@@ -3,10 +3,10 @@
 use Rattle.std.proofs.Common.{◌≡◌, ℕ, suc, zero, Bool, true, false, List, [], ◌∷◌, Some, None, refl, sym, subst, inr, lit<, lit≤, true≢false, IsBitSet, arith}
 use Rattle.std.specs.List.{count_by}
 use Rattle.std.proofs.lemmas.Option.{same_Some, none-some}
-use Rattle.hwp_script_read.specs.hwp_geom.declared.Layout.{Layout}
-use Rattle.hwp_script_read.specs.hwp_geom.declared.PageKind.TheVariants.{Anon}
-use Rattle.hwp_script_read.specs.hwp_geom.declared.Version.TheVariants.{One}
-use Rattle.hwp_script_read.specs.hwp_geom.declared.Who.{Who}
+use Rattle.hwp_script_words.specs.hwp_geom.declared.Layout.{Layout}
+use Rattle.hwp_script_words.specs.hwp_geom.declared.PageKind.TheVariants.{Anon}
+use Rattle.hwp_script_words.specs.hwp_geom.declared.Version.TheVariants.{One}
+use Rattle.hwp_script_words.specs.hwp_geom.declared.Who.{Who}
 use Rattle.hwp_report_text.specs.hwp_kill.declared.Code.TheVariants.{Ar}
 use Rattle.hwp_report_text.specs.hwp_page.declared.Entry.{Entry}
 use Rattle.hwp_report_text.specs.hwp_page.declared.Met.TheVariants.{Word, Sigbus}
@@ -14,8 +14,8 @@ use Rattle.hwp_report_text.specs.hwp_page.declared.Outcome.TheVariants as outcom
 use Rattle.hwp_report_text.specs.hwp_page.declared.Situation.{Situation}
 use Rattle.hwp_report_text.specs.hwp_page.declared.Situation.TheVariants as situations
 use Rattle.hwp_report_text.specs.hwp_page.declared.What.TheVariants as entries
-use Rattle.hwp_script_read.specs.declared.Command.TheVariants as commands
-use Rattle.hwp_script_read.specs.declared.Script.{Script}
+use Rattle.hwp_script_words.specs.declared.Command.TheVariants as commands
+use Rattle.hwp_script_words.specs.declared.Script.{Script}
 use Rattle.hwp_report_text.specs.declared.Acted.TheVariants as acts
 use Rattle.hwp_report_text.specs.declared.Answer.TheVariants as answers
 use Rattle.hwp_report_text.specs.declared.CpuLine.TheVariants as lines

@@ -2,16 +2,16 @@
 use Rattle.std.proofs.Common.{◌≡◌, ℕ, suc, zero, ◌+◌, true, false, cond, List, [], ◌∷◌, Option, Some, None, slice_get, fold, refl, sym, ap, ◌∙◌, IsSomeAnd, add-zero, true≢false, option_map, unwrap_or, filter_map, find, ◌==◌, inl, inr, ◌⊎◌, subst, Bool}
 use Rattle.std.proofs.lemmas.Bool.{cases_eq, eq-eqb, ne_eqb}
 use Rattle.std.proofs.lemmas.Option.{none-some, same_Some}
-use Rattle.hwp_script_read.specs.hwp_geom.declared.Frame.{Frame}
-use Rattle.hwp_script_read.specs.hwp_geom.declared.Page.{Page}
-use Rattle.hwp_script_read.specs.hwp_geom.declared.VSlot.{VSlot}
-use Rattle.hwp_script_read.specs.hwp_geom.declared.Who.{Who}
+use Rattle.hwp_script_words.specs.hwp_geom.declared.Frame.{Frame}
+use Rattle.hwp_script_words.specs.hwp_geom.declared.Page.{Page}
+use Rattle.hwp_script_words.specs.hwp_geom.declared.VSlot.{VSlot}
+use Rattle.hwp_script_words.specs.hwp_geom.declared.Who.{Who}
 use Rattle.hwp_report_text.specs.hwp_page.declared.Entry.{Entry}
 use Rattle.hwp_report_text.specs.hwp_page.declared.What.{What}
 use Rattle.hwp_report_text.specs.hwp_page.declared.What.TheVariants as entries
-use Rattle.hwp_script_read.specs.declared.Command.{Command}
-use Rattle.hwp_script_read.specs.declared.Command.TheVariants as commands
-use Rattle.hwp_script_read.specs.declared.Script.{Script}
+use Rattle.hwp_script_words.specs.declared.Command.{Command}
+use Rattle.hwp_script_words.specs.declared.Command.TheVariants as commands
+use Rattle.hwp_script_words.specs.declared.Script.{Script}
 use Rattle.hwp_report_text.specs.declared.Answer.{Answer}
 use Rattle.hwp_report_text.specs.declared.Answer.TheVariants as answers
 use Rattle.hwp_report_text.specs.declared.CpuLine.{CpuLine}

@@ -2,14 +2,14 @@
 use Rattle.std.proofs.Common.{◌≡◌, ℕ, suc, zero, ◌<◌, ◌≤◌, Bool, true, false, List, [], ◌∷◌, Some, None, take, ◌&&◌, nat_lt, slice_get, refl, sym, ap, subst, ◌∙◌, inl, inr, lit<, true≢false, arith}
 use Rattle.std.proofs.lemmas.Option.{none-some, same_Some}
 use Rattle.std.specs.List.{list_any}
-use Rattle.hwp_script_read.specs.hwp_geom.declared.Cpu.{Cpu}
-use Rattle.hwp_script_read.specs.hwp_geom.declared.FileNo.{FileNo}
-use Rattle.hwp_script_read.specs.hwp_geom.declared.Mask.{Mask}
-use Rattle.hwp_script_read.specs.hwp_geom.declared.Page.{Page}
-use Rattle.hwp_script_read.specs.hwp_geom.declared.PageKind.{PageKind}
-use Rattle.hwp_script_read.specs.hwp_geom.declared.PageKind.TheVariants.{Anon, File}
-use Rattle.hwp_script_read.specs.hwp_geom.declared.Version.{Version}
-use Rattle.hwp_script_read.specs.hwp_geom.declared.Version.TheVariants.{One, Two}
+use Rattle.hwp_script_words.specs.hwp_geom.declared.Cpu.{Cpu}
+use Rattle.hwp_script_words.specs.hwp_geom.declared.FileNo.{FileNo}
+use Rattle.hwp_script_words.specs.hwp_geom.declared.Mask.{Mask}
+use Rattle.hwp_script_words.specs.hwp_geom.declared.Page.{Page}
+use Rattle.hwp_script_words.specs.hwp_geom.declared.PageKind.{PageKind}
+use Rattle.hwp_script_words.specs.hwp_geom.declared.PageKind.TheVariants.{Anon, File}
+use Rattle.hwp_script_words.specs.hwp_geom.declared.Version.{Version}
+use Rattle.hwp_script_words.specs.hwp_geom.declared.Version.TheVariants.{One, Two}
 use Rattle.hwp_report_text.specs.hwp_kill.declared.Policy.{Policy}
 use Rattle.hwp_report_text.specs.hwp_kill.declared.Policy.TheVariants as policies
 use Rattle.hwp_report_text.specs.hwp_page.declared.At.{At}
@@ -23,9 +23,9 @@ use Rattle.hwp_report_text.specs.hwp_page.History.{state_after}
 use Rattle.hwp_report_text.specs.hwp_page.Refusals.{IsDirty, IsLockedIn}
 use Rattle.hwp_report_text.specs.hwp_page.Step.{opening_of}
 use Rattle.hwp_report_text.specs.hwp_banks.declared.Origin.TheVariants as origins
-use Rattle.hwp_script_read.specs.declared.Command.{Command}
-use Rattle.hwp_script_read.specs.declared.Command.TheVariants as commands
-use Rattle.hwp_script_read.specs.declared.Script.{Script}
+use Rattle.hwp_script_words.specs.declared.Command.{Command}
+use Rattle.hwp_script_words.specs.declared.Command.TheVariants as commands
+use Rattle.hwp_script_words.specs.declared.Script.{Script}
 use Rattle.hwp_report_text.specs.declared.Acted.{Acted}
 use Rattle.hwp_report_text.specs.declared.Acted.TheVariants as acts
 use Rattle.hwp_report_text.specs.declared.Answer.{Answer}

@@ -2,16 +2,16 @@
 -- word. The child's store copies the page to that of its twin, so the parent's word stays. Beside it, copies that meet bad lines.
 use Rattle.std.proofs.Common.{◌≡◌, ℕ, suc, zero, ◌+◌, ◌-◌, ◌==◌, ◌<◌, true, false, Bool, List, [], ◌∷◌, ◌++◌, drop, Option, Some, None, option_and_then, slice_get, if◌then◌else◌, IsBitSet, refl, sym, ap, subst, ◌∙◌, inl, inr, lit<, true≢false, arith}
 use Rattle.std.proofs.lemmas.Option.{none-some, same_Some}
-use Rattle.hwp_script_read.specs.hwp_geom.declared.Layout.{Layout}
-use Rattle.hwp_script_read.specs.hwp_geom.declared.Mask.{Mask}
-use Rattle.hwp_script_read.specs.hwp_geom.declared.Page.{Page}
-use Rattle.hwp_script_read.specs.hwp_geom.declared.PageKind.TheVariants.{Anon}
-use Rattle.hwp_script_read.specs.hwp_geom.declared.Proc.{Proc}
-use Rattle.hwp_script_read.specs.hwp_geom.declared.Thread.{Thread}
-use Rattle.hwp_script_read.specs.hwp_geom.declared.ThreadDecl.{ThreadDecl}
-use Rattle.hwp_script_read.specs.hwp_geom.declared.TransDecl.{TransDecl}
-use Rattle.hwp_script_read.specs.hwp_geom.declared.Version.TheVariants.{Two}
-use Rattle.hwp_script_read.specs.hwp_geom.declared.VSlot.{VSlot}
+use Rattle.hwp_script_words.specs.hwp_geom.declared.Layout.{Layout}
+use Rattle.hwp_script_words.specs.hwp_geom.declared.Mask.{Mask}
+use Rattle.hwp_script_words.specs.hwp_geom.declared.Page.{Page}
+use Rattle.hwp_script_words.specs.hwp_geom.declared.PageKind.TheVariants.{Anon}
+use Rattle.hwp_script_words.specs.hwp_geom.declared.Proc.{Proc}
+use Rattle.hwp_script_words.specs.hwp_geom.declared.Thread.{Thread}
+use Rattle.hwp_script_words.specs.hwp_geom.declared.ThreadDecl.{ThreadDecl}
+use Rattle.hwp_script_words.specs.hwp_geom.declared.TransDecl.{TransDecl}
+use Rattle.hwp_script_words.specs.hwp_geom.declared.Version.TheVariants.{Two}
+use Rattle.hwp_script_words.specs.hwp_geom.declared.VSlot.{VSlot}
 use Rattle.hwp_report_text.specs.hwp_kill.declared.Code.TheVariants.{Ar}
 use Rattle.hwp_report_text.specs.hwp_kill.declared.Policy.TheVariants as policies
 use Rattle.hwp_report_text.specs.hwp_page.declared.At.{At}
@@ -21,9 +21,9 @@ use Rattle.hwp_report_text.specs.hwp_page.declared.Outcome.TheVariants as outcom
 use Rattle.hwp_report_text.specs.hwp_page.declared.Situation.TheVariants as situations
 use Rattle.hwp_report_text.specs.hwp_page.declared.What.{What}
 use Rattle.hwp_report_text.specs.hwp_page.declared.What.TheVariants as entries
-use Rattle.hwp_script_read.specs.declared.Command.{Command}
-use Rattle.hwp_script_read.specs.declared.Command.TheVariants as commands
-use Rattle.hwp_script_read.specs.declared.Script.{Script}
+use Rattle.hwp_script_words.specs.declared.Command.{Command}
+use Rattle.hwp_script_words.specs.declared.Command.TheVariants as commands
+use Rattle.hwp_script_words.specs.declared.Script.{Script}
 use Rattle.hwp_report_text.specs.hwp_banks.Banks.{empty_banks}
 use Rattle.hwp_report_text.specs.declared.Acted.TheVariants as acts
 use Rattle.hwp_report_text.specs.declared.Answer.{Answer}

@@ -2,9 +2,9 @@
 use Rattle.std.proofs.Common.{◌≡◌, true, false, Bool, List, [], ◌∷◌, ◌++◌, map, flat_map, nat_lt, ◌==◌, if◌then◌else◌, refl, sym, ap, ◌∙◌}
 use Rattle.std.proofs.lemmas.Grind.{flat_map-append}
 use Rattle.std.proofs.lemmas.List.{append-nil, append_assoc}
-use Rattle.hwp_script_read.specs.hwp_geom.declared.Frame.{Frame}
-use Rattle.hwp_script_read.specs.hwp_geom.declared.Layout.{Layout}
-use Rattle.hwp_script_read.specs.hwp_script_lines.hwp_cec.Ages.{CecEvent, Note, live}
+use Rattle.hwp_script_words.specs.hwp_geom.declared.Frame.{Frame}
+use Rattle.hwp_script_words.specs.hwp_geom.declared.Layout.{Layout}
+use Rattle.hwp_script_words.specs.hwp_cec.Ages.{CecEvent, Note, live}
 use Rattle.hwp_report_text.specs.declared.EventLine.{EventLine}
 use Rattle.hwp_law.specs.Notes.{AreApart, IsRising, checks, notes, notes_of_check, with_line}
 use Rattle.hwp_law.specs.Watched.{Watched, offlining, told}

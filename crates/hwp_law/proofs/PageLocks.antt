@@ -1,7 +1,7 @@
 -- No entry changes whether a page is locked: it is as the layout declares it.
 use Rattle.std.proofs.Common.{◌≡◌, false, List, [], ◌∷◌, take, refl, sym, ◌∙◌}
-use Rattle.hwp_script_read.specs.hwp_geom.declared.Layout.{Layout}
-use Rattle.hwp_script_read.specs.hwp_geom.Layout.{is_locked}
+use Rattle.hwp_script_words.specs.hwp_geom.declared.Layout.{Layout}
+use Rattle.hwp_script_words.specs.hwp_geom.Layout.{is_locked}
 use Rattle.hwp_report_text.specs.hwp_page.declared.At.{At}
 use Rattle.hwp_report_text.specs.hwp_page.declared.Entry.{Entry}
 use Rattle.hwp_report_text.specs.hwp_page.declared.Met.TheVariants.{Sigbus, Word}

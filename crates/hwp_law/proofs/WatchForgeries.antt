@@ -1,9 +1,9 @@
 -- What the law refuses of lines of frames taken out of use: small changes of the two reports with a collector.
 use Rattle.std.proofs.Common.{◌≡◌, ℕ, suc, zero, ◌==◌, true, false, Bool, List, [], ◌∷◌, ◌++◌, take, drop, Option, Some, None, refl, inl, inr, sym, ap, ◌∙◌, true≢false, arith}
-use Rattle.hwp_script_read.specs.hwp_geom.declared.Frame.{Frame}
+use Rattle.hwp_script_words.specs.hwp_geom.declared.Frame.{Frame}
 use Rattle.hwp_report_text.specs.hwp_page.declared.Entry.{Entry}
-use Rattle.hwp_script_read.specs.declared.Command.TheVariants as commands
-use Rattle.hwp_script_read.specs.declared.Script.{Script}
+use Rattle.hwp_script_words.specs.declared.Command.TheVariants as commands
+use Rattle.hwp_script_words.specs.declared.Script.{Script}
 use Rattle.hwp_report_text.specs.declared.Answer.TheVariants as answers
 use Rattle.hwp_report_text.specs.declared.CpuLine.{CpuLine}
 use Rattle.hwp_report_text.specs.declared.CpuLine.TheVariants as lines

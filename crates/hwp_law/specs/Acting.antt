@@ -1,11 +1,11 @@
 -- The script that the processors of a report acted on: each command through the translations that stood for those it names. The law judges
 -- a report by it.
 use Rattle.std.specs.Prelude.{ℕ, ◌+◌, List, [], ◌∷◌, ◌++◌, Option, option_and_then, slice_get, unwrap_or}
-use Rattle.hwp_script_read.specs.hwp_geom.declared.Layout.{Layout}
-use Rattle.hwp_script_read.specs.hwp_geom.declared.VSlot.{VSlot}
-use Rattle.hwp_script_read.specs.hwp_geom.declared.Who.{Who}
-use Rattle.hwp_script_read.specs.declared.Command.{Command}
-use Rattle.hwp_script_read.specs.declared.Script.{Script}
+use Rattle.hwp_script_words.specs.hwp_geom.declared.Layout.{Layout}
+use Rattle.hwp_script_words.specs.hwp_geom.declared.VSlot.{VSlot}
+use Rattle.hwp_script_words.specs.hwp_geom.declared.Who.{Who}
+use Rattle.hwp_script_words.specs.declared.Command.{Command}
+use Rattle.hwp_script_words.specs.declared.Script.{Script}
 use Rattle.hwp_report_text.specs.declared.Answer.{Answer}
 use Rattle.hwp_report_text.specs.declared.CpuLine.{CpuLine}
 use Rattle.hwp_report_text.specs.declared.Report.{Report}

@@ -1,12 +1,12 @@
 -- The event lines of one machine check.
 use Rattle.std.specs.Prelude.{◌≡◌, ◌⊎◌, ℕ, nat_le, Bool, true, not, ◌||◌, List, [], ◌∷◌, None, MatchBool, Contains}
-use Rattle.hwp_script_read.specs.hwp_geom.declared.Who.{Who}
+use Rattle.hwp_script_words.specs.hwp_geom.declared.Who.{Who}
 use Rattle.hwp_report_text.specs.hwp_banks.declared.Event.{Event}
 use Rattle.hwp_report_text.specs.hwp_banks.Addresses.{frame_at}
 use Rattle.hwp_report_text.specs.hwp_severity.declared.Severity.{Severity}
 use Rattle.hwp_report_text.specs.hwp_severity.declared.Severity.TheVariants as severities
 use Rattle.hwp_report_text.specs.hwp_severity.Graded.{graded}
-use Rattle.hwp_script_read.specs.declared.Script.{Script}
+use Rattle.hwp_script_words.specs.declared.Script.{Script}
 use Rattle.hwp_report_text.specs.declared.Acted.{Acted}
 use Rattle.hwp_report_text.specs.declared.Acted.TheVariants as acts
 use Rattle.hwp_report_text.specs.declared.EventLine.{EventLine}

@@ -4,13 +4,13 @@ use Rattle.std.specs.Prelude.{◌≡◌, ◌⊎◌, ℕ, ◌+◌, ◌<◌, ◌==
 use Rattle.std.specs.Int.{from_bool}
 use Rattle.std.specs.List.{range_with_len}
 use Rattle.std.specs.Option.{option_map_or}
-use Rattle.hwp_script_read.specs.hwp_geom.Limits.{line_limit}
-use Rattle.hwp_script_read.specs.hwp_geom.declared.Layout.{Layout}
-use Rattle.hwp_script_read.specs.hwp_geom.declared.Page.{Page}
-use Rattle.hwp_script_read.specs.hwp_geom.declared.Thread.{Thread}
-use Rattle.hwp_script_read.specs.hwp_geom.declared.TransDecl.{TransDecl}
-use Rattle.hwp_script_read.specs.hwp_geom.declared.VSlot.{VSlot}
-use Rattle.hwp_script_read.specs.hwp_geom.declared.Who.{Who}
+use Rattle.hwp_script_words.specs.hwp_geom.Limits.{line_limit}
+use Rattle.hwp_script_words.specs.hwp_geom.declared.Layout.{Layout}
+use Rattle.hwp_script_words.specs.hwp_geom.declared.Page.{Page}
+use Rattle.hwp_script_words.specs.hwp_geom.declared.Thread.{Thread}
+use Rattle.hwp_script_words.specs.hwp_geom.declared.TransDecl.{TransDecl}
+use Rattle.hwp_script_words.specs.hwp_geom.declared.VSlot.{VSlot}
+use Rattle.hwp_script_words.specs.hwp_geom.declared.Who.{Who}
 use Rattle.hwp_report_text.specs.hwp_page.declared.At.{At}
 use Rattle.hwp_report_text.specs.hwp_page.declared.Entry.{Entry}
 use Rattle.hwp_report_text.specs.hwp_page.declared.Met.TheVariants.{Sigbus}
@@ -20,8 +20,8 @@ use Rattle.hwp_report_text.specs.hwp_page.Step.{IsOf}
 use Rattle.hwp_report_text.specs.declared.Answer.TheVariants as answers
 use Rattle.hwp_report_text.specs.declared.CpuLine.{CpuLine}
 use Rattle.hwp_report_text.specs.declared.Report.{Report}
-use Rattle.hwp_script_read.specs.declared.Command.{Command}
-use Rattle.hwp_script_read.specs.declared.Command.TheVariants as commands
+use Rattle.hwp_script_words.specs.declared.Command.{Command}
+use Rattle.hwp_script_words.specs.declared.Command.TheVariants as commands
 use Rattle.hwp_law.specs.Answers.{IsNamed, is_answering}
 use Rattle.hwp_law.specs.History.{IsMetBy}
 use Rattle.hwp_law.specs.Lines.{answer_of, is_same_command}

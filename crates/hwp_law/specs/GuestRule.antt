@@ -5,14 +5,14 @@ use Rattle.std.specs.Prelude.{ℕ, ◌==◌, Bool, true, false, List, [], Option
 use Rattle.std.specs.List.{cons_option}
 use Rattle.std.specs.Option.{option_map_or}
 use Rattle.std.specs.FinSet as set
-use Rattle.hwp_script_read.specs.hwp_geom.Layout.{is_guest}
-use Rattle.hwp_script_read.specs.hwp_geom.declared.Layout.{Layout}
-use Rattle.hwp_script_read.specs.hwp_geom.declared.Mode.{Mode}
-use Rattle.hwp_script_read.specs.hwp_geom.declared.Proc.{Proc}
-use Rattle.hwp_script_read.specs.hwp_geom.declared.Thread.{Thread}
-use Rattle.hwp_script_read.specs.hwp_geom.declared.VSlot.{VSlot}
-use Rattle.hwp_script_read.specs.declared.Command.{Command}
-use Rattle.hwp_script_read.specs.declared.Command.TheVariants as commands
+use Rattle.hwp_script_words.specs.hwp_geom.Layout.{is_guest}
+use Rattle.hwp_script_words.specs.hwp_geom.declared.Layout.{Layout}
+use Rattle.hwp_script_words.specs.hwp_geom.declared.Mode.{Mode}
+use Rattle.hwp_script_words.specs.hwp_geom.declared.Proc.{Proc}
+use Rattle.hwp_script_words.specs.hwp_geom.declared.Thread.{Thread}
+use Rattle.hwp_script_words.specs.hwp_geom.declared.VSlot.{VSlot}
+use Rattle.hwp_script_words.specs.declared.Command.{Command}
+use Rattle.hwp_script_words.specs.declared.Command.TheVariants as commands
 use Rattle.hwp_report_text.specs.hwp_banks.Addresses.{line_address}
 use Rattle.hwp_report_text.specs.hwp_banks.Events.{bank_of, line_misc, own_status}
 use Rattle.hwp_report_text.specs.hwp_banks.declared.Origin.TheVariants as origins

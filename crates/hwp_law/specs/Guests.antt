@@ -1,12 +1,12 @@
 -- The accesses of guests: which answers say that one wasn't admitted, and which lines tell a guest of one that was answered by SIGBUS. They are
 -- read of the script's own commands, not of those that are acted on.
 use Rattle.std.specs.Prelude.{◌≡◌, ◌≢◌, ◌⊎◌, List, [], Option, Some, None}
-use Rattle.hwp_script_read.specs.hwp_geom.declared.Layout.{Layout}
-use Rattle.hwp_script_read.specs.hwp_geom.declared.Who.{Who}
+use Rattle.hwp_script_words.specs.hwp_geom.declared.Layout.{Layout}
+use Rattle.hwp_script_words.specs.hwp_geom.declared.Who.{Who}
 use Rattle.hwp_report_text.specs.hwp_page.declared.At.{At}
 use Rattle.hwp_report_text.specs.hwp_page.declared.Entry.{Entry}
-use Rattle.hwp_script_read.specs.declared.Command.{Command}
-use Rattle.hwp_script_read.specs.declared.Script.{Script}
+use Rattle.hwp_script_words.specs.declared.Command.{Command}
+use Rattle.hwp_script_words.specs.declared.Script.{Script}
 use Rattle.hwp_report_text.specs.declared.Answer.{Answer}
 use Rattle.hwp_report_text.specs.declared.Answer.TheVariants as answers
 use Rattle.hwp_report_text.specs.declared.Report.{Report}

@@ -1,9 +1,9 @@
 -- When the histories of a report are legal.
 use Rattle.std.specs.Prelude.{◌≡◌, ℕ, ◌<◌, ◌≤◌, List, Some, IsSomeAnd}
-use Rattle.hwp_script_read.specs.hwp_geom.declared.Layout.{Layout}
-use Rattle.hwp_script_read.specs.hwp_geom.declared.Page.{Page}
-use Rattle.hwp_script_read.specs.hwp_geom.declared.Thread.{Thread}
-use Rattle.hwp_script_read.specs.hwp_geom.declared.VSlot.{VSlot}
+use Rattle.hwp_script_words.specs.hwp_geom.declared.Layout.{Layout}
+use Rattle.hwp_script_words.specs.hwp_geom.declared.Page.{Page}
+use Rattle.hwp_script_words.specs.hwp_geom.declared.Thread.{Thread}
+use Rattle.hwp_script_words.specs.hwp_geom.declared.VSlot.{VSlot}
 use Rattle.hwp_report_text.specs.hwp_page.declared.At.{At}
 use Rattle.hwp_report_text.specs.hwp_page.declared.Entry.{Entry}
 use Rattle.hwp_report_text.specs.hwp_page.declared.What.{What}
@@ -11,9 +11,9 @@ use Rattle.hwp_report_text.specs.hwp_page.declared.What.TheVariants as entries
 use Rattle.hwp_report_text.specs.hwp_page.declared.Met.{Met}
 use Rattle.hwp_report_text.specs.hwp_page.declared.Met.TheVariants.{Word, Sigbus}
 use Rattle.hwp_report_text.specs.hwp_page.Step.{IsOf}
-use Rattle.hwp_script_read.specs.declared.Command.{Command}
-use Rattle.hwp_script_read.specs.declared.Command.TheVariants as commands
-use Rattle.hwp_script_read.specs.declared.Script.{Script}
+use Rattle.hwp_script_words.specs.declared.Command.{Command}
+use Rattle.hwp_script_words.specs.declared.Command.TheVariants as commands
+use Rattle.hwp_script_words.specs.declared.Script.{Script}
 use Rattle.hwp_law.specs.Commands.{command_at}
 use Rattle.hwp_law.specs.Places.{entry_at}
 

@@ -1,13 +1,13 @@
 -- The whole law of a report, of all commands: also where memory fails, machine checks come and the machine stops.
 use Rattle.std.specs.Prelude.{◌≡◌, Bool, List, Option, Some, length, slice_get}
-use Rattle.hwp_script_read.specs.hwp_geom.declared.Cpu.{Cpu}
-use Rattle.hwp_script_read.specs.hwp_geom.declared.Frame.{Frame}
-use Rattle.hwp_script_read.specs.hwp_geom.declared.Page.{Page}
-use Rattle.hwp_script_read.specs.hwp_geom.declared.VSlot.{VSlot}
-use Rattle.hwp_script_read.specs.hwp_geom.declared.Who.{Who}
+use Rattle.hwp_script_words.specs.hwp_geom.declared.Cpu.{Cpu}
+use Rattle.hwp_script_words.specs.hwp_geom.declared.Frame.{Frame}
+use Rattle.hwp_script_words.specs.hwp_geom.declared.Page.{Page}
+use Rattle.hwp_script_words.specs.hwp_geom.declared.VSlot.{VSlot}
+use Rattle.hwp_script_words.specs.hwp_geom.declared.Who.{Who}
 use Rattle.hwp_report_text.specs.hwp_page.declared.Entry.{Entry}
-use Rattle.hwp_script_read.specs.declared.Command.{Command}
-use Rattle.hwp_script_read.specs.declared.Script.{Script}
+use Rattle.hwp_script_words.specs.declared.Command.{Command}
+use Rattle.hwp_script_words.specs.declared.Script.{Script}
 use Rattle.hwp_report_text.specs.declared.CpuLine.{CpuLine}
 use Rattle.hwp_report_text.specs.declared.FrameLine.{FrameLine}
 use Rattle.hwp_report_text.specs.declared.Report.{Report}

@@ -32,12 +32,11 @@ pub mod Guests
 pub mod Offlined
 pub mod Law
 pub use Rattle.hwp_report_text.specs.hwp_banks as hwp_banks
-pub use Rattle.hwp_script_read.specs.hwp_script_lines.hwp_cec as hwp_cec
-pub use Rattle.hwp_script_read.specs.hwp_geom as hwp_geom
+pub use Rattle.hwp_script_words.specs.hwp_cec as hwp_cec
+pub use Rattle.hwp_script_words.specs.hwp_geom as hwp_geom
 pub use Rattle.hwp_report_text.specs.hwp_guest as hwp_guest
 pub use Rattle.hwp_report_text.specs.hwp_kill as hwp_kill
 pub use Rattle.hwp_report_text.specs.hwp_page as hwp_page
 pub use Rattle.hwp_report_text.specs as hwp_report_text
-pub use Rattle.hwp_script_read.specs.hwp_script_lines as hwp_script_lines
-pub use Rattle.hwp_script_read.specs as hwp_script_read
+pub use Rattle.hwp_script_words.specs as hwp_script_words
 pub use Rattle.hwp_report_text.specs.hwp_severity as hwp_severity

@@ -1,8 +1,8 @@
 -- The lines of a report: what a processor's lines say of one command, and what a frame's line says.
 use Rattle.std.specs.Prelude.{ℕ, zero, suc, ◌+◌, ◌==◌, ◌&&◌, Bool, List, [], ◌∷◌, Option, Some, None, filter, filter_map, length, slice_get, option_map, unwrap_or}
 use Rattle.std.specs.List.{find, zip}
-use Rattle.hwp_script_read.specs.hwp_geom.declared.Who.{Who}
-use Rattle.hwp_script_read.specs.declared.Command.{Command}
+use Rattle.hwp_script_words.specs.hwp_geom.declared.Who.{Who}
+use Rattle.hwp_script_words.specs.declared.Command.{Command}
 use Rattle.hwp_report_text.specs.declared.Answer.{Answer}
 use Rattle.hwp_report_text.specs.declared.Answer.TheVariants as answers
 use Rattle.hwp_report_text.specs.declared.CpuLine.{CpuLine}

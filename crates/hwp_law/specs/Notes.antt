@@ -1,8 +1,8 @@
 -- Which frames the event lines of a command note for the collector of corrected errors, and in which order. This project's rule.
 use Rattle.std.specs.Prelude.{◌≡◌, ◌==◌, nat_lt, Bool, true, false, not, ◌&&◌, ◌||◌, List, [], ◌∷◌, flat_map, filter_map, Option, Some, None, if◌then◌else◌}
 use Rattle.std.specs.List.{list_any}
-use Rattle.hwp_script_read.specs.hwp_geom.declared.Frame.{Frame}
-use Rattle.hwp_script_read.specs.hwp_geom.declared.Layout.{Layout}
+use Rattle.hwp_script_words.specs.hwp_geom.declared.Frame.{Frame}
+use Rattle.hwp_script_words.specs.hwp_geom.declared.Layout.{Layout}
 use Rattle.hwp_report_text.specs.hwp_banks.Addresses.{frame_at}
 use Rattle.hwp_report_text.specs.hwp_banks.Status.{is_addr_valid}
 use Rattle.hwp_report_text.specs.declared.EventLine.{EventLine}

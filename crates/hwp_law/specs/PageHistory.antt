@@ -1,7 +1,7 @@
 -- When the history of a page is that of a state, and one frame says where the page is.
 use Rattle.std.specs.Prelude.{◌≡◌, Bool, false, cond, ◌==◌, List, count_by}
-use Rattle.hwp_script_read.specs.hwp_geom.declared.Layout.{Layout}
-use Rattle.hwp_script_read.specs.hwp_geom.declared.Page.{Page}
+use Rattle.hwp_script_words.specs.hwp_geom.declared.Layout.{Layout}
+use Rattle.hwp_script_words.specs.hwp_geom.declared.Page.{Page}
 use Rattle.hwp_report_text.specs.hwp_page.declared.Entry.{Entry}
 use Rattle.hwp_report_text.specs.hwp_page.declared.PageState.{PageState}
 use Rattle.hwp_report_text.specs.hwp_page.History.{IsReplay}

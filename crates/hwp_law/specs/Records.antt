@@ -1,7 +1,7 @@
 -- The records of frames: how often each was poisoned and unpoisoned, by which command, and what each mark has beside it.
 use Rattle.std.specs.Prelude.{◌≡◌, ℕ, ◌/◌, ◌%◌, ◌<◌, ◌≤◌, ◌==◌, ◌&&◌, not, Bool, true, false, List, Option, Some, None, is_some, fold, length, take, filter, filter_map, slice_get}
-use Rattle.hwp_script_read.specs.hwp_geom.declared.Frame.{Frame}
-use Rattle.hwp_script_read.specs.hwp_geom.declared.Who.{Who}
+use Rattle.hwp_script_words.specs.hwp_geom.declared.Frame.{Frame}
+use Rattle.hwp_script_words.specs.hwp_geom.declared.Who.{Who}
 use Rattle.hwp_report_text.specs.hwp_banks.Addresses.{frame_at}
 use Rattle.hwp_report_text.specs.hwp_page.declared.Outcome.{Outcome}
 use Rattle.hwp_report_text.specs.hwp_page.declared.Outcome.TheVariants as outcomes
@@ -9,8 +9,8 @@ use Rattle.hwp_report_text.specs.hwp_page.declared.Situation.{Situation}
 use Rattle.hwp_report_text.specs.hwp_page.declared.Situation.TheVariants as situations
 use Rattle.hwp_report_text.specs.hwp_page.Orders.{IsEarlier}
 use Rattle.hwp_report_text.specs.hwp_page.Situations.{outcome_of}
-use Rattle.hwp_script_read.specs.declared.Command.TheVariants as commands
-use Rattle.hwp_script_read.specs.declared.Script.{Script}
+use Rattle.hwp_script_words.specs.declared.Command.TheVariants as commands
+use Rattle.hwp_script_words.specs.declared.Script.{Script}
 use Rattle.hwp_report_text.specs.declared.Acted.{Acted}
 use Rattle.hwp_report_text.specs.declared.Acted.TheVariants as acts
 use Rattle.hwp_report_text.specs.declared.Answer.{Answer}

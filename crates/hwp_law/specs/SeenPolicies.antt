@@ -1,17 +1,17 @@
 -- The policies that a failure's entry lists as seen.
 use Rattle.std.specs.Prelude.{◌≡◌, ℕ, ◌<◌, ◌≤◌, List, [], Option, Some, length, slice_get, take, option_and_then, option_map, unwrap_or, Contains}
-use Rattle.hwp_script_read.specs.hwp_geom.declared.Cpu.{Cpu}
-use Rattle.hwp_script_read.specs.hwp_geom.declared.Thread.{Thread}
-use Rattle.hwp_script_read.specs.hwp_geom.declared.ThreadDecl.{ThreadDecl}
-use Rattle.hwp_script_read.specs.hwp_geom.declared.Who.{Who}
+use Rattle.hwp_script_words.specs.hwp_geom.declared.Cpu.{Cpu}
+use Rattle.hwp_script_words.specs.hwp_geom.declared.Thread.{Thread}
+use Rattle.hwp_script_words.specs.hwp_geom.declared.ThreadDecl.{ThreadDecl}
+use Rattle.hwp_script_words.specs.hwp_geom.declared.Who.{Who}
 use Rattle.hwp_report_text.specs.hwp_kill.declared.Policy.{Policy}
 use Rattle.hwp_report_text.specs.hwp_kill.declared.Seen.{Seen}
 use Rattle.hwp_report_text.specs.hwp_page.declared.At.{At}
 use Rattle.hwp_report_text.specs.hwp_page.declared.Entry.{Entry}
 use Rattle.hwp_report_text.specs.hwp_page.declared.What.{What}
 use Rattle.hwp_report_text.specs.hwp_page.declared.What.TheVariants as entries
-use Rattle.hwp_script_read.specs.declared.Command.{Command}
-use Rattle.hwp_script_read.specs.declared.Script.{Script}
+use Rattle.hwp_script_words.specs.declared.Command.{Command}
+use Rattle.hwp_script_words.specs.declared.Script.{Script}
 use Rattle.hwp_report_text.specs.declared.Answer.{Answer}
 use Rattle.hwp_report_text.specs.declared.Report.{Report}
 use Rattle.hwp_law.specs.Places.{entry_at}

@@ -2,15 +2,15 @@
 -- whose arguments set a policy, or a fork that makes the thread's process, which gives it the policy that the forking thread has then.
 use Rattle.std.specs.Prelude.{ℕ, ◌==◌, cond, List, [], ◌∷◌, ◌++◌, Option, Some, None, fold}
 use Rattle.std.specs.List.{cons_option}
-use Rattle.hwp_script_read.specs.hwp_geom.declared.Layout.{Layout}
-use Rattle.hwp_script_read.specs.hwp_geom.declared.Thread.{Thread}
+use Rattle.hwp_script_words.specs.hwp_geom.declared.Layout.{Layout}
+use Rattle.hwp_script_words.specs.hwp_geom.declared.Thread.{Thread}
 use Rattle.hwp_report_text.specs.hwp_kill.declared.Policy.{Policy}
 use Rattle.hwp_report_text.specs.hwp_kill.declared.Policy.TheVariants.{Default}
 use Rattle.hwp_report_text.specs.hwp_kill.Prctl.{policy_set}
-use Rattle.hwp_script_read.specs.Forks.{is_thread_of}
-use Rattle.hwp_script_read.specs.declared.PrctlArgs.{PrctlArgs}
-use Rattle.hwp_script_read.specs.declared.Command.{Command}
-use Rattle.hwp_script_read.specs.declared.Command.TheVariants as commands
+use Rattle.hwp_script_words.specs.Forks.{is_thread_of}
+use Rattle.hwp_script_words.specs.declared.PrctlArgs.{PrctlArgs}
+use Rattle.hwp_script_words.specs.declared.Command.{Command}
+use Rattle.hwp_script_words.specs.declared.Command.TheVariants as commands
 use Rattle.hwp_report_text.specs.declared.Answer.{Answer}
 use Rattle.hwp_report_text.specs.declared.Answer.TheVariants as answers
 

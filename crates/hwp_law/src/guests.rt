@@ -2,7 +2,7 @@ ghost use Rattle.std.specs.Prelude.{◌≡◌};
 ghost use Rattle.hwp_law.specs.GuestRule.{access_by, guest_access};
 
 use hwp_report_text::Access;
-use hwp_script_read::{Command, Layout, Line, Mode, Proc, Thread, VSlot};
+use hwp_script_words::{Command, Layout, Line, Mode, Proc, Thread, VSlot};
 
 /// An access by a thread of a guest: the guest, the translation, which is its guest frame, the line, whether it is a fetch, and the
 /// processor's mode (this project's rule).

@@ -13,8 +13,8 @@ pub use hwp_report_text::{
     Outcome, PageState, Policy, Reply, Report, Seen, Severity, Signal, Situation, Slots, Stop,
     StopCause, Taken, Version, What, Whereabouts, grade, handle, policy_word, prctl, print,
 };
-pub use hwp_script_read::{
+pub use hwp_script_words::{
     Collector, Command, Cpu, FileNo, Frame, Layout, Line, List, MAX_SCRIPT, Mask, Mode, Noted,
-    OutOfMemory, Page, PageKind, PrctlArgs, Proc, ReadScript, Script, Text, Thread, ThreadDecl,
-    VSlot, Who, is_text, kind_name, read, read_number, words_in,
+    OutOfMemory, Page, PageKind, PrctlArgs, Proc, Script, Text, Thread, ThreadDecl, VSlot, Who,
+    is_text, read_number, words_in,
 };

@@ -16,7 +16,7 @@ use Rattle.hwp_plain.proofs.of_hwp_core_rule.tasks.StepLeaves.{content_of}
 use Rattle.hwp_plain.specs.hwp_core_rule.Known.{deeds}
 use Rattle.hwp_cpu_row.specs.hwp_claim_act.Abandoned.{failed_in}
 use Rattle.hwp_cpu_row.specs.hwp_claim_frame.Done.{marking_of}
-use Rattle.hwp_law.specs.hwp_script_read.declared.Command.{Command}
+use Rattle.hwp_law.specs.hwp_script_words.declared.Command.{Command}
 use Rattle.hwp_law.specs.hwp_report_text.declared.Answer.{Answer}
 use Rattle.hwp_cpu_row.specs.declared.Row.{Row}
 use Rattle.hwp_law_served.specs.Accounts.{IsAccounted, is_same}

@@ -34,8 +34,8 @@ use Rattle.hwp_plain.proofs.of_hwp_core_rule.tasks.MadeEntries.{has-made-stays, 
 use Rattle.hwp_plain.proofs.of_hwp_core_rule.tasks.SightKeeps.{saw-bad-of-stays, saw-state-stays, saw-stays}
 use Rattle.hwp_soft.specs.hwp_soft_move.Seizes.{SawKernel}
 use Rattle.hwp_soft.proofs.SpareSteps.{free-stays}
-use Rattle.hwp_law.specs.hwp_script_read.declared.Command.{Command}
-use Rattle.hwp_law.specs.hwp_script_read.declared.Command.TheVariants as commands
+use Rattle.hwp_law.specs.hwp_script_words.declared.Command.{Command}
+use Rattle.hwp_law.specs.hwp_script_words.declared.Command.TheVariants as commands
 use Rattle.hwp_law.specs.hwp_report_text.declared.Answer.{Answer}
 use Rattle.hwp_law.specs.hwp_report_text.declared.Answer.TheVariants as answers
 use Rattle.hwp_law.specs.hwp_report_text.declared.OfflineResult.{OfflineResult}

@@ -8,7 +8,7 @@ use Rattle.hwp_law.specs.hwp_geom.declared.Who.{Who}
 use Rattle.hwp_plain.specs.hwp_core_rule.declared.View.{View}
 use Rattle.hwp_plain.proofs.of_hwp_core_rule.Lists.{at_push}
 use Rattle.hwp_plain.specs.hwp_core_rule.Known.{HasMadeNone}
-use Rattle.hwp_law.specs.hwp_script_read.declared.Command.{Command}
+use Rattle.hwp_law.specs.hwp_script_words.declared.Command.{Command}
 use Rattle.hwp_law.specs.hwp_report_text.declared.Answer.{Answer}
 use Rattle.hwp_law.specs.GuestRule.{denied}
 use Rattle.hwp_cpu_row.specs.declared.Row.{Row}

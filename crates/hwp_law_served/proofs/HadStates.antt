@@ -13,7 +13,7 @@ use Rattle.hwp_plain.specs.hwp_core_rule.declared.View.{View}
 use Rattle.hwp_plain.specs.hwp_core_rule.Logs.{state_of}
 use Rattle.hwp_plain.specs.hwp_core_rule.Boards.{view_of}
 use Rattle.hwp_plain.specs.hwp_core_rule.Pages.{SawState}
-use Rattle.hwp_law.specs.hwp_script_read.declared.Script.{Script}
+use Rattle.hwp_law.specs.hwp_script_words.declared.Script.{Script}
 use Rattle.hwp_law.specs.hwp_report_text.declared.Report.{Report}
 use Rattle.hwp_law.specs.States.{HadState}
 use Rattle.hwp_law_served.proofs.Reported.{seen-had}

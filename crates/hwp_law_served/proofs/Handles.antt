@@ -12,7 +12,7 @@ use Rattle.hwp_plain.proofs.of_hwp_core_rule.Lists.{at_last}
 use Rattle.hwp_plain.specs.hwp_core_rule.Calls.{CanMake, Steps, logs}
 use Rattle.hwp_plain.proofs.of_hwp_core_rule.tasks.LossCovers.{covers-stays}
 use Rattle.hwp_plain.proofs.of_hwp_core_rule.tasks.SightKeeps.{saw-stays}
-use Rattle.hwp_law.specs.hwp_script_read.declared.Command.{Command}
+use Rattle.hwp_law.specs.hwp_script_words.declared.Command.{Command}
 use Rattle.hwp_law.specs.hwp_report_text.declared.Answer.{Answer}
 use Rattle.hwp_law.specs.Losses.{number_by, numbers_after, tells_number}
 use Rattle.hwp_cpu_row.specs.declared.Row.{Row}

@@ -17,9 +17,9 @@ use Rattle.hwp_plain.specs.hwp_core_rule.Rule.{Holds}
 use Rattle.hwp_plain.specs.hwp_core_rule.parts.Holdings.{HoldsNothing}
 use Rattle.hwp_plain.proofs.of_hwp_core_rule.Lists.{each-weaken}
 use Rattle.hwp_plain.specs.hwp_core_rule.Boards.{Played, view_of}
-use Rattle.hwp_law.specs.hwp_script_read.declared.Command.{Command}
-use Rattle.hwp_law.specs.hwp_script_read.declared.Command.TheVariants as commands
-use Rattle.hwp_law.specs.hwp_script_read.declared.Script.{Script}
+use Rattle.hwp_law.specs.hwp_script_words.declared.Command.{Command}
+use Rattle.hwp_law.specs.hwp_script_words.declared.Command.TheVariants as commands
+use Rattle.hwp_law.specs.hwp_script_words.declared.Script.{Script}
 use Rattle.hwp_law.specs.hwp_report_text.declared.Answer.{Answer}
 use Rattle.hwp_law.specs.hwp_report_text.declared.Answer.TheVariants as answers
 use Rattle.hwp_law.specs.hwp_report_text.declared.CpuLine.{CpuLine}

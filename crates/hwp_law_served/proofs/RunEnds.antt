@@ -18,8 +18,8 @@ use Rattle.hwp_plain.proofs.of_hwp_core_rule.Lists.{at_map}
 use Rattle.hwp_plain.proofs.of_hwp_core_rule.NotLater.{one-view}
 use Rattle.hwp_plain.specs.hwp_core_rule.Boards.{AreSeated, view_of}
 use Rattle.hwp_plain.specs.hwp_core_rule.Known.{deeds, is_by}
-use Rattle.hwp_law.specs.hwp_script_read.declared.Command.{Command}
-use Rattle.hwp_law.specs.hwp_script_read.declared.Script.{Script}
+use Rattle.hwp_law.specs.hwp_script_words.declared.Command.{Command}
+use Rattle.hwp_law.specs.hwp_script_words.declared.Script.{Script}
 use Rattle.hwp_law.specs.hwp_report_text.declared.Answer.{Answer}
 use Rattle.hwp_law.specs.hwp_report_text.declared.CpuLine.{CpuLine}
 use Rattle.hwp_law.specs.hwp_report_text.declared.Report.{Report}

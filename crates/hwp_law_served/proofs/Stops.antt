@@ -13,8 +13,8 @@ use Rattle.hwp_plain.specs.hwp_core_rule.Words.{words_of}
 use Rattle.hwp_plain.proofs.of_hwp_core_rule.Lists.{at_map, map-was}
 use Rattle.hwp_plain.specs.hwp_core_rule.Boards.{view_of}
 use Rattle.hwp_plain.specs.hwp_core_rule.Known.{SawStop}
-use Rattle.hwp_law.specs.hwp_script_read.declared.Command.{Command}
-use Rattle.hwp_law.specs.hwp_script_read.declared.Script.{Script}
+use Rattle.hwp_law.specs.hwp_script_words.declared.Command.{Command}
+use Rattle.hwp_law.specs.hwp_script_words.declared.Script.{Script}
 use Rattle.hwp_law.specs.hwp_report_text.declared.Report.{Report}
 use Rattle.hwp_law.specs.hwp_report_text.declared.Stop.{Stop}
 use Rattle.hwp_cpu_row.specs.declared.Row.{Row}

@@ -9,15 +9,14 @@ use Rattle.hwp_plain.specs.hwp_core_rule.declared.Length.{Length}
 use Rattle.hwp_plain.specs.hwp_core_rule.declared.Log.{Log}
 use Rattle.hwp_plain.specs.hwp_core_rule.declared.State.{State}
 use Rattle.hwp_plain.specs.hwp_core_rule.Boards.{view_of}
-use Rattle.hwp_law.specs.hwp_script_read.declared.Script.{Script}
+use Rattle.hwp_law.specs.hwp_script_words.declared.Script.{Script}
 use Rattle.hwp_law.specs.hwp_report_text.declared.Answer.{Answer}
 use Rattle.hwp_law.specs.hwp_report_text.declared.CpuLine.{CpuLine}
 use Rattle.hwp_law.specs.hwp_report_text.declared.CpuLine.TheVariants as lines
 use Rattle.hwp_law.specs.hwp_report_text.declared.Report.{Report}
 use Rattle.hwp_law.specs.Answers.{AreInWindows}
-use Rattle.hwp_law.specs.States.{place_named, state_named}
+use Rattle.hwp_law.specs.States.{place_named, state_named, IsInWindow}
 use Rattle.hwp_law.specs.Commands.{command_at}
-use Rattle.hwp_law.specs.States.{IsInWindow}
 use Rattle.hwp_cpu_row.specs.declared.Row.{Row}
 use Rattle.hwp_law_served.proofs.Homes.{there-is}
 use Rattle.hwp_law_served.proofs.Reported.{before-later, listed-entry, not-below-seen, past-earlier}

@@ -17,8 +17,8 @@ use Rattle.hwp_plain.specs.hwp_core_rule.Known.{deeds}
 use Rattle.hwp_cpu_row.specs.hwp_claim_act.declared.Failed.{Failed}
 use Rattle.hwp_cpu_row.specs.hwp_claim_act.Abandoned as abandoned
 use Rattle.hwp_cpu_row.specs.hwp_claim_frame.Done.{Marking, marking_of, poisoning}
-use Rattle.hwp_law.specs.hwp_script_read.declared.Command.{Command}
-use Rattle.hwp_law.specs.hwp_script_read.declared.Command.TheVariants as commands
+use Rattle.hwp_law.specs.hwp_script_words.declared.Command.{Command}
+use Rattle.hwp_law.specs.hwp_script_words.declared.Command.TheVariants as commands
 use Rattle.hwp_law.specs.hwp_report_text.declared.Answer.{Answer}
 use Rattle.hwp_law.specs.hwp_report_text.declared.Answer.TheVariants as answers
 use Rattle.hwp_law.specs.hwp_report_text.declared.How.{How}

@@ -32,8 +32,8 @@ use Rattle.hwp_plain.specs.hwp_words.Frames.{count_of, is_poisoned}
 use Rattle.hwp_plain.specs.hwp_core_rule.Lists.{SomeMember}
 use Rattle.hwp_plain.specs.hwp_core_rule.Known.{HasMade, HasMadeNone, HasOnly, IsOnTheWay, Precedes, Saw, SawBadOf, SawStop, is_failure}
 use Rattle.hwp_plain.specs.hwp_core_rule.Pages.{SawState}
-use Rattle.hwp_law.specs.hwp_script_read.declared.Command.{Command}
-use Rattle.hwp_law.specs.hwp_script_read.declared.Command.TheVariants as commands
+use Rattle.hwp_law.specs.hwp_script_words.declared.Command.{Command}
+use Rattle.hwp_law.specs.hwp_script_words.declared.Command.TheVariants as commands
 use Rattle.hwp_law.specs.hwp_report_text.declared.Answer.{Answer}
 use Rattle.hwp_law.specs.hwp_report_text.declared.Answer.TheVariants as answers
 use Rattle.hwp_law.specs.hwp_banks.Banks.{Banks}

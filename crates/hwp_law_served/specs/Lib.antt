@@ -31,8 +31,7 @@ pub use Rattle.hwp_law.specs as hwp_law
 pub use Rattle.hwp_law.specs.hwp_page as hwp_page
 pub use Rattle.hwp_plain.specs as hwp_plain
 pub use Rattle.hwp_law.specs.hwp_report_text as hwp_report_text
-pub use Rattle.hwp_law.specs.hwp_script_lines as hwp_script_lines
-pub use Rattle.hwp_law.specs.hwp_script_read as hwp_script_read
+pub use Rattle.hwp_law.specs.hwp_script_words as hwp_script_words
 pub use Rattle.hwp_scrub.specs as hwp_scrub
 pub use Rattle.hwp_law.specs.hwp_severity as hwp_severity
 pub use Rattle.hwp_soft.specs as hwp_soft

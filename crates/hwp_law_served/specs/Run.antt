@@ -6,7 +6,7 @@ use Rattle.hwp_plain.specs.hwp_core_rule.Rule.{Holds}
 use Rattle.hwp_plain.specs.hwp_core_rule.Boards.{AreSeated, Played}
 use Rattle.hwp_plain.specs.hwp_core_rule.Turns.{Member}
 use Rattle.hwp_plain.specs.Order.{InOrder, Running, running}
-use Rattle.hwp_law.specs.hwp_script_read.declared.Script.{Script}
+use Rattle.hwp_law.specs.hwp_script_words.declared.Script.{Script}
 use Rattle.hwp_law.specs.hwp_report_text.declared.Report.{Report}
 use Rattle.hwp_law.specs.Acting.{acting_script, copied_at}
 use Rattle.hwp_law_served.specs.Ends.{EndsWith}

@@ -15,9 +15,9 @@ use Rattle.hwp_plain.specs.hwp_core_rule.Opening.{opening}
 use Rattle.hwp_plain.specs.hwp_core_rule.Rule.{Holds}
 use Rattle.hwp_plain.specs.hwp_core_rule.Boards.{AreSeated, Played, view_of}
 use Rattle.hwp_plain.specs.hwp_core_rule.Ranks.{Pending, words_at}
-use Rattle.hwp_law.specs.hwp_script_read.declared.Command.{Command}
-use Rattle.hwp_law.specs.hwp_script_read.declared.Command.TheVariants as commands
-use Rattle.hwp_law.specs.hwp_script_read.declared.Script.{Script}
+use Rattle.hwp_law.specs.hwp_script_words.declared.Command.{Command}
+use Rattle.hwp_law.specs.hwp_script_words.declared.Command.TheVariants as commands
+use Rattle.hwp_law.specs.hwp_script_words.declared.Script.{Script}
 use Rattle.hwp_law.specs.hwp_report_text.declared.CpuLine.{CpuLine}
 use Rattle.hwp_law.specs.hwp_report_text.declared.FrameLine.{FrameLine}
 use Rattle.hwp_law.specs.hwp_report_text.declared.MarkLine.{MarkLine}

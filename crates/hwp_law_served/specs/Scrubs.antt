@@ -13,8 +13,8 @@ use Rattle.hwp_plain.specs.hwp_core_rule.declared.SharedWord.{SharedWord}
 use Rattle.hwp_plain.specs.hwp_core_rule.declared.SharedWord.TheVariants as places
 use Rattle.hwp_plain.specs.hwp_core_rule.Lists.{SomeMember}
 use Rattle.hwp_plain.specs.hwp_core_rule.Boards.{Played}
-use Rattle.hwp_law.specs.hwp_script_read.declared.Command.TheVariants as commands
-use Rattle.hwp_law.specs.hwp_script_read.declared.Script.{Script}
+use Rattle.hwp_law.specs.hwp_script_words.declared.Command.TheVariants as commands
+use Rattle.hwp_law.specs.hwp_script_words.declared.Script.{Script}
 use Rattle.hwp_law.specs.hwp_report_text.declared.Answer.TheVariants as answers
 use Rattle.hwp_law.specs.hwp_report_text.declared.EventLine.{EventLine}
 use Rattle.hwp_law.specs.hwp_report_text.declared.Report.{Report}

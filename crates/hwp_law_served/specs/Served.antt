@@ -19,8 +19,8 @@ use Rattle.hwp_plain.specs.hwp_core_rule.Lists.{EachMember}
 use Rattle.hwp_plain.specs.hwp_core_rule.parts.Holdings.{HoldsNothing}
 use Rattle.hwp_plain.specs.hwp_core_rule.parts.Policies.{settings_of}
 use Rattle.hwp_plain.specs.hwp_core_rule.Known.{Saw}
-use Rattle.hwp_law.specs.hwp_script_read.declared.Command.{Command}
-use Rattle.hwp_law.specs.hwp_script_read.declared.Command.TheVariants as commands
+use Rattle.hwp_law.specs.hwp_script_words.declared.Command.{Command}
+use Rattle.hwp_law.specs.hwp_script_words.declared.Command.TheVariants as commands
 use Rattle.hwp_law.specs.hwp_report_text.declared.Answer.{Answer}
 use Rattle.hwp_law.specs.hwp_report_text.declared.Answer.TheVariants as answers
 use Rattle.hwp_law.specs.hwp_banks.Banks.{Banks, empty_banks}

@@ -11,15 +11,14 @@ use Rattle.hwp_law.specs.hwp_banks.declared.Origin.{Origin}
 use Rattle.hwp_law.specs.hwp_banks.declared.Origin.TheVariants as origins
 use Rattle.hwp_plain.specs.hwp_core_rule.declared.View.{View}
 use Rattle.hwp_plain.specs.hwp_core_rule.Known.{such_deeds}
-use Rattle.hwp_law.specs.hwp_script_read.declared.Command.{Command}
-use Rattle.hwp_law.specs.hwp_script_read.declared.Command.TheVariants as commands
+use Rattle.hwp_law.specs.hwp_script_words.declared.Command.{Command}
+use Rattle.hwp_law.specs.hwp_script_words.declared.Command.TheVariants as commands
 use Rattle.hwp_law.specs.hwp_report_text.declared.Answer.{Answer}
 use Rattle.hwp_law.specs.hwp_report_text.declared.Answer.TheVariants as answers
-use Rattle.hwp_law.specs.hwp_banks.Banks.{Banks, empty_banks}
+use Rattle.hwp_law.specs.hwp_banks.Banks.{Banks, empty_banks, raw_event}
 use Rattle.hwp_law.specs.Commands.{arrival_of, is_check}
 use Rattle.hwp_law.specs.hwp_severity.declared.Arrival.{Arrival}
 use Rattle.hwp_law.specs.Events.{logged_if_done}
-use Rattle.hwp_law.specs.hwp_banks.Banks.{raw_event}
 use Rattle.hwp_cpu_row.specs.declared.Row.{Row}
 use Rattle.hwp_cpu_row.specs.hwp_claim.declared.EventOutcome.{EventOutcome}
 use Rattle.hwp_cpu_row.specs.hwp_claim.Checks.{AreChecks, Check, IsActedOn, left_by, lines_of}

@@ -4,10 +4,10 @@ use Rattle.std.specs.Prelude.{slice_index}
 use Rattle.std.proofs.lemmas.Bool.{both_ways, cases_lt}
 use Rattle.std.proofs.lemmas.Option.{slice_get-get_or}
 use Rattle.std.proofs.lemmas.List.{get_or_past}
-use Rattle.hwp_script_read.specs.hwp_geom.declared.Cpu.{Cpu}
-use Rattle.hwp_script_read.specs.hwp_geom.declared.Frame.{Frame}
-use Rattle.hwp_script_read.specs.hwp_geom.declared.Layout.{Layout}
-use Rattle.hwp_script_read.specs.hwp_geom.Layout.{IsSound}
+use Rattle.hwp_script_words.specs.hwp_geom.declared.Cpu.{Cpu}
+use Rattle.hwp_script_words.specs.hwp_geom.declared.Frame.{Frame}
+use Rattle.hwp_script_words.specs.hwp_geom.declared.Layout.{Layout}
+use Rattle.hwp_script_words.specs.hwp_geom.Layout.{IsSound}
 use Rattle.hwp_core_rule.specs.hwp_words.Frames.{is_poisoned}
 use Rattle.hwp_core_rule.specs.Opening.{opening, opening_frame}
 use Rattle.hwp_core_rule.proofs.WordsOpen.{opening-frames, frame-opened}

@@ -23,5 +23,3 @@ mod StepKinds
 mod LineTells
 pub mod ToldTurns
 pub use Rattle.hwp_core_rule.proofs as of_hwp_core_rule
-pub use Rattle.hwp_script_read.proofs.of_hwp_script_lines as of_hwp_script_lines
-pub use Rattle.hwp_script_read.proofs as of_hwp_script_read

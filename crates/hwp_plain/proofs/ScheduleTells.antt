@@ -1,7 +1,7 @@
 -- The turns so far, and what they come to when they go on.
 use Rattle.std.proofs.Common.{◌≡◌, ℕ, ◌+◌, ◌<◌, ◌≤◌, inl, inr, List, [], ◌∷◌, ◌++◌, length, take, get_or, refl, sym, ap, ◌∙◌, subst, append_assoc}
 use Rattle.std.proofs.lemmas.List.{append-nil, take_more, take_all}
-use Rattle.hwp_script_read.specs.declared.Go.{Go}
+use Rattle.hwp_script_words.specs.declared.Go.{Go}
 use Rattle.hwp_core_rule.specs.Boards.{Played}
 use Rattle.hwp_core_rule.specs.Turns.{Member}
 use Rattle.hwp_plain.specs.Order.{Running, IsOver, AreOver, TurnOf, EndsWord, told_of, Word, Schedule, levels, IsChosen, Finishing, InOrder, logged, Grows}

@@ -3,9 +3,9 @@ use Rattle.std.proofs.Common.{◌≡◌, ℕ, ◌<◌, ◌≤◌, ◌⊎◌, inl
 use Rattle.std.proofs.lemmas.Bool.{cases_lt}
 use Rattle.std.proofs.lemmas.List.{get_or_past}
 use Rattle.std.proofs.lemmas.Option.{slice_get-get_or}
-use Rattle.hwp_script_read.specs.hwp_geom.declared.Layout.{Layout}
-use Rattle.hwp_script_read.specs.hwp_geom.Layout.{IsSound}
-use Rattle.hwp_script_read.specs.hwp_geom.Limits.{cpu_limit}
+use Rattle.hwp_script_words.specs.hwp_geom.declared.Layout.{Layout}
+use Rattle.hwp_script_words.specs.hwp_geom.Layout.{IsSound}
+use Rattle.hwp_script_words.specs.hwp_geom.Limits.{cpu_limit}
 use Rattle.hwp_core_rule.specs.declared.Part.{Part}
 use Rattle.hwp_core_rule.specs.declared.View.{View}
 use Rattle.hwp_core_rule.specs.Lists.{SomeMember}

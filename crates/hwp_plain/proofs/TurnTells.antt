@@ -3,16 +3,16 @@ use Rattle.std.proofs.Common.{◌≡◌, ◌≢◌, ℕ, ◌<◌, ◌⊎◌, inl
 use Rattle.std.proofs.lemmas.Bool.{cases_eq}
 use Rattle.std.proofs.lemmas.List.{get_or-set_same, get_or-set_other, length-map, length-set, set-get_or}
 use Rattle.std.proofs.Math.Seq.{take-set-lt}
-use Rattle.hwp_script_read.specs.hwp_geom.declared.Cpu.{Cpu}
-use Rattle.hwp_script_read.specs.hwp_geom.declared.Kind.{Kind}
-use Rattle.hwp_script_read.specs.hwp_geom.declared.Layout.{Layout}
+use Rattle.hwp_script_words.specs.hwp_geom.declared.Cpu.{Cpu}
+use Rattle.hwp_script_words.specs.hwp_geom.declared.Kind.{Kind}
+use Rattle.hwp_script_words.specs.hwp_geom.declared.Layout.{Layout}
 use Rattle.hwp_core_rule.specs.declared.State.{State}
 use Rattle.hwp_core_rule.specs.declared.Step.{Step}
 use Rattle.hwp_core_rule.specs.Rule.{Holds}
-use Rattle.hwp_script_read.specs.hwp_geom.Limits.{cpu_limit}
-use Rattle.hwp_script_read.specs.declared.Go.{Go}
-use Rattle.hwp_script_read.specs.declared.Until.{Until}
-use Rattle.hwp_script_read.specs.declared.Until.TheVariants as untils
+use Rattle.hwp_script_words.specs.hwp_geom.Limits.{cpu_limit}
+use Rattle.hwp_script_words.specs.declared.Go.{Go}
+use Rattle.hwp_script_words.specs.declared.Until.{Until}
+use Rattle.hwp_script_words.specs.declared.Until.TheVariants as untils
 use Rattle.hwp_core_rule.specs.declared.Turn.{Turn}
 use Rattle.hwp_core_rule.specs.declared.Turn.TheVariants as turns
 use Rattle.hwp_core_rule.specs.Boards.{Played, TakesTurn, TakesTurnBy, view_of, AreSeated}

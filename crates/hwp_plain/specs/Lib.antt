@@ -12,6 +12,5 @@ pub mod Traced
 pub use Rattle.hwp_core_rule.specs as hwp_core_rule
 pub use Rattle.hwp_core_rule.specs.hwp_geom as hwp_geom
 pub use Rattle.hwp_core_rule.specs.hwp_page as hwp_page
-pub use Rattle.hwp_script_read.specs.hwp_script_lines as hwp_script_lines
-pub use Rattle.hwp_script_read.specs as hwp_script_read
+pub use Rattle.hwp_script_words.specs as hwp_script_words
 pub use Rattle.hwp_core_rule.specs.hwp_words as hwp_words

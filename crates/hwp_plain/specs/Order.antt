@@ -1,13 +1,13 @@
 -- The order of turns: the schedule's words, and then the finishing order.
 use Rattle.std.specs.Prelude.{◌≡◌, ℕ, ◌<◌, ◌≤◌, ◌⊎◌, List, [], ◌∷◌, ◌++◌, map, length, get_or, set, Option, Some, None}
-use Rattle.hwp_script_read.specs.hwp_geom.declared.Cpu.{Cpu}
-use Rattle.hwp_script_read.specs.hwp_geom.declared.Kind.{Kind}
-use Rattle.hwp_script_read.specs.hwp_geom.declared.Layout.{Layout}
+use Rattle.hwp_script_words.specs.hwp_geom.declared.Cpu.{Cpu}
+use Rattle.hwp_script_words.specs.hwp_geom.declared.Kind.{Kind}
+use Rattle.hwp_script_words.specs.hwp_geom.declared.Layout.{Layout}
 use Rattle.hwp_core_rule.specs.declared.State.{State}
 use Rattle.hwp_core_rule.specs.Steps.{kind_of}
-use Rattle.hwp_script_read.specs.declared.Go.{Go}
-use Rattle.hwp_script_read.specs.declared.Until.{Until}
-use Rattle.hwp_script_read.specs.declared.Until.TheVariants as untils
+use Rattle.hwp_script_words.specs.declared.Go.{Go}
+use Rattle.hwp_script_words.specs.declared.Until.{Until}
+use Rattle.hwp_script_words.specs.declared.Until.TheVariants as untils
 use Rattle.hwp_core_rule.specs.declared.Turn.{Turn}
 use Rattle.hwp_core_rule.specs.declared.Turn.TheVariants as turns
 use Rattle.hwp_core_rule.specs.Boards.{Played}

@@ -1,8 +1,8 @@
 -- What a scheduler asks of tasks and board, and what it keeps between turns.
 use Rattle.std.specs.Prelude.{◌≡◌, ◌≢◌, ℕ, ◌<◌, ◌≤◌, ◌⊎◌, List, ◌∷◌, length, take, get_or, set, Option, Some, None}
-use Rattle.hwp_script_read.specs.hwp_geom.declared.Frame.{Frame}
-use Rattle.hwp_script_read.specs.hwp_geom.declared.Kind.{Kind}
-use Rattle.hwp_script_read.specs.hwp_geom.Limits.{cpu_limit}
+use Rattle.hwp_script_words.specs.hwp_geom.declared.Frame.{Frame}
+use Rattle.hwp_script_words.specs.hwp_geom.declared.Kind.{Kind}
+use Rattle.hwp_script_words.specs.hwp_geom.Limits.{cpu_limit}
 use Rattle.hwp_core_rule.specs.Rule.{Holds}
 use Rattle.hwp_core_rule.specs.declared.Turn.{Turn}
 use Rattle.hwp_core_rule.specs.declared.Turn.TheVariants as turns

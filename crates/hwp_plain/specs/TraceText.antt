@@ -22,7 +22,7 @@ use Rattle.hwp_core_rule.specs.declared.SharedWord.{SharedWord}
 use Rattle.hwp_core_rule.specs.declared.SharedWord.TheVariants as places
 use Rattle.hwp_core_rule.specs.declared.Turn.{Turn}
 use Rattle.hwp_core_rule.specs.declared.Turn.TheVariants as turns
-use Rattle.hwp_script_read.specs.hwp_script_lines.Kinds.{kind_text}
+use Rattle.hwp_script_words.specs.Kinds.{kind_text}
 use Rattle.hwp_core_rule.specs.hwp_kill.Prctl.{policy_word}
 use Rattle.hwp_plain.specs.declared.trace_line.TraceLine.{TraceLine}
 

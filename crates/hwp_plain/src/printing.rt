@@ -1,6 +1,6 @@
 ghost use Rattle.std.specs.Prelude.{◌≡◌, [], ◌∷◌, ◌++◌, IfOk, OnOk, string_bytes, codes, decimal};
 ghost use Rattle.std.specs.List.{enumerate_from, flat_map};
-ghost use Rattle.hwp_script_read.specs.hwp_script_lines.Kinds.{kind_text};
+ghost use Rattle.hwp_script_words.specs.Kinds.{kind_text};
 ghost use Rattle.hwp_core_rule.specs.hwp_geom.Words.{line};
 ghost use Rattle.hwp_plain.specs.TraceText.{change_words, place_words, spaced, trace_text, turn_line, turn_word};
 
@@ -8,7 +8,7 @@ use crate::line_words::{put_named, put_word};
 use crate::trace_line::TraceLine;
 use crate::values::put_value;
 use hwp_core_rule::{Kind, OutOfMemory, SharedWord, Text, Turn, Who};
-use hwp_script_read::kind_name;
+use hwp_script_words::kind_name;
 use std::alloc::Global;
 
 /// The one text of a trace.

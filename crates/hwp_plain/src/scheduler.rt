@@ -1,12 +1,12 @@
 ghost use Rattle.std.specs.Prelude.{◌≡◌, ◌≢◌, Some, None, ℕ, ◌<◌, ◌≤◌, ◌↔◌, List, length, map, take, All, IfOk, OnOk, OnErr, IsTrue};
-ghost use Rattle.hwp_script_read.specs.hwp_geom.Limits.{cpu_limit};
-ghost use Rattle.hwp_script_read.specs.declared.Go.{Go as GoOf};
+ghost use Rattle.hwp_script_words.specs.hwp_geom.Limits.{cpu_limit};
+ghost use Rattle.hwp_script_words.specs.declared.Go.{Go as GoOf};
 ghost use Rattle.hwp_core_rule.specs.Classes.{IsScheduled};
 ghost use Rattle.hwp_plain.specs.Order.{running, IsNoMemory, EndsCommand, EndsWord, Word, Finishing, InOrder, Grows, IsRefused, AreOver};
 ghost use Rattle.hwp_plain.specs.Ready.{IsCrew, InPlay, Ready, TurnOrNone, TurnOrOver, IsFinished, IsNext};
 
 use hwp_core_rule::{Board, Scheduled, Turn, is_over};
-use hwp_script_read::{Cpu, Go, Kind, MAX_CPUS, OutOfMemory, Until};
+use hwp_script_words::{Cpu, Go, Kind, MAX_CPUS, OutOfMemory, Until};
 use std::alloc::AllocError;
 
 /// The level of a task that was found to be over, above all classes.

@@ -9,4 +9,4 @@ pub mod Counts
 pub mod SummaryText
 pub use Rattle.hwp_report_text.specs.hwp_geom as hwp_geom
 pub use Rattle.hwp_report_text.specs as hwp_report_text
-pub use Rattle.hwp_report_words.specs.hwp_script_lines as hwp_script_lines
+pub use Rattle.hwp_report_words.specs.hwp_script_words as hwp_script_words

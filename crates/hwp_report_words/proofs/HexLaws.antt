@@ -8,7 +8,7 @@ use Rattle.std.proofs.lemmas.Fmt.{digits_is_IsNumeral}
 use Rattle.std.proofs.lemmas.List.{take_all, take_more}
 use Rattle.std.proofs.lemmas.List.Elements.{All-nil, All-cons, All-get_or}
 use Rattle.std.proofs.Math.Nat.{pow-le-pow_right}
-use Rattle.hwp_script_lines.specs.hwp_geom.Words.{hex}
+use Rattle.hwp_script_words.specs.hwp_geom.Words.{hex}
 
 -- the digits of n in front of others
 abbrev onto : ℕ → ℕ → List ℕ → List ℕ

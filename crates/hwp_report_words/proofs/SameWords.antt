@@ -2,12 +2,12 @@
 use Rattle.std.proofs.Common.{◌≡◌, ℕ, ◌+◌, ◌*◌, ◌<◌, ◌^◌, Bool, true, false, List, [], ◌∷◌, get_or, decimal, refl, sym, ap, ◌∙◌, arith}
 use Rattle.std.proofs.lemmas.Fmt.{decimal_injective, digits_is_IsNumeral}
 use Rattle.std.specs.Str.Parse.{digits_value}
-use Rattle.hwp_script_lines.specs.hwp_geom.Words.{hex}
-use Rattle.hwp_script_lines.specs.hwp_geom.declared.Mode.{Mode}
-use Rattle.hwp_script_lines.specs.hwp_geom.declared.Mode.TheVariants as modes
-use Rattle.hwp_script_lines.specs.hwp_geom.declared.Version.{Version}
-use Rattle.hwp_script_lines.specs.hwp_geom.declared.Version.TheVariants as versions
-use Rattle.hwp_script_lines.specs.hwp_geom.declared.Who.{Who}
+use Rattle.hwp_script_words.specs.hwp_geom.Words.{hex}
+use Rattle.hwp_script_words.specs.hwp_geom.declared.Mode.{Mode}
+use Rattle.hwp_script_words.specs.hwp_geom.declared.Mode.TheVariants as modes
+use Rattle.hwp_script_words.specs.hwp_geom.declared.Version.{Version}
+use Rattle.hwp_script_words.specs.hwp_geom.declared.Version.TheVariants as versions
+use Rattle.hwp_script_words.specs.hwp_geom.declared.Who.{Who}
 use Rattle.hwp_report_text.specs.hwp_kill.declared.Policy.{Policy}
 use Rattle.hwp_report_text.specs.hwp_kill.declared.Policy.TheVariants as policies
 use Rattle.hwp_report_text.specs.hwp_kill.declared.Code.{Code}

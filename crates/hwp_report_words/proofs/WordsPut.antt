@@ -1,11 +1,11 @@
 -- What is printed of a number, and of a value that has a name, is a word: it isn't empty, and has no space or line feed in it.
 use Rattle.std.proofs.Common.{ℕ, ◌<◌, ◌≤◌, ◌^◌, Bool, true, false, [], ◌∷◌, decimal, refl, arith}
-use Rattle.hwp_script_lines.specs.hwp_geom.declared.Mode.{Mode}
-use Rattle.hwp_script_lines.specs.hwp_geom.declared.Mode.TheVariants as modes
-use Rattle.hwp_script_lines.specs.hwp_geom.declared.Version.{Version}
-use Rattle.hwp_script_lines.specs.hwp_geom.declared.Version.TheVariants as versions
-use Rattle.hwp_script_lines.specs.hwp_geom.Words.{hex}
-use Rattle.hwp_script_lines.proofs.of_hwp_geom.WordsPut.{IsPut, ArePut, put_decimal, put_hex, fixed, then, nothing}
+use Rattle.hwp_script_words.specs.hwp_geom.declared.Mode.{Mode}
+use Rattle.hwp_script_words.specs.hwp_geom.declared.Mode.TheVariants as modes
+use Rattle.hwp_script_words.specs.hwp_geom.declared.Version.{Version}
+use Rattle.hwp_script_words.specs.hwp_geom.declared.Version.TheVariants as versions
+use Rattle.hwp_script_words.specs.hwp_geom.Words.{hex}
+use Rattle.hwp_script_words.proofs.of_hwp_geom.WordsPut.{IsPut, ArePut, put_decimal, put_hex, fixed, then, nothing}
 use Rattle.hwp_report_text.specs.hwp_kill.declared.Policy.{Policy}
 use Rattle.hwp_report_text.specs.hwp_kill.declared.Policy.TheVariants as policies
 use Rattle.hwp_report_text.specs.hwp_kill.declared.Code.{Code}

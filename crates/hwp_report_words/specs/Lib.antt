@@ -4,4 +4,4 @@ pub mod Answers
 pub mod Fits
 pub mod LineWords
 pub mod pages
-pub use Rattle.hwp_script_lines.specs as hwp_script_lines
+pub use Rattle.hwp_script_words.specs as hwp_script_words

@@ -1,6 +1,6 @@
 -- The words of what stands in several kinds of line.
 use Rattle.std.specs.Prelude.{ℕ, ◌^◌, ◌<◌, List, [], ◌∷◌, decimal}
-use Rattle.hwp_script_lines.specs.hwp_geom.declared.Who.{Who}
+use Rattle.hwp_script_words.specs.hwp_geom.declared.Who.{Who}
 use Rattle.hwp_report_text.specs.hwp_page.declared.At.{At}
 
 -- a processor, and the number of its command

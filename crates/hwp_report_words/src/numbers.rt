@@ -1,7 +1,7 @@
 ghost use Rattle.std.specs.Prelude.{◌≡◌, ◌≢◌, ◌^◌, ◌<◌, ◌≤◌, ◌↔◌, [], ◌∷◌, false, length, slice_index, decimal, IsTrue};
 ghost use Rattle.std.specs.Fmt.{digit_glyph};
-ghost use Rattle.hwp_script_lines.specs.hwp_geom.Limits.{line_limit};
-ghost use Rattle.hwp_script_lines.specs.hwp_geom.Words.{hex};
+ghost use Rattle.hwp_script_words.specs.hwp_geom.Limits.{line_limit};
+ghost use Rattle.hwp_script_words.specs.hwp_geom.Words.{hex};
 ghost use Rattle.hwp_report_words.specs.Reads.{IsReadAs, Below};
 ghost use Rattle.hwp_report_words.specs.Words.{AtFits, WhoFits, at_words, who_words};
 
@@ -18,7 +18,7 @@ pub fn is_text(word: &[u8], text: &str) -> bool
 pub fn read_number(word: &[u8]) -> Option<u64>
     ensures { IsReadAs (Below (2 ^ 64)) decimal word.now result }
 {
-    hwp_script_lines::read_number(word)
+    hwp_script_words::read_number(word)
 }
 
 /// The number that a word is, where it is below a bound.

@@ -1,7 +1,7 @@
 -- When no reason applies to a line, kind by kind.
 use Rattle.std.proofs.Common.{ℕ, Bool, true, false, ◌≡◌, ◌<◌, ◌≤◌, ◌+◌, List, [], length, inl, inr, arith, Option, None, Some}
 use Rattle.std.specs.Prelude.{Contains, IsSome}
-use Rattle.hwp_script_read.specs.Limits.{schedule_limit}
+use Rattle.hwp_script_read.specs.hwp_script_words.Limits.{schedule_limit}
 use Rattle.hwp_script_read.specs.hwp_geom.Limits.{command_limit, cpu_limit_of, frame_limit_of, page_limit_of, translation_limit_of}
 use Rattle.hwp_script_read.specs.hwp_geom.declared.Version.{Version}
 use Rattle.hwp_script_read.specs.Context.{version_in, cpus_in, kernel_in, recovery_in, early_in, lists_in, commands_in, go_in}

@@ -9,8 +9,8 @@ use Rattle.hwp_script_read.specs.hwp_geom.declared.Thread.{Thread}
 use Rattle.hwp_script_read.specs.hwp_geom.declared.VSlot.{VSlot}
 use Rattle.hwp_script_read.specs.hwp_script_lines.declared.Command.{Command}
 use Rattle.hwp_script_read.specs.hwp_script_lines.declared.Command.TheVariants as commands
-use Rattle.hwp_script_read.specs.Reasons.{IsNewer}
-use Rattle.hwp_script_read.specs.Valid.{HasWords, IsAccess, IsAnon, IsCommandOf, IsFile}
+use Rattle.hwp_script_read.specs.hwp_script_words.Commands.{IsNewer}
+use Rattle.hwp_script_read.specs.hwp_script_words.Valid.{HasWords, IsAccess, IsAnon, IsCommandOf, IsFile}
 use Rattle.rand_pcg.specs.Lcg.{Lcg}
 use Rattle.hwp_script.specs.Commands.{accessed, called, chosen, chosen_access, chosen_change, chosen_failure, command, frame_at, marred, numbered, page_at, scrub_of, slot_at, stored, thread_at}
 use Rattle.hwp_script.specs.Draws.{after, drawn, word}

@@ -18,7 +18,7 @@ use Rattle.hwp_script_read.specs.hwp_script_lines.declared.ScriptLine.{ScriptLin
 use Rattle.hwp_script_read.specs.hwp_script_lines.declared.ScriptLine.TheVariants as forms
 use Rattle.hwp_script_read.specs.Context.{version_in, pages_in, trans_in, twins_in, slot_of}
 use Rattle.hwp_script_read.specs.Reasons.{IsClean, IsNoAnonPage, IsNoPair}
-use Rattle.hwp_script_read.specs.Valid.{IsAnon, ArePaired, IsTwinFit, AreTwinsFit}
+use Rattle.hwp_script_read.specs.hwp_script_words.Valid.{IsAnon, ArePaired, IsTwinFit, AreTwinsFit}
 use Rattle.hwp_script_read.proofs.CleanLaws.{IsCowClean, trans_most}
 use Rattle.hwp_script_read.proofs.CollectLaws.{other}
 use Rattle.hwp_script_read.proofs.TwinLaws.{IsNone, clash, found, same_slot, twin_declared}

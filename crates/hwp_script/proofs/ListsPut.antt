@@ -21,11 +21,12 @@ use Rattle.hwp_script_read.specs.hwp_script_lines.declared.ScriptLine.{ScriptLin
 use Rattle.hwp_script_read.specs.hwp_script_lines.declared.ScriptLine.TheVariants as forms
 use Rattle.hwp_script_read.specs.hwp_script_lines.declared.Command.{Command}
 use Rattle.hwp_script_read.specs.hwp_script_lines.declared.Command.TheVariants as commands
-use Rattle.hwp_script_read.specs.Context.{version_in, cpus_in, frames_in, files_in, procs_in, threads_in, pages_in, locked_in, trans_in, twins_in, guests_in, names_in, lists_in, commands_in, place_in}
+use Rattle.hwp_script_read.specs.Context.{version_in, cpus_in, frames_in, files_in, procs_in, threads_in, pages_in, locked_in, trans_in, twins_in, guests_in, names_in, lists_in, commands_in, place_in, is_again}
 use Rattle.hwp_script_read.specs.Collects.{command_at, commands_from, commands_of}
-use Rattle.hwp_script_read.specs.Forks.{actor, is_again, is_wrong_fork, names_twin}
-use Rattle.hwp_script_read.specs.Reasons.{IsClean, IsNewer, IsBeyond, IsForeign, IsNoFilePage, IsNoAnonPage, IsUndeclared, IsElsewhere}
-use Rattle.hwp_script_read.specs.Valid.{IsThreadOf, IsAccess, IsFile, IsAnon, IsCommandOf, AreLists, HasWords, NamesNoTwin, AreForksFit}
+use Rattle.hwp_script_read.specs.hwp_script_words.Forks.{actor, is_wrong_fork, names_twin}
+use Rattle.hwp_script_read.specs.Reasons.{IsClean, IsBeyond, IsForeign, IsNoFilePage, IsNoAnonPage, IsUndeclared, IsElsewhere}
+use Rattle.hwp_script_read.specs.hwp_script_words.Commands.{IsNewer}
+use Rattle.hwp_script_read.specs.hwp_script_words.Valid.{IsThreadOf, IsAccess, IsFile, IsAnon, IsCommandOf, AreLists, HasWords, NamesNoTwin, AreForksFit}
 use Rattle.hwp_script_read.proofs.CleanLaws.{cpu_most}
 use Rattle.hwp_script_read.proofs.CollectLaws.{commands_of-push, no_command, same, other}
 use Rattle.hwp_script_read.proofs.TwinLaws.{bare, clash}

@@ -12,10 +12,11 @@ use Rattle.hwp_script_read.specs.hwp_geom.Words.{IsWord, IsLine, hex, pieces}
 use Rattle.hwp_script_read.specs.hwp_geom.Pairs.{Pairs}
 use Rattle.hwp_script_read.proofs.of_hwp_geom.Cuts.{joined, differs, none_is, pieces-line, cut-joined_line}
 use Rattle.hwp_script_read.proofs.of_hwp_geom.WordsPut.{IsHigh, IsPut, ArePut, put_word}
-use Rattle.hwp_script_read.specs.hwp_script_lines.Kinds.{kind_text}
+use Rattle.hwp_script_read.specs.hwp_script_words.Kinds.{kind_text}
 use Rattle.hwp_script_read.specs.hwp_script_lines.Numbers.{IsRegister, register}
 use Rattle.hwp_script_read.specs.hwp_script_lines.Grammar.{rest_words, form_words, turn_text, until_text, turn_pieces, pieces_of, command_words, CommandFits, IsTurn, AreRestWords, AreCommandWords, IsForm}
-use Rattle.hwp_script_read.specs.hwp_script_lines.Lines.{words_of, is_comment, is_skipped, numbered_from, IsNumbered, AreLinesOf}
+use Rattle.hwp_script_read.specs.hwp_script_words.Words.{words_of}
+use Rattle.hwp_script_read.specs.hwp_script_lines.Lines.{is_comment, is_skipped, numbered_from, IsNumbered, AreLinesOf}
 use Rattle.hwp_script.specs.Printed.{forms_text}
 use Rattle.hwp_script_read.specs.hwp_script_lines.declared.ScriptLine.{ScriptLine}
 use Rattle.hwp_script_read.specs.hwp_script_lines.declared.Command.{Command}

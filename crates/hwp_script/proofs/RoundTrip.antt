@@ -15,10 +15,10 @@ use Rattle.hwp_script_read.specs.hwp_script_lines.declared.ScriptLine.TheVariant
 use Rattle.hwp_script_read.specs.declared.Script.{Script}
 use Rattle.hwp_script_read.specs.Context.{cpus_in, commands_in, place_after}
 use Rattle.hwp_script_read.specs.Collects.{Collects, IsEnded, commands_of, commands_from}
-use Rattle.hwp_script_read.specs.Limits.{script_limit}
+use Rattle.hwp_script_read.specs.hwp_script_words.Limits.{script_limit}
 use Rattle.hwp_script_read.specs.Reads.{Reads}
-use Rattle.hwp_script_read.specs.Valid.{AreGuestsFit, AreTwinsFit, IsValid, HasFill}
-use Rattle.hwp_script_read.specs.Forks.{is_fork_of}
+use Rattle.hwp_script_read.specs.hwp_script_words.Valid.{AreGuestsFit, AreTwinsFit, IsValid, HasFill}
+use Rattle.hwp_script_read.specs.hwp_script_words.Forks.{is_fork_of}
 use Rattle.hwp_script_read.specs.hwp_script_lines.declared.Command.{Command}
 use Rattle.hwp_script_read.proofs.TwinLaws.{IsNone}
 use Rattle.hwp_script_read.proofs.GuestLaws.{IsNot, fit_layout}

@@ -7,7 +7,7 @@ use Rattle.std.proofs.lemmas.List.Elements.{All-head, All-tail, All-take, All-dr
 use Rattle.hwp_script_read.specs.hwp_geom.Limits.{cpu_limit, cpu_limit_of}
 use Rattle.hwp_script_read.specs.hwp_script_lines.declared.ScriptLine.{ScriptLine}
 use Rattle.hwp_script_read.specs.hwp_script_lines.declared.Go.{Go}
-use Rattle.hwp_script_read.specs.Limits.{schedule_limit}
+use Rattle.hwp_script_read.specs.hwp_script_words.Limits.{schedule_limit}
 use Rattle.hwp_script_read.specs.Context.{version_in, cpus_in, go_in}
 use Rattle.hwp_script_read.specs.Reasons.{IsClean, top_cpu}
 use Rattle.hwp_script_read.proofs.CleanLaws.{cpu_most}

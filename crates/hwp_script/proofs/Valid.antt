@@ -17,9 +17,9 @@ use Rattle.hwp_script_read.specs.hwp_geom.Layout.{IsBacked, IsSound, IsTwinDecla
 use Rattle.hwp_script_read.specs.hwp_script_lines.declared.Command.{Command}
 use Rattle.hwp_script_read.specs.hwp_script_lines.declared.Command.TheVariants as commands
 use Rattle.hwp_script_read.specs.hwp_script_lines.declared.Go.{Go}
-use Rattle.hwp_script_read.specs.Reasons.{IsNewer}
-use Rattle.hwp_script_read.specs.Forks.{is_fork_of, is_wrong_fork, slot_named}
-use Rattle.hwp_script_read.specs.Valid.{AreForksFit, AreLists, HasFill, HasWords, IsCommandOf, IsEachForkedOnce, IsValid, NamesNoTwin}
+use Rattle.hwp_script_read.specs.hwp_script_words.Commands.{IsNewer}
+use Rattle.hwp_script_read.specs.hwp_script_words.Forks.{is_fork_of, is_wrong_fork, slot_named}
+use Rattle.hwp_script_read.specs.hwp_script_words.Valid.{AreForksFit, AreLists, HasFill, HasWords, IsCommandOf, IsEachForkedOnce, IsValid, NamesNoTwin}
 use Rattle.hwp_script_read.proofs.TallyLaws.{one_fork, sum-weight, total, total-sum, weight}
 use Rattle.hwp_script_read.proofs.TwinLaws.{IsNone, none_at, none_fit}
 use Rattle.hwp_script_read.proofs.GuestLaws.{IsNot, layout_fit, nobody_fit}

@@ -15,7 +15,7 @@ use Rattle.hwp_script_read.specs.hwp_geom.declared.Kind.{Kind}
 use Rattle.hwp_script_read.specs.hwp_geom.declared.Kind.TheVariants as kinds
 use Rattle.hwp_script_read.proofs.of_hwp_geom.WordsPut.{IsHigh, IsPut, ArePut, put_append, put_decimal, put_hex, are_fixed, fixed_high, fixed, then, nothing}
 use Rattle.hwp_script_read.specs.hwp_script_lines.hwp_cec.Limits.{threshold_limit, window_limit}
-use Rattle.hwp_script_read.specs.hwp_script_lines.Kinds.{kind_text}
+use Rattle.hwp_script_read.specs.hwp_script_words.Kinds.{kind_text}
 use Rattle.hwp_script_read.specs.hwp_script_lines.Numbers.{register}
 use Rattle.hwp_script_read.specs.hwp_script_lines.Grammar.{bit, keyword, keyword_text, command_words, rest_words, form_words, locked_words, handler_text, turn_text, until_text, Fits, CommandFits}
 use Rattle.hwp_script_read.specs.Context.{words_of as turns_in}

@@ -2,8 +2,8 @@ ghost use Rattle.std.specs.Prelude.{◌≡◌, ◌∷◌, ◌++◌, [], Bool, On
 ghost use Rattle.hwp_script_read.specs.hwp_geom.Words.{line};
 ghost use Rattle.hwp_script_read.specs.hwp_script_lines.Grammar.{form_words};
 ghost use Rattle.hwp_script.specs.Printed.{forms_text};
-ghost use Rattle.hwp_script_read.specs.Limits.{script_limit};
-ghost use Rattle.hwp_script_read.specs.Valid.{IsValid};
+ghost use Rattle.hwp_script_read.specs.hwp_script_words.Limits.{script_limit};
+ghost use Rattle.hwp_script_read.specs.hwp_script_words.Valid.{IsValid};
 ghost use Rattle.hwp_script.specs.Round.{IsTextOf};
 ghost use Rattle.hwp_script.specs.Text.{backing_of, head_forms, kernel_forms, setting_forms, thread_forms, guest_forms, page_forms, trans_forms, cow_forms, list_forms, go_row, numbered, counted, file_form, proc_form, rows_of, script_text};
 

@@ -1,5 +1,5 @@
 ghost use Rattle.std.specs.Prelude.{◌≡◌, ◌<◌, IfOk};
-ghost use Rattle.hwp_script_read.specs.Valid.{IsValid};
+ghost use Rattle.hwp_script_read.specs.hwp_script_words.Valid.{IsValid};
 ghost use Rattle.hwp_script.specs.Commands.{command};
 ghost use Rattle.hwp_script.specs.Generated.{commands_of, generated, go, lists, many};
 

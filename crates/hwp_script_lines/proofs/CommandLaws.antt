@@ -5,14 +5,15 @@ use Rattle.std.specs.Str.Parse.{digits_value}
 use Rattle.std.proofs.lemmas.Fmt.{decimal_is_IsNumeral}
 use Rattle.std.proofs.lemmas.List.{get_or-map, length-map}
 use Rattle.std.proofs.lemmas.List.Elements.{All-from_recursion, All-same, All-get_or}
-use Rattle.hwp_geom.specs.Limits.{number, line_limit, frame_limit, file_limit, process_limit, thread_limit, page_limit, translation_limit}
-use Rattle.hwp_geom.specs.declared.Version.{Version}
-use Rattle.hwp_geom.specs.declared.Version.TheVariants as versions
-use Rattle.hwp_cec.specs.Limits.{threshold_limit, window_limit}
-use Rattle.hwp_script_lines.specs.Numbers.{IsNumber, IsNumberWord, IsRegister}
+use Rattle.hwp_script_words.specs.hwp_geom.Limits.{number, line_limit, frame_limit, file_limit, process_limit, thread_limit, page_limit, translation_limit}
+use Rattle.hwp_script_words.specs.hwp_geom.declared.Version.{Version}
+use Rattle.hwp_script_words.specs.hwp_geom.declared.Version.TheVariants as versions
+use Rattle.hwp_script_words.specs.hwp_cec.Limits.{threshold_limit, window_limit}
+use Rattle.hwp_script_words.specs.Numbers.{IsNumber, IsNumberWord}
+use Rattle.hwp_script_lines.specs.Numbers.{IsRegister}
 use Rattle.hwp_script_lines.specs.Grammar.{bit, command_word, CommandFits, AreCommandWords, IsCommand, IsCommandOver, HaveNumbers, HasShape, handler_text, thread_keyword}
-use Rattle.hwp_script_lines.specs.declared.command.Command.{Command}
-use Rattle.hwp_script_lines.specs.declared.command.Command.TheVariants as commands
+use Rattle.hwp_script_words.specs.declared.Command.{Command}
+use Rattle.hwp_script_words.specs.declared.Command.TheVariants as commands
 use Rattle.hwp_script_lines.specs.declared.keywords.CommandWord.{CommandWord}
 use Rattle.hwp_script_lines.specs.declared.keywords.CommandWord.TheVariants as words
 

@@ -1,10 +1,10 @@
 -- The lines of one keyword: their words, and what a misfit says of them.
 use Rattle.std.proofs.Common.{ℕ, ◌≡◌, ◌<◌, ◌^◌, true, List, [], ◌∷◌, length, get_or, decimal, refl, ap, arith}
 use Rattle.std.specs.Prelude.{All}
-use Rattle.hwp_script_lines.specs.Numbers.{IsNumberWord}
+use Rattle.hwp_script_words.specs.Numbers.{IsNumberWord}
 use Rattle.hwp_script_lines.specs.Grammar.{keyword, Fits, AreRestWords, IsSentence, IsCommand, HasShape, HaveNumbers, trans_keyword, cow_keyword, command_keyword}
 use Rattle.hwp_script_lines.specs.Misfits.{AreMisfit, AreNumbers, IsCommandMisfit, IsSentenceMisfit, has_one_number, form_with}
-use Rattle.hwp_script_lines.specs.declared.command.Command.{Command}
+use Rattle.hwp_script_words.specs.declared.Command.{Command}
 use Rattle.hwp_script_lines.specs.declared.script_line.ScriptLine.{ScriptLine}
 use Rattle.hwp_script_lines.specs.declared.script_line.ScriptLine.TheVariants as forms
 use Rattle.hwp_script_lines.specs.declared.keywords.Keyword.{Keyword}

@@ -1,4 +1,3 @@
-pub mod PairsLaws
 pub mod Searches
 pub mod Listed
 pub mod HexLaws
@@ -12,5 +11,6 @@ pub mod SentenceLaws
 pub mod LineUnique
 pub mod Shapes
 pub mod LineLaws
-pub use Rattle.hwp_geom.proofs as of_hwp_geom
-pub use Rattle.hwp_cec.proofs as of_hwp_cec
+pub use Rattle.hwp_script_words.proofs.of_hwp_geom as of_hwp_geom
+pub use Rattle.hwp_script_words.proofs.of_hwp_cec as of_hwp_cec
+pub use Rattle.hwp_script_words.proofs as of_hwp_script_words

@@ -3,12 +3,13 @@ use Rattle.std.proofs.Common.{ℕ, ◌≡◌, ◌<◌, ◌≤◌, ◌+◌, ◌-�
 use Rattle.std.proofs.lemmas.List.{append-nil, length-map, length-take-le, take_all}
 use Rattle.std.proofs.lemmas.List.Sums.{count_by-le-length}
 use Rattle.std.proofs.lemmas.List.Splits.{length-slice_split}
-use Rattle.hwp_geom.specs.Words.{pieces}
-use Rattle.hwp_geom.specs.Pairs.{Pairs}
-use Rattle.hwp_script_lines.specs.Lines.{words_of, is_comment, is_skipped, numbered_from, numbered_lines, IsRead, IsNumbered, AreLinesOf}
+use Rattle.hwp_script_words.specs.hwp_geom.Words.{pieces}
+use Rattle.hwp_script_words.specs.hwp_geom.Pairs.{Pairs}
+use Rattle.hwp_script_words.specs.Words.{words_of}
+use Rattle.hwp_script_lines.specs.Lines.{is_comment, is_skipped, numbered_from, numbered_lines, IsRead, IsNumbered, AreLinesOf}
 use Rattle.hwp_script_lines.specs.declared.script_line.LineRead.{LineRead}
 use Rattle.hwp_script_lines.specs.declared.script_line.Numbered.{Numbered}
-use Rattle.hwp_script_lines.proofs.PairsLaws.{Pairs-push, Pairs-unique, take-now}
+use Rattle.hwp_script_words.proofs.PairsLaws.{Pairs-push, Pairs-unique, take-now}
 use Rattle.hwp_script_lines.specs.declared.script_line.LineRead.TheVariants as reads
 use Rattle.hwp_script_lines.proofs.LineUnique.{form_unique}
 use Rattle.hwp_script_lines.proofs.Shapes.{bad_form, bad_over, bad_once, over_once, whole}

@@ -2,26 +2,26 @@
 use Rattle.std.proofs.Common.{ℕ, ◌≡◌, ◌<◌, ◌≤◌, ◌^◌, ◌==◌, cond, Bool, true, false, List, [], ◌∷◌, length, get_or, decimal, refl, sym, ap, ◌∙◌, arith}
 use Rattle.std.proofs.lemmas.Fmt.{decimal_injective}
 use Rattle.std.proofs.lemmas.List.{append_cancel_right}
-use Rattle.hwp_geom.specs.Limits.{number, cpu_limit}
-use Rattle.hwp_geom.specs.declared.Version.{Version}
-use Rattle.hwp_geom.specs.declared.Version.TheVariants as versions
-use Rattle.hwp_geom.specs.Pairs.{Pairs}
-use Rattle.hwp_geom.specs.declared.Kind.{Kind}
-use Rattle.hwp_geom.specs.declared.Kind.TheVariants as kinds
-use Rattle.hwp_script_lines.specs.Kinds.{kind_text}
+use Rattle.hwp_script_words.specs.hwp_geom.Limits.{number, cpu_limit}
+use Rattle.hwp_script_words.specs.hwp_geom.declared.Version.{Version}
+use Rattle.hwp_script_words.specs.hwp_geom.declared.Version.TheVariants as versions
+use Rattle.hwp_script_words.specs.hwp_geom.Pairs.{Pairs}
+use Rattle.hwp_script_words.specs.hwp_geom.declared.Kind.{Kind}
+use Rattle.hwp_script_words.specs.hwp_geom.declared.Kind.TheVariants as kinds
+use Rattle.hwp_script_words.specs.Kinds.{kind_text}
 use Rattle.hwp_script_lines.specs.Grammar.{keyword, handler_text, Fits, AreRestWords, IsTurn, AreTurnOver, HaveTurnShape, pieces_of, IsSentence, IsForm}
 use Rattle.hwp_script_lines.specs.declared.script_line.ScriptLine.{ScriptLine}
 use Rattle.hwp_script_lines.specs.declared.script_line.Backing.{Backing}
-use Rattle.hwp_script_lines.specs.declared.command.Go.{Go}
-use Rattle.hwp_script_lines.specs.declared.command.Until.{Until}
+use Rattle.hwp_script_words.specs.declared.Go.{Go}
+use Rattle.hwp_script_words.specs.declared.Until.{Until}
 use Rattle.hwp_script_lines.specs.declared.keywords.Keyword.{Keyword}
 use Rattle.hwp_script_lines.specs.declared.script_line.ScriptLine.TheVariants as forms
 use Rattle.hwp_script_lines.specs.declared.script_line.Backing.TheVariants as backings
-use Rattle.hwp_script_lines.specs.declared.command.Until.TheVariants as untils
+use Rattle.hwp_script_words.specs.declared.Until.TheVariants as untils
 use Rattle.hwp_script_lines.specs.declared.keywords.Keyword.TheVariants as keywords
 use Rattle.hwp_script_lines.proofs.CommandLaws.{version_low, value, value_is, command_at, command_found}
 use Rattle.hwp_script_lines.proofs.Listed.{all_kinds}
-use Rattle.hwp_script_lines.proofs.PairsLaws.{Pairs-unique}
+use Rattle.hwp_script_words.proofs.PairsLaws.{Pairs-unique}
 use Rattle.hwp_script_lines.proofs.SentenceLaws.{text_number, sentence_from_form}
 use Rattle.hwp_script_lines.proofs.TurnLaws.{no_dot}
 

@@ -3,8 +3,8 @@ use Rattle.std.proofs.Common.{ℕ, ◌≡◌, ◌⊎◌, inl, inr, ◌<◌, List
 use Rattle.std.proofs.Common.{◌≤◌, ap, sym, ◌∙◌}
 use Rattle.hwp_script_lines.specs.Grammar.{keyword_text, command_text}
 use Rattle.hwp_script_lines.proofs.Searches.{IsNoneOf, none-at}
-use Rattle.hwp_geom.specs.declared.Kind.{Kind}
-use Rattle.hwp_geom.specs.declared.Kind.TheVariants as kinds
+use Rattle.hwp_script_words.specs.hwp_geom.declared.Kind.{Kind}
+use Rattle.hwp_script_words.specs.hwp_geom.declared.Kind.TheVariants as kinds
 use Rattle.hwp_script_lines.specs.declared.keywords.Keyword.{Keyword}
 use Rattle.hwp_script_lines.specs.declared.keywords.CommandWord.{CommandWord}
 use Rattle.hwp_script_lines.specs.declared.keywords.Keyword.TheVariants as keywords

@@ -2,9 +2,9 @@
 use Rattle.std.proofs.Common.{ℕ, ◌≡◌, ◌≢◌, ◌<◌, ◌+◌, zero, suc, List, [], ◌∷◌, length, get_or, map, Bor, codes, decimal, refl, ap, subst, ◌∙◌, arith}
 use Rattle.std.specs.Prelude.{All, ◌⊎◌, ◌≤◌}
 use Rattle.std.proofs.lemmas.List.Elements.{All-from_get_or}
-use Rattle.hwp_script_lines.proofs.PairsLaws.{All-now}
-use Rattle.hwp_geom.specs.Limits.{thread_limit}
-use Rattle.hwp_script_lines.specs.Numbers.{IsNumber, IsNumberWord}
+use Rattle.hwp_script_words.proofs.PairsLaws.{All-now}
+use Rattle.hwp_script_words.specs.hwp_geom.Limits.{thread_limit}
+use Rattle.hwp_script_words.specs.Numbers.{IsNumber, IsNumberWord}
 use Rattle.hwp_script_lines.specs.Grammar.{command_word, CommandFits, AreCommandWords, IsCommand, IsCommandOver, HasCommandShape, HaveCommandNumbers, raise_word}
 use Rattle.hwp_script_lines.specs.Misfits.{AreNumbers, AreMisfit, IsCommandMisfit, IsMisfit, command_with, log_word, number_count}
 use Rattle.hwp_script_lines.specs.declared.keywords.CommandWord.{CommandWord}

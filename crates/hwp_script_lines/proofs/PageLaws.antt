@@ -2,17 +2,17 @@
 use Rattle.std.proofs.Common.{ℕ, ◌≡◌, ◌<◌, ◌+◌, ◌⊎◌, inl, inr, ◌++◌, zero, suc, Bool, List, [], ◌∷◌, Bor, length, map, get_or, codes, decimal, refl, sym, ap, subst, ◌∙◌, arith}
 use Rattle.std.proofs.lemmas.List.{length-append, length-map}
 use Rattle.std.specs.Fmt.{digits}
-use Rattle.hwp_geom.specs.Limits.{number}
-use Rattle.hwp_geom.specs.declared.Version.{Version}
-use Rattle.hwp_geom.specs.declared.Version.TheVariants as versions
-use Rattle.hwp_script_lines.specs.Numbers.{IsNumber, IsNumberWord}
+use Rattle.hwp_script_words.specs.hwp_geom.Limits.{number}
+use Rattle.hwp_script_words.specs.hwp_geom.declared.Version.{Version}
+use Rattle.hwp_script_words.specs.hwp_geom.declared.Version.TheVariants as versions
+use Rattle.hwp_script_words.specs.Numbers.{IsNumber, IsNumberWord}
 use Rattle.hwp_script_lines.specs.Grammar.{HasShape, HasPageShape, HasLockedShape, HaveNumbers, IsSentence, handler_text, page_keyword, thread_keyword}
 use Rattle.hwp_script_lines.specs.Misfits.{ArePageWords, IsPageMisfit, IsLockedFront, IsSentenceMisfit}
 use Rattle.hwp_script_lines.specs.declared.script_line.Backing.TheVariants as backings
 use Rattle.hwp_script_lines.specs.declared.script_line.ScriptLine.TheVariants as forms
 use Rattle.hwp_script_lines.specs.declared.numbers.Misfit.{Misfit}
 use Rattle.hwp_script_lines.specs.declared.numbers.Misfit.TheVariants as misfits
-use Rattle.hwp_script_lines.proofs.PairsLaws.{two-of, four-of, five-of, now-at}
+use Rattle.hwp_script_words.proofs.PairsLaws.{two-of, four-of, five-of, now-at}
 
 -- the digits of both versions
 pub one_digit : decimal (number versions.One) ≡ codes "1"

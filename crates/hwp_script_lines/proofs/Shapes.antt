@@ -9,25 +9,26 @@ use Rattle.std.proofs.lemmas.Bool.Decides.{nat_tests}
 use Rattle.std.proofs.lemmas.Fmt.{decimal_is_IsNumeral}
 use Rattle.std.proofs.lemmas.List.Elements.{All-nil, All-cons, All-push, All-append, All-from_recursion, All-same, All-weaker}
 use Rattle.std.proofs.lemmas.List.Splits.{join_with_byte-slice_split}
-use Rattle.hwp_geom.specs.Limits.{number, line_limit, frame_limit, file_limit, process_limit, thread_limit, page_limit, translation_limit}
-use Rattle.hwp_geom.specs.Pairs.{Pairs}
-use Rattle.hwp_geom.specs.declared.Kind.{Kind}
-use Rattle.hwp_geom.specs.declared.Kind.TheVariants as kinds
-use Rattle.hwp_cec.specs.Limits.{threshold_limit, window_limit}
-use Rattle.hwp_script_lines.specs.Kinds.{kind_text}
-use Rattle.hwp_script_lines.specs.Numbers.{IsNumberWord, IsRegister, IsRegisterWord}
+use Rattle.hwp_script_words.specs.hwp_geom.Limits.{number, line_limit, frame_limit, file_limit, process_limit, thread_limit, page_limit, translation_limit}
+use Rattle.hwp_script_words.specs.hwp_geom.Pairs.{Pairs}
+use Rattle.hwp_script_words.specs.hwp_geom.declared.Kind.{Kind}
+use Rattle.hwp_script_words.specs.hwp_geom.declared.Kind.TheVariants as kinds
+use Rattle.hwp_script_words.specs.hwp_cec.Limits.{threshold_limit, window_limit}
+use Rattle.hwp_script_words.specs.Kinds.{kind_text}
+use Rattle.hwp_script_words.specs.Numbers.{IsNumberWord}
+use Rattle.hwp_script_lines.specs.Numbers.{IsRegister, IsRegisterWord}
 use Rattle.hwp_script_lines.specs.Grammar.{bit, page_words, is_newer, keyword, keyword_text, command_word, command_text, rest_words, handler_text, Fits, CommandFits, AreRestWords, AreCommandWords, AreRegisters, IsTurn, IsTurnWord, HasTurnShape, pieces_of, IsForm, IsShaped, IsBadNumber, IsOverLimit, IsPrintable, HasShape, HasCommandShape, HasRaiseShape, HaveNumbers, HaveCommandNumbers}
 use Rattle.hwp_script_lines.specs.declared.script_line.ScriptLine.{ScriptLine}
 use Rattle.hwp_script_lines.specs.declared.script_line.Backing.{Backing}
-use Rattle.hwp_script_lines.specs.declared.command.Command.{Command}
-use Rattle.hwp_script_lines.specs.declared.command.Go.{Go}
-use Rattle.hwp_script_lines.specs.declared.command.Until.{Until}
+use Rattle.hwp_script_words.specs.declared.Command.{Command}
+use Rattle.hwp_script_words.specs.declared.Go.{Go}
+use Rattle.hwp_script_words.specs.declared.Until.{Until}
 use Rattle.hwp_script_lines.specs.declared.keywords.Keyword.{Keyword}
 use Rattle.hwp_script_lines.specs.declared.keywords.CommandWord.{CommandWord}
 use Rattle.hwp_script_lines.specs.declared.script_line.ScriptLine.TheVariants as forms
-use Rattle.hwp_script_lines.specs.declared.command.Command.TheVariants as commands
+use Rattle.hwp_script_words.specs.declared.Command.TheVariants as commands
 use Rattle.hwp_script_lines.specs.declared.script_line.Backing.TheVariants as backings
-use Rattle.hwp_script_lines.specs.declared.command.Until.TheVariants as untils
+use Rattle.hwp_script_words.specs.declared.Until.TheVariants as untils
 use Rattle.hwp_script_lines.specs.declared.keywords.Keyword.TheVariants as keywords
 use Rattle.hwp_script_lines.specs.declared.keywords.CommandWord.TheVariants as words
 use Rattle.hwp_script_lines.proofs.CommandLaws.{bit_low, version_low, low, low_to, one, two, three, four, six}

@@ -2,12 +2,12 @@
 use Rattle.std.proofs.Common.{ℕ, ◌≡◌, ◌<◌, ◌≤◌, ◌+◌, ◌-◌, ◌++◌, drop, get_or, length, take, sym, List, [], ◌∷◌, zero, suc, codes, decimal, refl, ap, ◌∙◌, arith}
 use Rattle.std.specs.Fmt.{digits}
 use Rattle.std.proofs.lemmas.List.{take_all}
-use Rattle.hwp_geom.specs.declared.Kind.{Kind}
-use Rattle.hwp_geom.specs.declared.Kind.TheVariants as kinds
-use Rattle.hwp_script_lines.specs.Kinds.{kind_text}
+use Rattle.hwp_script_words.specs.hwp_geom.declared.Kind.{Kind}
+use Rattle.hwp_script_words.specs.hwp_geom.declared.Kind.TheVariants as kinds
+use Rattle.hwp_script_words.specs.Kinds.{kind_text}
 use Rattle.hwp_script_lines.specs.Grammar.{IsTurn, behind_number, pieces_of, turn_pieces}
-use Rattle.hwp_script_lines.specs.declared.command.Until.{Until}
-use Rattle.hwp_script_lines.specs.declared.command.Until.TheVariants as untils
+use Rattle.hwp_script_words.specs.declared.Until.{Until}
+use Rattle.hwp_script_words.specs.declared.Until.TheVariants as untils
 
 -- the name of a kind of step has no `@`
 kind-whole : (k : Kind) → turn_pieces (kind_text k) ≡ kind_text k ∷ []

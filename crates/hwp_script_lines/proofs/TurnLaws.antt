@@ -4,16 +4,16 @@ use Rattle.std.specs.Prelude.{All}
 use Rattle.std.proofs.lemmas.Fmt.{decimal_is_IsNumeral}
 use Rattle.std.proofs.lemmas.List.{append_cancel_right, length-map, get_or-map, take_all}
 use Rattle.std.proofs.lemmas.List.Elements.{All-from_recursion, All-push, All-contains, Contains-push}
-use Rattle.hwp_geom.specs.Pairs.{Pairs}
-use Rattle.hwp_geom.proofs.WordLaws.{digits_differ}
-use Rattle.hwp_script_lines.specs.Numbers.{IsNumber}
+use Rattle.hwp_script_words.specs.hwp_geom.Pairs.{Pairs}
+use Rattle.hwp_script_words.proofs.of_hwp_geom.WordLaws.{digits_differ}
+use Rattle.hwp_script_words.specs.Numbers.{IsNumber}
 use Rattle.hwp_script_lines.specs.Grammar.{pieces_of, HaveTurnNumber, IsTurn, IsTurnOver, IsTurnWord, IsSentence, IsSentenceOver, schedule_keyword, HasTurnShape, HaveTurnShape, turn_pieces}
-use Rattle.hwp_script_lines.specs.declared.command.Go.{Go}
-use Rattle.hwp_script_lines.specs.declared.command.Until.{Until}
-use Rattle.hwp_script_lines.specs.declared.command.Until.TheVariants as untils
+use Rattle.hwp_script_words.specs.declared.Go.{Go}
+use Rattle.hwp_script_words.specs.declared.Until.{Until}
+use Rattle.hwp_script_words.specs.declared.Until.TheVariants as untils
 use Rattle.hwp_script_lines.specs.declared.script_line.ScriptLine.{ScriptLine}
 use Rattle.hwp_script_lines.specs.declared.script_line.ScriptLine.TheVariants as forms
-use Rattle.hwp_script_lines.proofs.PairsLaws.{Pairs-push, Pairs-partner, Pairs-some, take-now, All-now}
+use Rattle.hwp_script_words.proofs.PairsLaws.{Pairs-push, Pairs-partner, Pairs-some, take-now, All-now}
 
 -- a number has no dot at its end
 pub no_dot : (n : ℕ) → n < 2 ^ 64 → (cpu : List ℕ) → decimal n ≡ cpu ++ 46 ∷ [] → ⊥

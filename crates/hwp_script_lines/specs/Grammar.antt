@@ -1,26 +1,26 @@
 -- The grammar of a line: the words of each form, and which lines are no form.
 use Rattle.std.specs.Prelude.{◌≡◌, ℕ, Bool, true, false, ◌^◌, ◌<◌, ◌≤◌, ◌==◌, ◌||◌, ◌++◌, ◌⊎◌, List, [], ◌∷◌, length, get_or, take, drop, map, codes, decimal, All}
 use Rattle.std.specs.List.{slice_split}
-use Rattle.hwp_geom.specs.declared.Kind.{Kind}
-use Rattle.hwp_geom.specs.declared.Thread.{Thread}
-use Rattle.hwp_geom.specs.declared.VSlot.{VSlot}
-use Rattle.hwp_geom.specs.declared.Version.{Version}
-use Rattle.hwp_geom.specs.Pairs.{Pairs}
-use Rattle.hwp_geom.specs.Limits.{number, line_limit, cpu_limit, frame_limit, file_limit, process_limit, thread_limit, page_limit, translation_limit}
-use Rattle.hwp_cec.specs.Limits.{threshold_limit, window_limit}
-use Rattle.hwp_script_lines.specs.Numbers.{IsNumberWord, IsRegister, IsRegisterWord, register}
-use Rattle.hwp_script_lines.specs.Kinds.{kind_text}
+use Rattle.hwp_script_words.specs.hwp_geom.declared.Kind.{Kind}
+use Rattle.hwp_script_words.specs.hwp_geom.declared.Thread.{Thread}
+use Rattle.hwp_script_words.specs.hwp_geom.declared.VSlot.{VSlot}
+use Rattle.hwp_script_words.specs.hwp_geom.declared.Version.{Version}
+use Rattle.hwp_script_words.specs.hwp_geom.Pairs.{Pairs}
+use Rattle.hwp_script_words.specs.hwp_geom.Limits.{number, line_limit, cpu_limit, frame_limit, file_limit, process_limit, thread_limit, page_limit, translation_limit}
+use Rattle.hwp_script_words.specs.Numbers.{IsNumberWord}
+use Rattle.hwp_script_lines.specs.Numbers.{IsRegister, IsRegisterWord, register}
+use Rattle.hwp_script_words.specs.Kinds.{kind_text}
 use Rattle.hwp_script_lines.specs.declared.script_line.ScriptLine.{ScriptLine}
 use Rattle.hwp_script_lines.specs.declared.script_line.Backing.{Backing}
-use Rattle.hwp_script_lines.specs.declared.command.Command.{Command}
-use Rattle.hwp_script_lines.specs.declared.command.Go.{Go}
-use Rattle.hwp_script_lines.specs.declared.command.Until.{Until}
+use Rattle.hwp_script_words.specs.declared.Command.{Command}
+use Rattle.hwp_script_words.specs.declared.Go.{Go}
+use Rattle.hwp_script_words.specs.declared.Until.{Until}
 use Rattle.hwp_script_lines.specs.declared.keywords.Keyword.{Keyword}
 use Rattle.hwp_script_lines.specs.declared.keywords.CommandWord.{CommandWord}
 use Rattle.hwp_script_lines.specs.declared.script_line.ScriptLine.TheVariants as forms
-use Rattle.hwp_script_lines.specs.declared.command.Command.TheVariants as commands
+use Rattle.hwp_script_words.specs.declared.Command.TheVariants as commands
 use Rattle.hwp_script_lines.specs.declared.script_line.Backing.TheVariants as backings
-use Rattle.hwp_script_lines.specs.declared.command.Until.TheVariants as untils
+use Rattle.hwp_script_words.specs.declared.Until.TheVariants as untils
 use Rattle.hwp_script_lines.specs.declared.keywords.Keyword.TheVariants as keywords
 use Rattle.hwp_script_lines.specs.declared.keywords.CommandWord.TheVariants as words
 
@@ -251,10 +251,6 @@ form_words f = keyword_text (keyword f) ∷ rest_words f
 -- an access names a thread, a translation and a line that there may be
 abbrev pub IsAccessWithin : Thread → VSlot → ℕ → Type 0
 IsAccessWithin t v l = (t.0 < thread_limit) × (v.0 < translation_limit) × (l < line_limit)
-
--- a collector has a threshold and a window that there may be
-abbrev pub IsCollectorWithin : ℕ → ℕ → Type 0
-IsCollectorWithin t w = (1 ≤ t) × (t ≤ threshold_limit) × (1 ≤ w) × (w ≤ window_limit)
 
 -- each number of a command is within its range
 abbrev pub CommandFits : Command → Type 0

@@ -1,7 +1,7 @@
 pub mod Numbers
-pub mod Kinds
 pub mod Grammar
 pub mod Lines
 pub mod Misfits
-pub use Rattle.hwp_geom.specs as hwp_geom
-pub use Rattle.hwp_cec.specs as hwp_cec
+pub use Rattle.hwp_script_words.specs.hwp_geom as hwp_geom
+pub use Rattle.hwp_script_words.specs.hwp_cec as hwp_cec
+pub use Rattle.hwp_script_words.specs as hwp_script_words

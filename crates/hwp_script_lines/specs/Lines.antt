@@ -1,16 +1,11 @@
 -- The lines of a text: which are skipped, what numbers and words the others have, and what they are read as.
-use Rattle.std.specs.Prelude.{◌≡◌, ℕ, Bool, false, not, if◌then◌else◌, ◌==◌, ◌||◌, ◌+◌, ◌++◌, List, [], ◌∷◌, length}
-use Rattle.std.specs.List.{filter}
-use Rattle.hwp_geom.specs.Words.{pieces, cut}
-use Rattle.hwp_geom.specs.Pairs.{Pairs}
+use Rattle.std.specs.Prelude.{◌≡◌, ℕ, Bool, false, if◌then◌else◌, ◌==◌, ◌||◌, ◌+◌, ◌++◌, List, [], ◌∷◌, length}
+use Rattle.hwp_script_words.specs.hwp_geom.Words.{pieces}
+use Rattle.hwp_script_words.specs.hwp_geom.Pairs.{Pairs}
 use Rattle.hwp_script_lines.specs.Grammar.{IsForm, IsUnknown, IsBadNumber, IsOverLimit}
 use Rattle.hwp_script_lines.specs.declared.script_line.LineRead.{LineRead}
 use Rattle.hwp_script_lines.specs.declared.script_line.Numbered.{Numbered}
 use Rattle.hwp_script_lines.specs.declared.script_line.LineRead.TheVariants as reads
-
--- the words of a line: what stands between spaces
-abbrev pub words_of : List ℕ → List (List ℕ)
-words_of bytes = filter (λ word. not (length word == 0)) (cut bytes)
 
 -- a line that begins with `#` is a comment
 abbrev pub is_comment : List ℕ → Bool

@@ -1,14 +1,14 @@
 -- Why words are not what was to be read, the words of a command by their numbers, and the errors of each reader.
 use Rattle.std.specs.Prelude.{◌≡◌, ℕ, ◌<◌, ◌++◌, ◌⊎◌, Bool, true, false, List, [], ◌∷◌, length, get_or, codes, All}
-use Rattle.hwp_script_lines.specs.Numbers.{IsNumber}
+use Rattle.hwp_script_words.specs.Numbers.{IsNumber}
 use Rattle.hwp_script_lines.specs.Grammar.{Fits, page_words, page_keyword, HasPageShape, HasCommandShape, HaveCommandNumbers, IsCommandOver, HasShape, HaveNumbers, IsSentenceOver, HaveTurnShape, HaveTurnNumber, AreTurnOver, turn_pieces}
 use Rattle.hwp_script_lines.specs.declared.script_line.ScriptLine.{ScriptLine}
 use Rattle.hwp_script_lines.specs.declared.script_line.Backing.{Backing}
-use Rattle.hwp_script_lines.specs.declared.command.Command.{Command}
+use Rattle.hwp_script_words.specs.declared.Command.{Command}
 use Rattle.hwp_script_lines.specs.declared.keywords.Keyword.{Keyword}
 use Rattle.hwp_script_lines.specs.declared.keywords.CommandWord.{CommandWord}
 use Rattle.hwp_script_lines.specs.declared.numbers.Misfit.{Misfit}
-use Rattle.hwp_script_lines.specs.declared.command.Command.TheVariants as commands
+use Rattle.hwp_script_words.specs.declared.Command.TheVariants as commands
 use Rattle.hwp_script_lines.specs.declared.script_line.ScriptLine.TheVariants as forms
 use Rattle.hwp_script_lines.specs.declared.keywords.Keyword.TheVariants as keywords
 use Rattle.hwp_script_lines.specs.declared.keywords.CommandWord.TheVariants as words

@@ -1,16 +1,7 @@
 -- Numbers and register words, as they are written.
-use Rattle.std.specs.Prelude.{◌≡◌, ℕ, ◌^◌, ◌<◌, ◌≤◌, ◌++◌, ◌⊎◌, List, length, codes, decimal}
+use Rattle.std.specs.Prelude.{◌≡◌, ℕ, ◌≤◌, ◌++◌, ◌⊎◌, List, length, codes}
 use Rattle.std.specs.Str.Parse.{IsNumeral, digits_value}
-use Rattle.hwp_geom.specs.Words.{hex}
-
--- a word is a number: decimal digits without leading zeros, below 2 ^ 64
-pub record IsNumber (word : List ℕ) (n : ℕ) : Type 0 where
-  pub fits : n < 2 ^ 64
-  pub digits : word ≡ decimal n
-
--- a word is a number
-abbrev pub IsNumberWord : List ℕ → Type 0
-IsNumberWord word = (n : ℕ) × IsNumber word n
+use Rattle.hwp_script_words.specs.hwp_geom.Words.{hex}
 
 -- a word is `0x` and 1 to 16 hex digits of either case, which write the number
 pub record IsHex (word : List ℕ) (n : ℕ) : Type 0 where

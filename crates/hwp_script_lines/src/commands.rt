@@ -1,16 +1,14 @@
 ghost use Rattle.std.specs.Prelude.{◌≡◌, ◌≢◌, ◌<◌, ◌≤◌, ◌⊎◌, ◌∷◌, map, codes, true, MatchOption, MatchResult};
-ghost use Rattle.hwp_geom.specs.Limits.{line_limit, frame_limit, file_limit, process_limit, thread_limit, page_limit, translation_limit};
-ghost use Rattle.hwp_script_lines.specs.Grammar.{bit, CommandFits, IsAccessWithin, IsCollectorWithin, IsCommand, raise_word};
+ghost use Rattle.hwp_script_words.specs.hwp_geom.Limits.{line_limit, frame_limit, file_limit, process_limit, thread_limit, page_limit, translation_limit};
+ghost use Rattle.hwp_script_lines.specs.Grammar.{bit, CommandFits, IsAccessWithin, IsCommand, raise_word};
+ghost use Rattle.hwp_script_words.specs.Commands.{IsCollectorWithin};
 ghost use Rattle.hwp_script_lines.specs.Misfits.{IsCommandMisfit, command_with, fork, is_access_word, is_frame_word, is_page_word, log_word, watch};
 
-use crate::command::{Command, PrctlArgs};
 use crate::keywords::CommandWord;
 use crate::numbers::{Misfit, read_numbers, three_registers};
-use crate::words::is_text;
-use hwp_cec::{MAX_THRESHOLD, MAX_WINDOW};
-use hwp_geom::{
-    FileNo, Frame, LINES, Line, MAX_FILES, MAX_FRAMES, MAX_PAGES, MAX_PROCS, MAX_THREADS,
-    MAX_TRANS, Page, Proc, Thread, VSlot,
+use hwp_script_words::{
+    Command, FileNo, Frame, LINES, Line, MAX_FILES, MAX_FRAMES, MAX_PAGES, MAX_PROCS, MAX_THREADS,
+    MAX_THRESHOLD, MAX_TRANS, MAX_WINDOW, Page, PrctlArgs, Proc, Thread, VSlot, is_text,
 };
 
 /// The thread of this number, if there may be one.

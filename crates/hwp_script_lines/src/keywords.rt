@@ -4,7 +4,7 @@ ghost use Rattle.hwp_script_lines.specs.Misfits.{number_count};
 ghost use Rattle.hwp_script_lines.specs.declared.keywords.Keyword.{Keyword};
 ghost use Rattle.hwp_script_lines.specs.declared.keywords.CommandWord.{CommandWord};
 
-use crate::words::is_text;
+use hwp_script_words::is_text;
 
 /// The first word of a line, which says its kind.
 #[derive(Clone, Copy)]

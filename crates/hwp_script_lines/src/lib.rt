@@ -1,7 +1,6 @@
-//! The lines of a fault script: their kinds and its commands, and their reading from bytes.
+//! The lines of a fault script: their kinds, and their reading from bytes.
 #![tactic(auto)]
 
-mod command;
 mod commands;
 mod keywords;
 mod kinds;
@@ -12,15 +11,11 @@ mod sentences;
 mod turns;
 mod words;
 
-pub use command::{Command, Go, PrctlArgs, Until};
-pub use hwp_cec::{Collector, Noted};
-pub use hwp_geom::{
-    Cpu, FileNo, Frame, Kind, Layout, Line, List, MAX_COMMANDS, MAX_CPUS, MAX_FILES, MAX_PROCS,
-    MAX_THREADS, Mask, Mode, OutOfMemory, Page, PageKind, Proc, Text, Thread, ThreadDecl,
-    TransDecl, VSlot, Version, Who,
+pub use hwp_script_words::{
+    Collector, Command, Cpu, FileNo, Frame, Go, Kind, Layout, Line, List, MAX_COMMANDS, MAX_CPUS,
+    MAX_FILES, MAX_PROCS, MAX_SCHEDULE, MAX_SCRIPT, MAX_THREADS, Mask, Mode, Noted, OutOfMemory,
+    Page, PageKind, PrctlArgs, Proc, Script, Text, Thread, ThreadDecl, TransDecl, Until, VSlot,
+    Version, Who, is_text, kind_name, read_number, words_in,
 };
-pub use kinds::kind_name;
 pub use lines::read_lines;
-pub use numbers::read_number;
 pub use script_line::{Backing, LineRead, Numbered, ScriptLine};
-pub use words::{is_text, words_in};

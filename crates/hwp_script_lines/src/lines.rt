@@ -1,12 +1,13 @@
 ghost use Rattle.std.specs.Prelude.{◌≡◌, ◌<◌, ◌-◌, ◌^◌, ◌↔◌, true, false, length, map, IsTrue, IfOk, MatchOption};
-ghost use Rattle.hwp_script_lines.specs.Lines.{IsRead, AreLinesOf, is_comment, is_skipped, words_of};
+ghost use Rattle.hwp_script_lines.specs.Lines.{IsRead, AreLinesOf, is_comment, is_skipped};
+ghost use Rattle.hwp_script_words.specs.Words.{words_of};
 
 use crate::keywords::read_keyword;
 use crate::numbers::Misfit;
 use crate::script_line::{LineRead, Numbered};
 use crate::sentences::read_sentence;
-use crate::words::{are_printable, parts, words_in};
-use hwp_geom::OutOfMemory;
+use crate::words::{are_printable, parts};
+use hwp_script_words::{OutOfMemory, words_in};
 use std::alloc::Global;
 
 /// What the words of a line are read as.

@@ -1,10 +1,9 @@
-ghost use Rattle.std.specs.Prelude.{◌≡◌, ◌≤◌, ℕ, ◌^◌, ◌<◌, [], ◌∷◌, length, map, decimal, IfSome, IfNone, MatchResult, MatchOption};
+ghost use Rattle.std.specs.Prelude.{◌≡◌, ◌≤◌, ℕ, ◌^◌, ◌<◌, [], ◌∷◌, length, map, decimal, MatchResult, MatchOption};
 ghost use Rattle.std.specs.Str.Parse.{AllDigits, digits_value};
-ghost use Rattle.hwp_script_lines.specs.Numbers.{IsNumber, IsNumberWord, IsRegister, IsRegisterWord};
+ghost use Rattle.hwp_script_words.specs.Numbers.{IsNumberWord};
+ghost use Rattle.hwp_script_lines.specs.Numbers.{IsRegister, IsRegisterWord};
 ghost use Rattle.hwp_script_lines.specs.Grammar.{AreRegisters};
 ghost use Rattle.hwp_script_lines.specs.Misfits.{AreMisfit, AreNumbers};
-
-use itoa::Buffer;
 
 /// Why words are no line.
 #[derive(Clone, Copy)]
@@ -15,24 +14,6 @@ pub(crate) enum Misfit {
     BadNumber,
     /// A number of a command, or of a word of the schedule, is outside its range.
     OverLimit,
-}
-
-/// The number that a word is: `0` or decimal digits without a leading zero, below 2^64 (this project's rule).
-pub fn read_number(word: &[u8]) -> Option<u64>
-    ensures some { IfSome result (IsNumber word.now) }
-    ensures none { IfNone result ((n : ℕ) → IsNumber word.now n → ⊥) }
-{
-    let Ok(text) = str::from_utf8(word) else {
-        return None;
-    };
-    let Ok(number) = text.parse::<u64>() else {
-        return None;
-    };
-    if Buffer::new().format(number) == text {
-        Some(number)
-    } else {
-        None
-    }
 }
 
 /// The number that hex digits write, if they are hex digits.

@@ -1,5 +1,4 @@
-use crate::command::{Command, Go};
-use hwp_geom::{List, Version};
+use hwp_script_words::{Command, Go, List, Version};
 
 /// What stands behind a page, with its numbers as they are written.
 #[derive(Clone, Copy)]

@@ -1,17 +1,16 @@
 ghost use Rattle.std.specs.Prelude.{◌≡◌, ◌≢◌, ℕ, map, decimal, true, Bool, IfOk, MatchOption, MatchResult};
-ghost use Rattle.hwp_geom.specs.Limits.{number};
-ghost use Rattle.hwp_geom.specs.declared.Version.{Version};
+ghost use Rattle.hwp_script_words.specs.hwp_geom.Limits.{number};
+ghost use Rattle.hwp_script_words.specs.hwp_geom.declared.Version.{Version};
 ghost use Rattle.hwp_script_lines.specs.Grammar.{IsSentence, HasLockedShape, thread_keyword, page_keyword, schedule_keyword, header_keyword, trans_keyword, cow_keyword, command_keyword, end_keyword, handler_text};
-ghost use Rattle.hwp_script_lines.specs.Numbers.{IsNumber};
+ghost use Rattle.hwp_script_words.specs.Numbers.{IsNumber};
 ghost use Rattle.hwp_script_lines.specs.Misfits.{ArePageWords, IsLockedFront, IsPageMisfit, IsSentenceMisfit, form_with, has_one_number};
 
 use crate::commands::read_command;
 use crate::keywords::{CommandWord, Keyword};
-use crate::numbers::{Misfit, one_number, read_number, read_numbers};
+use crate::numbers::{Misfit, one_number, read_numbers};
 use crate::script_line::{Backing, ScriptLine};
 use crate::turns::read_schedule;
-use crate::words::is_text;
-use hwp_geom::{OutOfMemory, Version};
+use hwp_script_words::{OutOfMemory, Version, is_text, read_number};
 use std::alloc::Global;
 
 /// Whether a thread has a handler, by its last word.

@@ -1,14 +1,13 @@
 ghost use Rattle.std.specs.Prelude.{◌≡◌, ◌<◌, ◌+◌, ◌++◌, ℕ, List as Items, [], ◌∷◌, length, map, codes, IfOk, IfSome, MatchResult, MatchOption};
-ghost use Rattle.hwp_geom.specs.Limits.{cpu_limit};
-ghost use Rattle.hwp_geom.specs.Pairs.{Pairs};
+ghost use Rattle.hwp_script_words.specs.hwp_geom.Limits.{cpu_limit};
+ghost use Rattle.hwp_script_words.specs.hwp_geom.Pairs.{Pairs};
 ghost use Rattle.hwp_script_lines.specs.Grammar.{AreTurnPieces, IsTurn, behind_number, pieces_of, schedule_keyword};
 ghost use Rattle.hwp_script_lines.specs.Misfits.{AreTurnMisfit, IsTurnMisfit, IsSentenceMisfit};
 
-use crate::command::{Go, Until};
 use crate::kinds::read_kind;
-use crate::numbers::{Misfit, read_number};
+use crate::numbers::Misfit;
 use crate::words::parts;
-use hwp_geom::{Cpu, List, MAX_CPUS, OutOfMemory};
+use hwp_script_words::{Cpu, Go, List, MAX_CPUS, OutOfMemory, Until, read_number};
 use std::alloc::Global;
 
 /// What stands before the dot at the end of a word.

@@ -1,17 +1,9 @@
 ghost use Rattle.std.specs.Prelude.{◌≡◌, ◌↔◌, ◌==◌, IsTrue, IfOk, All, map};
 ghost use Rattle.hwp_script_lines.specs.Grammar.{IsPrintable};
-ghost use Rattle.hwp_script_lines.specs.Lines.{words_of};
 ghost use Rattle.std.specs.List.{slice_split};
 
-use hwp_geom::OutOfMemory;
+use hwp_script_words::OutOfMemory;
 use std::alloc::Global;
-
-/// Whether a word has this text, byte for byte.
-pub fn is_text(word: &[u8], text: &str) -> bool
-    ensures { IsTrue result ↔ (word.now ≡ text.now) }
-{
-    word == text.as_bytes()
-}
 
 /// Whether all bytes of a word are printable ASCII.
 fn is_printable(word: &[u8]) -> bool
@@ -46,13 +38,4 @@ pub(crate) fn parts<'a>(
     ensures { IfOk result (λ parts. map (λ part. part.now) parts.items ≡ slice_split (λ b. b == at) bytes.now) }
 {
     bytes.split(|b| *b == at).collect(alloc)
-}
-
-/// The words of a line: what stands between spaces.
-pub fn words_in<'a>(alloc: Global, line: &'a [u8]) -> Result<Vec<&'a [u8]>, OutOfMemory>
-    ensures { IfOk result (λ words. map (λ w. w.now) words.items ≡ words_of line.now) }
-{
-    line.split(|b| *b == b' ')
-        .filter(|word| !word.is_empty())
-        .collect(alloc)
 }

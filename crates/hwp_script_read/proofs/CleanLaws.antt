@@ -5,15 +5,16 @@ use Rattle.std.proofs.lemmas.Bool.{false_from_ne_true}
 use Rattle.hwp_script_lines.specs.hwp_geom.Layout.{has_twin, is_guest, is_twin}
 use Rattle.hwp_script_lines.specs.hwp_geom.declared.PageKind.{PageKind}
 use Rattle.hwp_script_lines.specs.hwp_geom.declared.TransDecl.{TransDecl}
-use Rattle.hwp_script_read.specs.Limits.{schedule_limit}
+use Rattle.hwp_script_lines.specs.hwp_script_words.Limits.{schedule_limit}
 use Rattle.hwp_script_lines.specs.hwp_geom.Limits.{command_limit, cpu_limit, frame_limit, page_limit, translation_limit, cpu_limit_of, frame_limit_of, page_limit_of, translation_limit_of}
 use Rattle.hwp_script_lines.specs.hwp_geom.declared.Version.{Version}
 use Rattle.hwp_script_lines.specs.hwp_geom.declared.Version.TheVariants as versions
-use Rattle.hwp_script_read.specs.Context.{version_in, cpus_in, frames_in, recovery_in, early_in, files_in, procs_in, threads_in, pages_in, trans_in, names_in, process_of, slot_of, commands_in, go_in, place_in, group, highest}
+use Rattle.hwp_script_read.specs.Context.{version_in, cpus_in, frames_in, recovery_in, early_in, files_in, procs_in, threads_in, pages_in, trans_in, names_in, process_of, slot_of, commands_in, go_in, place_in, group, highest, is_again}
 use Rattle.hwp_script_read.specs.Collects.{commands_of}
-use Rattle.hwp_script_read.specs.Forks.{actor, has_shared_page, is_again, is_wrong_fork, names_twin}
-use Rattle.hwp_script_read.specs.Guests.{cannot_be_guest}
-use Rattle.hwp_script_read.specs.Reasons.{IsMisplaced, IsElsewhere, IsBackingOver, IsBackingUndeclared, IsUndeclared, IsNoPair, IsNewer, IsBeyond, top_cpu, IsClean}
+use Rattle.hwp_script_lines.specs.hwp_script_words.Forks.{actor, has_shared_page, is_wrong_fork, names_twin}
+use Rattle.hwp_script_lines.specs.hwp_script_words.Guests.{cannot_be_guest}
+use Rattle.hwp_script_read.specs.Reasons.{IsMisplaced, IsElsewhere, IsBackingOver, IsBackingUndeclared, IsUndeclared, IsNoPair, IsBeyond, top_cpu, IsClean}
+use Rattle.hwp_script_lines.specs.hwp_script_words.Commands.{IsNewer}
 use Rattle.hwp_script_lines.specs.declared.Backing.{Backing}
 use Rattle.hwp_script_lines.specs.declared.Go.{Go}
 use Rattle.hwp_script_lines.specs.declared.Command.{Command}

@@ -16,7 +16,7 @@ use Rattle.hwp_script_lines.specs.declared.Numbered.{Numbered}
 use Rattle.hwp_script_read.specs.Context.{page_of, kind_of, pages_in, place_after}
 use Rattle.hwp_script_read.specs.Refusals.{AreForms}
 use Rattle.hwp_script_read.specs.Collects.{command_at, commands_from, commands_of}
-use Rattle.hwp_script_read.specs.Valid.{HasWords, HasFill}
+use Rattle.hwp_script_lines.specs.hwp_script_words.Valid.{HasWords, HasFill}
 use Rattle.hwp_script_lines.specs.declared.Command.{Command}
 use Rattle.hwp_script_lines.specs.declared.Command.TheVariants as commands
 

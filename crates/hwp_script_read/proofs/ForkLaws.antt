@@ -16,9 +16,9 @@ use Rattle.hwp_script_read.specs.Context.{cpus_in, names_in, place_in, highest}
 use Rattle.hwp_script_read.specs.Sums.{Sums, names_of}
 use Rattle.hwp_script_read.specs.declared.context.Summary.{Summary}
 use Rattle.hwp_script_read.specs.Collects.{command_at, commands_of}
-use Rattle.hwp_script_read.specs.Forks.{is_wrong_fork, names_twin}
+use Rattle.hwp_script_lines.specs.hwp_script_words.Forks.{is_wrong_fork, names_twin}
 use Rattle.hwp_script_read.specs.Reasons.{IsClean}
-use Rattle.hwp_script_read.specs.Valid.{NamesNoTwin, AreForksFit}
+use Rattle.hwp_script_lines.specs.hwp_script_words.Valid.{NamesNoTwin, AreForksFit}
 use Rattle.hwp_script_read.proofs.ContextLaws.{pushed, names-kept}
 use Rattle.hwp_script_read.proofs.SumLaws.{many_lists}
 use Rattle.hwp_script_read.proofs.CleanLaws.{clean_command, clean_late}

@@ -10,9 +10,9 @@ use Rattle.hwp_script_lines.specs.hwp_geom.declared.Version.TheVariants as versi
 use Rattle.hwp_script_lines.specs.declared.ScriptLine.{ScriptLine}
 use Rattle.hwp_script_lines.specs.declared.ScriptLine.TheVariants as forms
 use Rattle.hwp_script_read.specs.Context.{version_in, version_after, thread_of, threads_in, guests_in, guests_after, highest}
-use Rattle.hwp_script_read.specs.Guests.{cannot_be_guest}
+use Rattle.hwp_script_lines.specs.hwp_script_words.Guests.{cannot_be_guest}
 use Rattle.hwp_script_read.specs.Reasons.{IsClean}
-use Rattle.hwp_script_read.specs.Valid.{AreGuestsFit}
+use Rattle.hwp_script_lines.specs.hwp_script_words.Valid.{AreGuestsFit}
 use Rattle.hwp_script_read.proofs.ContextLaws.{onto}
 use Rattle.hwp_script_read.proofs.CleanLaws.{none_above, clean_guest, clean_proc, clean_thread}
 use Rattle.hwp_script_read.proofs.TwinLaws.{clash}

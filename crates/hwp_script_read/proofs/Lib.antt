@@ -17,3 +17,4 @@ pub mod ReadLaws
 pub mod OneScript
 pub use Rattle.hwp_script_lines.proofs.of_hwp_geom as of_hwp_geom
 pub use Rattle.hwp_script_lines.proofs as of_hwp_script_lines
+pub use Rattle.hwp_script_lines.proofs.of_hwp_script_words as of_hwp_script_words

@@ -16,8 +16,8 @@ use Rattle.hwp_script_lines.specs.declared.Backing.TheVariants as backings
 use Rattle.hwp_script_read.specs.Context.{cpus_in, frames_in, files_in, procs_in, threads_in, pages_in, trans_in, names_in, kind_of}
 use Rattle.hwp_script_lines.specs.Grammar.{CommandFits}
 use Rattle.hwp_script_read.specs.Reasons.{IsForeign, IsNoFilePage, IsNoAnonPage, IsUndeclared, IsElsewhere, IsBackingUndeclared}
-use Rattle.hwp_script_read.specs.Forks.{actor}
-use Rattle.hwp_script_read.specs.Valid.{IsThreadOf, IsAccess, IsFile, IsAnon, IsCommandOf}
+use Rattle.hwp_script_lines.specs.hwp_script_words.Forks.{actor}
+use Rattle.hwp_script_lines.specs.hwp_script_words.Valid.{IsThreadOf, IsAccess, IsFile, IsAnon, IsCommandOf}
 use Rattle.hwp_script_lines.specs.declared.Command.{Command}
 use Rattle.hwp_script_lines.specs.declared.Command.TheVariants as commands
 use Rattle.hwp_script_read.proofs.ContextLaws.{onto, plus, more, pushed}

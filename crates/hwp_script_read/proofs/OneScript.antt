@@ -10,7 +10,7 @@ use Rattle.hwp_script_lines.specs.hwp_geom.declared.VSlot.{VSlot}
 use Rattle.hwp_script_lines.specs.declared.ScriptLine.{ScriptLine}
 use Rattle.hwp_script_lines.specs.declared.Numbered.{Numbered}
 use Rattle.hwp_script_lines.proofs.LineLaws.{one_reading}
-use Rattle.hwp_script_read.specs.declared.script.Script.{Script}
+use Rattle.hwp_script_lines.specs.declared.Script.{Script}
 use Rattle.hwp_script_lines.specs.declared.Command.{Command}
 use Rattle.hwp_script_lines.specs.declared.Go.{Go}
 use Rattle.hwp_script_read.specs.Collects.{Collects}

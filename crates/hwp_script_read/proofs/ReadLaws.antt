@@ -9,7 +9,7 @@ use Rattle.hwp_script_lines.specs.declared.ScriptLine.{ScriptLine}
 use Rattle.hwp_script_lines.specs.declared.ScriptLine.TheVariants as forms
 use Rattle.hwp_script_lines.specs.declared.LineRead.TheVariants as reads
 use Rattle.hwp_script_lines.specs.declared.Numbered.{Numbered}
-use Rattle.hwp_script_read.specs.declared.script.Script.{Script}
+use Rattle.hwp_script_lines.specs.declared.Script.{Script}
 use Rattle.hwp_script_read.specs.declared.why.Refused.{Refused}
 use Rattle.hwp_script_read.specs.declared.why.Why.{Why}
 use Rattle.hwp_script_read.specs.declared.why.Why.TheVariants as whys

@@ -8,9 +8,9 @@ use Rattle.hwp_script_lines.specs.declared.ScriptLine.{ScriptLine}
 use Rattle.hwp_script_lines.specs.declared.ScriptLine.TheVariants as forms
 use Rattle.hwp_script_lines.specs.declared.Command.{Command}
 use Rattle.hwp_script_lines.specs.declared.Command.TheVariants as commands
-use Rattle.hwp_script_read.specs.Context.{command_of, commands_in, place_after}
+use Rattle.hwp_script_read.specs.Context.{command_of, commands_in, place_after, forks, is_again}
 use Rattle.hwp_script_read.specs.Collects.{command_at, commands_from}
-use Rattle.hwp_script_read.specs.Forks.{forks, is_again, is_fork_of}
+use Rattle.hwp_script_lines.specs.hwp_script_words.Forks.{is_fork_of}
 use Rattle.hwp_script_read.specs.Reasons.{IsClean}
 use Rattle.hwp_script_read.proofs.CleanLaws.{clean_command}
 use Rattle.hwp_script_read.proofs.CollectLaws.{same, other}

@@ -16,7 +16,7 @@ use Rattle.hwp_script_lines.specs.declared.ScriptLine.{ScriptLine}
 use Rattle.hwp_script_lines.specs.declared.ScriptLine.TheVariants as forms
 use Rattle.hwp_script_read.specs.Context.{version_in, version_after, twins_in, twins_after, names_in, slot_of, group, highest}
 use Rattle.hwp_script_read.specs.Reasons.{IsNoPair, IsClean}
-use Rattle.hwp_script_read.specs.Valid.{IsAnon, ArePaired, IsTwinFit, AreTwinsFit}
+use Rattle.hwp_script_lines.specs.hwp_script_words.Valid.{IsAnon, ArePaired, IsTwinFit, AreTwinsFit}
 use Rattle.hwp_script_read.proofs.ContextLaws.{pushed, twins-long}
 use Rattle.hwp_script_read.proofs.CleanLaws.{none_above, clean_cow, cow_declared, clean_late}
 use Rattle.hwp_script_read.proofs.CollectLaws.{same, other}

@@ -9,7 +9,7 @@ use Rattle.std.proofs.lemmas.List.FromFn.{length-map-range_with_len}
 use Rattle.std.proofs.lemmas.Option.{slice_get-get_or, slice_get_within, get_or_from_slice_get}
 use Rattle.std.proofs.lemmas.Bool.{cases_eq}
 use Rattle.std.proofs.lemmas.Bool.Decides.{nat_tests}
-use Rattle.hwp_script_read.specs.Limits.{schedule_limit}
+use Rattle.hwp_script_lines.specs.hwp_script_words.Limits.{schedule_limit}
 use Rattle.hwp_script_lines.specs.hwp_geom.Limits.{command_limit, cpu_limit_of, frame_limit_of, page_limit_of, translation_limit_of}
 use Rattle.hwp_script_lines.specs.hwp_geom.Layout.{IsBacked}
 use Rattle.hwp_script_lines.specs.hwp_geom.declared.Layout.{Layout}
@@ -21,12 +21,13 @@ use Rattle.hwp_script_lines.specs.declared.ScriptLine.{ScriptLine}
 use Rattle.hwp_script_lines.specs.declared.ScriptLine.TheVariants as forms
 use Rattle.hwp_script_lines.specs.declared.Go.{Go}
 use Rattle.hwp_script_read.specs.Context.{version_in, version_after, locked_of, locked_in, cpus_of, frames_of, file_of, proc_of, thread_of, page_of, trans_of, command_of, words_of, names_in, twins_in, guests_in, cpus_in, frames_in, files_in, procs_in, threads_in, pages_in, trans_in, commands_in, go_in, place_in, place_after}
-use Rattle.hwp_script_read.specs.Reasons.{IsClean, AreClean, IsNewer, top_cpu}
+use Rattle.hwp_script_read.specs.Reasons.{IsClean, AreClean, top_cpu}
+use Rattle.hwp_script_lines.specs.hwp_script_words.Commands.{IsNewer}
 use Rattle.hwp_script_read.specs.Collects.{command_at, commands_from, commands_of, IsEnded, Collects}
-use Rattle.hwp_script_read.specs.Forks.{is_wrong_fork}
-use Rattle.hwp_script_read.specs.Valid.{IsCommandOf, AreLists, AreTwinsFit, AreForksFit, NamesNoTwin, IsValid}
+use Rattle.hwp_script_lines.specs.hwp_script_words.Forks.{is_wrong_fork}
+use Rattle.hwp_script_lines.specs.hwp_script_words.Valid.{IsCommandOf, AreLists, AreTwinsFit, AreForksFit, NamesNoTwin, IsValid}
 use Rattle.hwp_script_read.specs.Reads.{Reads}
-use Rattle.hwp_script_read.specs.declared.script.Script.{Script}
+use Rattle.hwp_script_lines.specs.declared.Script.{Script}
 use Rattle.hwp_script_lines.specs.declared.Command.{Command}
 use Rattle.hwp_script_read.proofs.ContextLaws.{onto, plus, more, pushed, twins-long, guests-long}
 use Rattle.hwp_script_read.proofs.CleanLaws.{cpu_most, frame_most, page_most, trans_most, none_above, clean_cpus, clean_frames, clean_file, clean_proc, clean_thread, clean_page, clean_trans, clean_command, clean_schedule, clean_end}

@@ -2,7 +2,7 @@
 use Rattle.std.specs.Prelude.{◌≡◌, ℕ, ◌-◌, ◌==◌, ◌++◌, ◌↔◌, true, false, if◌then◌else◌, length, map, get_or, slice_get, option_to_list, Contains, Option, Some, None, List, [], ◌∷◌}
 use Rattle.std.specs.List.{range_with_len, slice_set}
 use Rattle.std.specs.Option.{unwrap_or}
-use Rattle.hwp_script_read.specs.declared.script.Script.{Script}
+use Rattle.hwp_script_lines.specs.declared.Script.{Script}
 use Rattle.hwp_script_lines.specs.declared.Command.{Command}
 use Rattle.hwp_script_lines.specs.declared.ScriptLine.{ScriptLine}
 use Rattle.hwp_script_lines.specs.declared.ScriptLine.TheVariants as forms

@@ -1,6 +1,6 @@
 -- What the lines above a line declare.
 use Rattle.std.specs.Prelude.{ℕ, ◌==◌, ◌++◌, Bool, true, false, max, length, sum, fold, filter_map, flat_map, slice_get, Option, Some, None, List, [], ◌∷◌}
-use Rattle.std.specs.List.{slice_set}
+use Rattle.std.specs.List.{slice_set, list_any}
 use Rattle.hwp_script_lines.specs.hwp_geom.declared.Layout.{Layout}
 use Rattle.hwp_script_lines.specs.hwp_geom.declared.Proc.{Proc}
 use Rattle.hwp_script_lines.specs.hwp_geom.declared.VSlot.{VSlot}
@@ -16,6 +16,8 @@ use Rattle.hwp_script_lines.specs.declared.Backing.{Backing}
 use Rattle.hwp_script_lines.specs.declared.Backing.TheVariants as backings
 use Rattle.hwp_script_lines.specs.declared.Go.{Go}
 use Rattle.hwp_script_lines.specs.declared.Command.{Command}
+use Rattle.hwp_script_lines.specs.declared.Command.TheVariants as commands
+use Rattle.hwp_script_lines.specs.hwp_script_words.Forks.{is_fork_of}
 
 -- the number of processors that a line declares
 abbrev pub cpus_of : ScriptLine → Option ℕ
@@ -239,3 +241,13 @@ group forms.End = 15
 abbrev pub highest : List ScriptLine → ℕ
 highest [] = 0
 highest (f ∷ fs) = max (group f) (highest fs)
+
+-- whether a line is a fork of the process
+abbrev pub forks : ℕ → ScriptLine → Bool
+forks process (forms.Command c) = is_fork_of process c
+forks process f = false
+
+-- whether one of the lines forked the process that the command forks
+abbrev pub is_again : List ScriptLine → Command → Bool
+is_again above (commands.Fork t p) = list_any (forks p.0) above
+is_again above c = false

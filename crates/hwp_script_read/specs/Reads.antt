@@ -2,9 +2,9 @@
 use Rattle.std.specs.Prelude.{◌≡◌, ℕ, ◌<◌, ◌≤◌, length, List}
 use Rattle.hwp_script_lines.specs.Lines.{AreLinesOf}
 use Rattle.hwp_script_lines.specs.declared.Numbered.{Numbered}
-use Rattle.hwp_script_read.specs.Limits.{script_limit}
+use Rattle.hwp_script_lines.specs.hwp_script_words.Limits.{script_limit}
 use Rattle.hwp_script_read.specs.Refusals.{AreScript, AreRefused}
-use Rattle.hwp_script_read.specs.declared.script.Script.{Script}
+use Rattle.hwp_script_lines.specs.declared.Script.{Script}
 use Rattle.hwp_script_read.specs.declared.why.Refused.{Refused}
 use Rattle.hwp_script_read.specs.declared.why.Why.{Why}
 use Rattle.hwp_script_read.specs.declared.why.Why.TheVariants as whys

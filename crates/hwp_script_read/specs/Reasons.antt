@@ -15,11 +15,11 @@ use Rattle.hwp_script_lines.specs.declared.Backing.TheVariants as backings
 use Rattle.hwp_script_lines.specs.declared.Go.{Go}
 use Rattle.hwp_script_lines.specs.declared.Command.{Command}
 use Rattle.hwp_script_lines.specs.declared.Command.TheVariants as commands
-use Rattle.hwp_script_read.specs.Limits.{schedule_limit}
-use Rattle.hwp_script_read.specs.Context.{version_in, cpus_in, frames_in, kernel_in, recovery_in, early_in, files_in, procs_in, threads_in, pages_in, trans_in, names_in, lists_in, commands_in, go_in, place_in, process_of, slot_of, highest}
+use Rattle.hwp_script_lines.specs.hwp_script_words.Limits.{schedule_limit}
+use Rattle.hwp_script_read.specs.Context.{version_in, cpus_in, frames_in, kernel_in, recovery_in, early_in, files_in, procs_in, threads_in, pages_in, trans_in, names_in, lists_in, commands_in, go_in, place_in, process_of, slot_of, highest, is_again}
 use Rattle.hwp_script_read.specs.Collects.{commands_of}
-use Rattle.hwp_script_read.specs.Forks.{actor, has_shared_page, is_again, is_wrong_fork, names_twin}
-use Rattle.hwp_script_read.specs.Guests.{cannot_be_guest}
+use Rattle.hwp_script_lines.specs.hwp_script_words.Forks.{actor, has_shared_page, is_wrong_fork, names_twin}
+use Rattle.hwp_script_lines.specs.hwp_script_words.Guests.{cannot_be_guest}
 use Rattle.hwp_script_read.specs.declared.why.Why.{Why}
 use Rattle.hwp_script_read.specs.declared.why.Why.TheVariants as whys
 
@@ -105,13 +105,6 @@ IsBackingUndeclared above (backings.File n x) = files_in above ≤ n
 abbrev pub top_cpu : List Go → ℕ
 top_cpu [] = 0
 top_cpu (w ∷ ws) = max w.cpu.0 (top_cpu ws)
-
--- a command that version Two alone has
-abbrev pub IsNewer : Command → Type 0
-IsNewer (commands.Open n) = Unit {0}
-IsNewer (commands.Watch t w) = Unit {0}
-IsNewer (commands.Fork t p) = Unit {0}
-IsNewer c = ⊥
 
 -- a command names what there can't be in the version; its lines, threads and files are within limits that all versions have
 abbrev pub IsBeyond : Version → Command → Type 0

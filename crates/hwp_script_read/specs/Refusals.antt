@@ -11,7 +11,7 @@ use Rattle.hwp_script_read.specs.Reasons.{Applies, AreClean, number}
 use Rattle.hwp_script_read.specs.Collects.{Collects, IsEnded}
 use Rattle.hwp_script_read.specs.Sums.{Sums}
 use Rattle.hwp_script_read.specs.declared.context.Summary.{Summary}
-use Rattle.hwp_script_read.specs.declared.script.Script.{Script}
+use Rattle.hwp_script_lines.specs.declared.Script.{Script}
 use Rattle.hwp_script_read.specs.declared.why.Refused.{Refused}
 use Rattle.hwp_script_read.specs.declared.why.Why.{Why}
 use Rattle.hwp_script_read.specs.declared.why.Why.TheVariants as whys

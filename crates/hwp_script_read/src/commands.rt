@@ -1,8 +1,9 @@
 ghost use Rattle.std.specs.Prelude.{◌≡◌, ℕ, ◌<◌, ◌≤◌, ◌↔◌, true, length, slice_get, option_and_then, IsTrue, IsSomeAnd, MatchOption};
 ghost use Rattle.hwp_script_read.specs.Collects.{commands_of};
 ghost use Rattle.hwp_script_read.specs.Context.{version_in, names_in, place_in};
-ghost use Rattle.hwp_script_read.specs.Forks.{is_wrong_fork};
-ghost use Rattle.hwp_script_read.specs.Reasons.{IsClean, IsLowest, IsForeign, IsNoFilePage, IsNoAnonPage, IsUndeclared, IsNewer, IsBeyond, IsElsewhere, IsMisused};
+ghost use Rattle.hwp_script_lines.specs.hwp_script_words.Forks.{is_wrong_fork};
+ghost use Rattle.hwp_script_read.specs.Reasons.{IsClean, IsLowest, IsForeign, IsNoFilePage, IsNoAnonPage, IsUndeclared, IsBeyond, IsElsewhere, IsMisused};
+ghost use Rattle.hwp_script_lines.specs.hwp_script_words.Commands.{IsNewer};
 ghost use Rattle.hwp_script_read.specs.Sums.{Sums};
 
 use crate::context::{Summary, at};

@@ -4,9 +4,8 @@ ghost use Rattle.hwp_script_read.specs.Context.{version_in};
 ghost use Rattle.hwp_script_read.specs.Collects.{Collects};
 ghost use Rattle.hwp_script_read.specs.Sums.{Sums};
 
-use crate::script::Script;
 use hwp_script_lines::{
-    Command, Go, Layout, List, PageKind, ScriptLine, ThreadDecl, TransDecl, VSlot, Version,
+    Command, Go, Layout, List, PageKind, Script, ScriptLine, ThreadDecl, TransDecl, VSlot, Version,
 };
 use std::alloc::Global;
 

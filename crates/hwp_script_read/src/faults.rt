@@ -1,15 +1,14 @@
 ghost use Rattle.std.specs.Prelude.{◌≡◌, ℕ, max, ◌<◌, ◌+◌, ◌↔◌, length, slice_get, IsTrue, MatchOption, Contains, Some, true};
 ghost use Rattle.hwp_script_read.specs.Reasons.{IsClean, IsLowest, IsMisplaced, IsBackingOver, IsBackingUndeclared, top_cpu};
-ghost use Rattle.hwp_script_read.specs.Limits.{schedule_limit};
+ghost use Rattle.hwp_script_lines.specs.hwp_script_words.Limits.{schedule_limit};
 ghost use Rattle.hwp_script_read.specs.Sums.{Sums};
 
 use crate::commands::command_fault;
 use crate::context::{Summary, at};
 use crate::cows::cow_fault;
 use crate::guests::guest_fault;
-use crate::script::MAX_SCHEDULE;
 use crate::why::Why;
-use hwp_script_lines::{Backing, Go, MAX_FILES, MAX_PROCS, MAX_THREADS, ScriptLine};
+use hwp_script_lines::{Backing, Go, MAX_FILES, MAX_PROCS, MAX_SCHEDULE, MAX_THREADS, ScriptLine};
 
 /// Whether a line of a group may not stand below these lines.
 pub(crate) fn is_misplaced(summary: &Summary, above: &[ScriptLine], group: u8) -> bool

@@ -2,8 +2,8 @@ ghost use Rattle.std.specs.Prelude.{◌≡◌, ◌&&◌, ◌||◌, ◌==◌, fal
 ghost use Rattle.std.specs.List.{list_any};
 ghost use Rattle.std.specs.Option.{option_map_or};
 ghost use Rattle.hwp_script_lines.specs.hwp_geom.Layout.{has_twin, is_slot, is_twin};
-ghost use Rattle.hwp_script_read.specs.Forks.{cannot_share, forks, freezes, froze, has_shared_page, is_again, is_away, is_cow, is_doubled, is_either, is_fork_of, is_odd, is_shared, is_thread_of, is_unfit, is_used_by, is_wrong_child, is_wrong_fork, names_twin, slot_named, slots, actor};
-ghost use Rattle.hwp_script_read.specs.Context.{slot_of};
+ghost use Rattle.hwp_script_lines.specs.hwp_script_words.Forks.{cannot_share, freezes, froze, has_shared_page, is_away, is_cow, is_doubled, is_either, is_fork_of, is_odd, is_shared, is_thread_of, is_unfit, is_used_by, is_wrong_child, is_wrong_fork, names_twin, slot_named, slots, actor};
+ghost use Rattle.hwp_script_read.specs.Context.{forks, is_again, slot_of};
 ghost use Rattle.hwp_script_read.specs.Sums.{names_of};
 
 use crate::context::{Summary, at};

@@ -2,7 +2,7 @@ ghost use Rattle.std.specs.Prelude.{◌≡◌, ◌<◌, length, MatchOption};
 ghost use Rattle.std.specs.List.{list_any};
 ghost use Rattle.hwp_script_lines.specs.hwp_geom.Layout.{is_guest};
 ghost use Rattle.hwp_script_read.specs.Context.{process_of};
-ghost use Rattle.hwp_script_read.specs.Guests.{bars_guest, cannot_be_guest, is_apart};
+ghost use Rattle.hwp_script_lines.specs.hwp_script_words.Guests.{bars_guest, cannot_be_guest, is_apart};
 ghost use Rattle.hwp_script_read.specs.Reasons.{IsClean, IsLowest};
 ghost use Rattle.hwp_script_read.specs.Sums.{Sums, names_of};
 

@@ -5,9 +5,8 @@ ghost use Rattle.hwp_script_read.specs.Refusals.{AreGathered, AreScript, AreRefu
 
 use crate::context::Summary;
 use crate::faults::fault;
-use crate::script::Script;
 use crate::why::{Refused, Why};
-use hwp_script_lines::{LineRead, Numbered, OutOfMemory, ScriptLine};
+use hwp_script_lines::{LineRead, Numbered, OutOfMemory, Script, ScriptLine};
 use std::alloc::Global;
 
 /// Whether a line is `end`.

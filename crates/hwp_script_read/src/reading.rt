@@ -1,13 +1,12 @@
 ghost use Rattle.std.specs.Prelude.{◌≡◌, IfOk, IsErrOf};
 ghost use Rattle.hwp_script_read.specs.Reads.{Reads, IsRefused};
-ghost use Rattle.hwp_script_read.specs.Valid.{IsValid};
-ghost use Rattle.hwp_script_read.specs.declared.script.Script.{Script};
+ghost use Rattle.hwp_script_lines.specs.hwp_script_words.Valid.{IsValid};
+ghost use Rattle.hwp_script_lines.specs.declared.Script.{Script};
 ghost use Rattle.hwp_script_read.specs.declared.why.Refused.{Refused};
 
 use crate::judging::judge;
-use crate::script::{MAX_SCRIPT, Script};
 use crate::why::{Refused, Why};
-use hwp_script_lines::{OutOfMemory, read_lines};
+use hwp_script_lines::{MAX_SCRIPT, OutOfMemory, Script, read_lines};
 use std::alloc::Global;
 
 /// Why `read` gives no script.

@@ -2,7 +2,7 @@
 //! by hand, from the rules of docs/FORMATS.md.
 
 ghost use Rattle.std.specs.Prelude.{◌≡◌, []};
-ghost use Rattle.hwp_script.specs.hwp_script_read.Valid.{IsValid};
+ghost use Rattle.hwp_script.specs.hwp_script_read.hwp_script_words.Valid.{IsValid};
 ghost use Rattle.hwp_tlb.specs.hwp_table_words.Known.{first_knowing};
 ghost use Rattle.hwp_tlb.specs.hwp_table_words.Seats.{IsTableOf};
 

@@ -5,7 +5,7 @@ use denote.Param.Send.{IsSend, IsSync, sendable}
 use Rattle.std.proofs.Crossing.{crosses}
 use Rattle.hwp_threads.specs.hwp_geom.contracts.list.List as List
 use Rattle.hwp_threads.specs.hwp_geom.contracts.layout.Layout as Layout
-use Rattle.hwp_top_report.specs.hwp_script_lines.contracts.command.Command as Command
+use Rattle.hwp_top_report.specs.hwp_script_words.contracts.command.Command as Command
 use Rattle.hwp_top_report.specs.hwp_cpu_row.hwp_cec.contracts.ring.Ring as Ring
 use Rattle.hwp_top_report.specs.hwp_cpu_row.hwp_cec.contracts.collector.Collector as Collector
 use Rattle.hwp_top_report.specs.hwp_cpu_row.contracts.local.Watching as Watching

@@ -1,6 +1,6 @@
 -- What each call writes, and why it writes nothing.
 use Rattle.std.specs.Prelude.{◌≡◌, ◌≤◌, ℕ, List, Option, None, IsSomeAnd, length}
-use Rattle.hwp_script.specs.hwp_script_read.Limits.{script_limit}
+use Rattle.hwp_script.specs.hwp_script_read.hwp_script_words.Limits.{script_limit}
 use Rattle.hwp_script.specs.hwp_script_read.declared.Refused.{Refused}
 use Rattle.hwp_script.specs.hwp_script_read.declared.Script.{Script}
 use Rattle.hwp_script.specs.Round.{IsTextOf}

@@ -8,9 +8,9 @@ use Rattle.hwp_table_words.specs.hwp_core_rule.parts.Holdings.{HoldsNothing}
 use Rattle.hwp_table_words.specs.hwp_core_rule.Boards.{Played}
 use Rattle.hwp_table_words.specs.hwp_plain.Openings.{home_with}
 use Rattle.hwp_table_words.specs.hwp_plain.Ends.{AreHistories}
-use Rattle.hwp_cpu_row.specs.hwp_script_read.declared.Command.{Command}
-use Rattle.hwp_cpu_row.specs.hwp_script_read.declared.Script.{Script}
-use Rattle.hwp_cpu_row.specs.hwp_script_read.Valid.{IsValid}
+use Rattle.hwp_cpu_row.specs.hwp_script_words.declared.Command.{Command}
+use Rattle.hwp_cpu_row.specs.hwp_script_words.declared.Script.{Script}
+use Rattle.hwp_cpu_row.specs.hwp_script_words.Valid.{IsValid}
 use Rattle.hwp_cpu_row.specs.hwp_report_text.declared.Report.{Report}
 use Rattle.hwp_cpu_row.specs.declared.Row.{Row}
 use Rattle.hwp_table_words.specs.Ends.{EndValue}

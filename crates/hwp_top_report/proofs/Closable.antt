@@ -18,9 +18,9 @@ use Rattle.hwp_table_words.specs.hwp_core_rule.declared.State.{State}
 use Rattle.hwp_table_words.specs.hwp_core_rule.declared.View.{View}
 use Rattle.hwp_table_words.specs.hwp_core_rule.Rule.{Holds}
 use Rattle.hwp_table_words.specs.hwp_core_rule.Boards.{AreSeated, view_of}
-use Rattle.hwp_cpu_row.specs.hwp_script_read.declared.Command.{Command}
-use Rattle.hwp_cpu_row.specs.hwp_script_read.declared.Script.{Script}
-use Rattle.hwp_cpu_row.specs.hwp_script_read.Valid.{IsValid}
+use Rattle.hwp_cpu_row.specs.hwp_script_words.declared.Command.{Command}
+use Rattle.hwp_cpu_row.specs.hwp_script_words.declared.Script.{Script}
+use Rattle.hwp_cpu_row.specs.hwp_script_words.Valid.{IsValid}
 use Rattle.hwp_cpu_row.specs.hwp_report_text.declared.Acted.{Acted}
 use Rattle.hwp_cpu_row.specs.hwp_report_text.declared.Acted.TheVariants as acts
 use Rattle.hwp_cpu_row.specs.hwp_report_text.Acts.{is_panic}

@@ -23,8 +23,8 @@ use Rattle.hwp_plain.proofs.of_hwp_core_rule.CountsBelow.{some-term}
 use Rattle.hwp_plain.proofs.of_hwp_core_rule.Lists.{at_map, each-map, each-weaken, map-was, sum-zero}
 use Rattle.hwp_plain.proofs.of_hwp_core_rule.MoveKeeps.{shaped}
 use Rattle.hwp_plain.proofs.of_hwp_core_rule.WordsByKind.{word-there}
-use Rattle.hwp_cpu_row.specs.hwp_script_read.declared.Command.{Command}
-use Rattle.hwp_cpu_row.specs.hwp_script_read.declared.Command.TheVariants as commands
+use Rattle.hwp_cpu_row.specs.hwp_script_words.declared.Command.{Command}
+use Rattle.hwp_cpu_row.specs.hwp_script_words.declared.Command.TheVariants as commands
 use Rattle.hwp_cpu_row.specs.hwp_report_text.declared.FrameLine.{FrameLine}
 use Rattle.hwp_cpu_row.specs.hwp_report_text.declared.Report.{Report}
 use Rattle.hwp_cpu_row.specs.hwp_report_text.declared.Stop.{Stop}

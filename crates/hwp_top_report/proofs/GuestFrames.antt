@@ -23,11 +23,11 @@ use Rattle.hwp_law_served.specs.hwp_page.declared.At.{At}
 use Rattle.hwp_law_served.specs.hwp_page.declared.Entry.{Entry}
 use Rattle.hwp_law_served.specs.hwp_page.declared.What.{What}
 use Rattle.hwp_law_served.specs.hwp_page.declared.What.TheVariants as entries
-use Rattle.hwp_law_served.specs.hwp_script_read.Forks.{names_twin}
-use Rattle.hwp_law_served.specs.hwp_script_read.Valid.{IsValid}
-use Rattle.hwp_law_served.specs.hwp_script_read.declared.Command.{Command}
-use Rattle.hwp_law_served.specs.hwp_script_read.declared.Command.TheVariants as commands
-use Rattle.hwp_law_served.specs.hwp_script_read.declared.Script.{Script}
+use Rattle.hwp_law_served.specs.hwp_script_words.Forks.{names_twin}
+use Rattle.hwp_law_served.specs.hwp_script_words.Valid.{IsValid}
+use Rattle.hwp_law_served.specs.hwp_script_words.declared.Command.{Command}
+use Rattle.hwp_law_served.specs.hwp_script_words.declared.Command.TheVariants as commands
+use Rattle.hwp_law_served.specs.hwp_script_words.declared.Script.{Script}
 use Rattle.hwp_law_served.specs.hwp_report_text.declared.Answer.{Answer}
 use Rattle.hwp_law_served.specs.hwp_report_text.declared.Answer.TheVariants as answers
 use Rattle.hwp_law_served.specs.hwp_report_text.declared.CpuLine.{CpuLine}

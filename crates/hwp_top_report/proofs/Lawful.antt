@@ -5,7 +5,7 @@ use Rattle.hwp_law_served.specs.hwp_geom.declared.Who.{Who}
 use Rattle.hwp_law_served.specs.hwp_geom.declared.VSlot.{VSlot}
 use Rattle.hwp_law_served.specs.hwp_core_rule.declared.State.{State}
 use Rattle.hwp_law_served.specs.hwp_core_rule.Boards.{Played}
-use Rattle.hwp_law_served.specs.hwp_script_read.declared.Script.{Script}
+use Rattle.hwp_law_served.specs.hwp_script_words.declared.Script.{Script}
 use Rattle.hwp_law_served.specs.hwp_report_text.declared.Report.{Report}
 use Rattle.hwp_law_served.specs.hwp_law.Law.{AnswersFit, HasShape, HistoriesFit, IsLawful}
 use Rattle.hwp_law_served.proofs.Reported.{histories-lead, histories-ordered}
@@ -22,7 +22,7 @@ use Rattle.hwp_law_served.proofs.deeds.Made.{entries-made-by, entries-named}
 use Rattle.hwp_top_report.proofs.report_lines.Events.{events-are}
 use Rattle.hwp_top_report.proofs.policies.Policies.{are-seen, never-falls}
 use Rattle.hwp_law_served.proofs.Windows.{states-in-windows}
-use Rattle.hwp_law_served.specs.hwp_script_read.Valid.{IsValid}
+use Rattle.hwp_law_served.specs.hwp_script_words.Valid.{IsValid}
 use Rattle.hwp_law_served.specs.hwp_law.Acting.{acting_script, copied_at}
 use Rattle.hwp_top_report.proofs.forks.Private.{private-holds}
 use Rattle.hwp_law_served.proofs.copied.CopyLast.{last-stores}

@@ -4,10 +4,10 @@ use Rattle.hwp_table_words.specs.hwp_core_rule.declared.State.{State}
 use Rattle.hwp_table_words.specs.hwp_core_rule.Opening.{opening}
 use Rattle.hwp_table_words.specs.hwp_core_rule.Rule.{Holds}
 use Rattle.hwp_table_words.specs.hwp_core_rule.Boards.{Played}
-use Rattle.hwp_cpu_row.specs.hwp_script_read.declared.Command.{Command}
-use Rattle.hwp_cpu_row.specs.hwp_script_read.declared.Script.{Script}
+use Rattle.hwp_cpu_row.specs.hwp_script_words.declared.Command.{Command}
+use Rattle.hwp_cpu_row.specs.hwp_script_words.declared.Script.{Script}
 use Rattle.hwp_law_served.proofs.turns.TurnLeads.{leads-hold}
-use Rattle.hwp_cpu_row.specs.hwp_script_read.Valid.{IsValid}
+use Rattle.hwp_cpu_row.specs.hwp_script_words.Valid.{IsValid}
 use Rattle.hwp_cpu_row.specs.declared.Row.{Row}
 use Rattle.hwp_law_served.specs.Runs.{notes_of}
 use Rattle.hwp_law_served.proofs.lines.FrameRecords.{AreNoted}

@@ -24,7 +24,7 @@ use Rattle.hwp_law_served.specs.hwp_core_rule.parts.Owners.{NamesOwn}
 use Rattle.hwp_law_served.specs.hwp_core_rule.parts.Places.{in_hand}
 use Rattle.hwp_law_served.specs.hwp_core_rule.Boards.{Played}
 use Rattle.hwp_law_served.specs.hwp_core_rule.Turns.{Member}
-use Rattle.hwp_law_served.specs.hwp_script_read.declared.Script.{Script}
+use Rattle.hwp_law_served.specs.hwp_script_words.declared.Script.{Script}
 use Rattle.hwp_law_served.specs.hwp_report_text.declared.Report.{Report}
 use Rattle.hwp_law_served.specs.Run.{CoreRun}
 use Rattle.hwp_law_served.specs.Turns.{Leads}

@@ -7,7 +7,7 @@ use Rattle.std.proofs.lemmas.Option.{get_or_from_slice_get, none-some, slice_get
 use Rattle.hwp_plain.specs.hwp_geom.declared.Cpu.{Cpu}
 use Rattle.hwp_plain.specs.hwp_words.Stops.{stopper_of}
 use Rattle.hwp_plain.specs.hwp_core_rule.Lists.{EachMember}
-use Rattle.hwp_cpu_row.specs.hwp_script_read.declared.Command.{Command}
+use Rattle.hwp_cpu_row.specs.hwp_script_words.declared.Command.{Command}
 use Rattle.hwp_cpu_row.specs.hwp_report_text.declared.Answer.TheVariants as answers
 use Rattle.hwp_cpu_row.specs.hwp_report_text.declared.CpuLine.{CpuLine}
 use Rattle.hwp_cpu_row.specs.hwp_report_text.declared.StopCause.{StopCause}

@@ -1,8 +1,8 @@
 -- The report of any run that has ended is lawful, and of that run.
 use Rattle.std.proofs.Common.{◌≡◌, List, Some, length, sym, ap, ◌∙◌, subst}
 use Rattle.std.proofs.lemmas.List.{length-map}
-use Rattle.hwp_cpu_row.specs.hwp_script_read.declared.Script.{Script}
-use Rattle.hwp_cpu_row.specs.hwp_script_read.Valid.{IsValid}
+use Rattle.hwp_cpu_row.specs.hwp_script_words.declared.Script.{Script}
+use Rattle.hwp_cpu_row.specs.hwp_script_words.Valid.{IsValid}
 use Rattle.hwp_cpu_row.specs.hwp_report_text.declared.CpuLine.{CpuLine}
 use Rattle.hwp_cpu_row.specs.hwp_report_text.declared.Stop.{Stop}
 use Rattle.hwp_cpu_row.specs.hwp_report_text.declared.Report.{Report}

@@ -37,10 +37,10 @@ use Rattle.hwp_law_served.specs.hwp_core_rule.Boards.{Played}
 use Rattle.hwp_law_served.specs.hwp_core_rule.Known.{Saw, SawAdopted, SawBadOf, SawLog, SawStop}
 use Rattle.hwp_law_served.specs.hwp_claim_frame.Claims.{SawPoison}
 use Rattle.hwp_law_served.specs.hwp_core_rule.Pages.{SawState}
-use Rattle.hwp_law_served.specs.hwp_script_read.declared.Command.{Command}
-use Rattle.hwp_law_served.specs.hwp_script_read.declared.Command.TheVariants as commands
-use Rattle.hwp_law_served.specs.hwp_script_read.declared.PrctlArgs.{PrctlArgs}
-use Rattle.hwp_law_served.specs.hwp_script_read.declared.Script.{Script}
+use Rattle.hwp_law_served.specs.hwp_script_words.declared.Command.{Command}
+use Rattle.hwp_law_served.specs.hwp_script_words.declared.Command.TheVariants as commands
+use Rattle.hwp_law_served.specs.hwp_script_words.declared.PrctlArgs.{PrctlArgs}
+use Rattle.hwp_law_served.specs.hwp_script_words.declared.Script.{Script}
 use Rattle.hwp_law_served.specs.hwp_report_text.declared.Answer.{Answer}
 use Rattle.hwp_law_served.specs.hwp_report_text.declared.Answer.TheVariants as answers
 use Rattle.hwp_law_served.specs.hwp_report_text.Offlines.{offline_answer}

@@ -29,8 +29,8 @@ use Rattle.hwp_law_served.specs.hwp_claim_act.declared.Failed.{Failed}
 use Rattle.hwp_law_served.specs.hwp_claim_act.Abandons.{is_now, signals_now}
 use Rattle.hwp_law_served.specs.hwp_severity.declared.Severity.{Severity}
 use Rattle.hwp_law_served.specs.hwp_severity.declared.Severity.TheVariants as severities
-use Rattle.hwp_law_served.specs.hwp_script_read.declared.Command.{Command}
-use Rattle.hwp_law_served.specs.hwp_script_read.declared.Script.{Script}
+use Rattle.hwp_law_served.specs.hwp_script_words.declared.Command.{Command}
+use Rattle.hwp_law_served.specs.hwp_script_words.declared.Script.{Script}
 use Rattle.hwp_law_served.specs.hwp_report_text.declared.Report.{Report}
 use Rattle.hwp_law_served.specs.hwp_law.Causes.{IsSigbus, SendsSigbus}
 use Rattle.hwp_law_served.specs.hwp_law.Commands.{current_thread}

@@ -17,9 +17,9 @@ use Rattle.hwp_law_served.specs.hwp_core_rule.Lists.{EachMember}
 use Rattle.hwp_law_served.proofs.of_hwp_core_rule.Lists.{at_map}
 use Rattle.hwp_law_served.specs.hwp_severity.declared.Severity.{Severity}
 use Rattle.hwp_law_served.specs.hwp_severity.declared.Severity.TheVariants as severities
-use Rattle.hwp_law_served.specs.hwp_script_read.declared.Command.{Command}
-use Rattle.hwp_law_served.specs.hwp_script_read.declared.Command.TheVariants as commands
-use Rattle.hwp_law_served.specs.hwp_script_read.declared.Script.{Script}
+use Rattle.hwp_law_served.specs.hwp_script_words.declared.Command.{Command}
+use Rattle.hwp_law_served.specs.hwp_script_words.declared.Command.TheVariants as commands
+use Rattle.hwp_law_served.specs.hwp_script_words.declared.Script.{Script}
 use Rattle.hwp_law_served.specs.hwp_report_text.declared.Acted.{Acted}
 use Rattle.hwp_law_served.specs.hwp_report_text.declared.Acted.TheVariants as acts
 use Rattle.hwp_law_served.specs.hwp_report_text.declared.EventLine.{EventLine}

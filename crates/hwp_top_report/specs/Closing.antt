@@ -14,8 +14,8 @@ use Rattle.hwp_plain.specs.hwp_core_rule.Rule.{Holds}
 use Rattle.hwp_plain.specs.hwp_core_rule.Words.{Words, size}
 use Rattle.hwp_plain.specs.hwp_core_rule.parts.Holdings.{HoldsNothing}
 use Rattle.hwp_plain.specs.Ends.{AreHistories}
-use Rattle.hwp_cpu_row.specs.hwp_script_read.declared.Command.{Command}
-use Rattle.hwp_cpu_row.specs.hwp_script_read.declared.Command.TheVariants as commands
+use Rattle.hwp_cpu_row.specs.hwp_script_words.declared.Command.{Command}
+use Rattle.hwp_cpu_row.specs.hwp_script_words.declared.Command.TheVariants as commands
 use Rattle.hwp_cpu_row.specs.hwp_report_text.declared.CpuLine.{CpuLine}
 use Rattle.hwp_cpu_row.specs.hwp_report_text.declared.FrameLine.{FrameLine}
 use Rattle.hwp_cpu_row.specs.hwp_report_text.declared.MarkLine.{MarkLine}

@@ -9,7 +9,7 @@ use Rattle.hwp_table_words.specs.hwp_core_rule.Boards.{AreSeated, Played}
 use Rattle.hwp_table_words.specs.hwp_core_rule.Ranks.{Pending, words_at}
 use Rattle.hwp_table_words.specs.hwp_plain.Openings.{home_with}
 use Rattle.hwp_table_words.specs.Ends.{EndValue}
-use Rattle.hwp_cpu_row.specs.hwp_script_read.declared.Script.{Script}
+use Rattle.hwp_cpu_row.specs.hwp_script_words.declared.Script.{Script}
 use Rattle.hwp_cpu_row.specs.hwp_report_text.declared.Report.{Report}
 use Rattle.hwp_law_served.specs.Turns.{Leads}
 use Rattle.hwp_cpu_row.specs.declared.Row.{Row}

@@ -19,7 +19,7 @@ pub use Rattle.hwp_cpu_row.specs.hwp_report_text as hwp_report_text
 pub use Rattle.hwp_cpu_row.specs.hwp_severity as hwp_severity
 pub use Rattle.hwp_plain.specs as hwp_plain
 pub use Rattle.hwp_table_words.specs as hwp_table_words
-pub use Rattle.hwp_plain.specs.hwp_script_lines as hwp_script_lines
+pub use Rattle.hwp_plain.specs.hwp_script_words as hwp_script_words
 pub use Rattle.hwp_table_words.specs.hwp_core_rule as hwp_core_rule
 pub use Rattle.hwp_table_words.specs.hwp_geom as hwp_geom
 pub use Rattle.hwp_table_words.specs.hwp_kill as hwp_kill

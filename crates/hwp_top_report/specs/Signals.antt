@@ -12,7 +12,7 @@ use Rattle.hwp_law_served.specs.hwp_page.declared.What.TheVariants.{Fail}
 use Rattle.hwp_law_served.specs.hwp_page.Actions.{situation_of}
 use Rattle.hwp_law_served.specs.hwp_page.Situations.{always_signals, is_signalling}
 use Rattle.hwp_law_served.specs.hwp_page.Step.{IsSeenList}
-use Rattle.hwp_law_served.specs.hwp_script_read.declared.Script.{Script}
+use Rattle.hwp_law_served.specs.hwp_script_words.declared.Script.{Script}
 use Rattle.hwp_law_served.specs.hwp_report_text.declared.FrameLine.{FrameLine}
 use Rattle.hwp_law_served.specs.hwp_report_text.declared.Report.{Report}
 use Rattle.hwp_law_served.specs.hwp_law.Losses.{LossesAgree}

@@ -1,7 +1,7 @@
 ghost use Rattle.std.specs.Prelude.{◌≡◌, length, map, IfOk};
 ghost use Rattle.hwp_law_served.specs.hwp_law.Law.{IsLawful};
 ghost use Rattle.hwp_law_served.specs.hwp_law.Runs.{IsOfRun};
-ghost use Rattle.hwp_cpu_row.specs.hwp_script_read.Valid.{IsValid};
+ghost use Rattle.hwp_cpu_row.specs.hwp_script_words.Valid.{IsValid};
 ghost use Rattle.hwp_table_words.specs.hwp_plain.Openings.{home_with};
 ghost use Rattle.hwp_table_words.specs.hwp_plain.Ends.{AreHistories};
 ghost use Rattle.hwp_top_report.specs.Caches.{IsCachedEnd};

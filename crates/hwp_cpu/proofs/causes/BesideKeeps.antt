@@ -30,8 +30,8 @@ use Rattle.hwp_law_served.specs.hwp_core_rule.Known.{HasMadeBeside, HasMadeNoneB
 use Rattle.hwp_law_served.proofs.of_hwp_core_rule.tasks.MadeEntries.{deeds-same}
 use Rattle.hwp_law_served.proofs.of_hwp_core_rule.tasks.SightKeeps.{saw-bad-of-stays, saw-stays}
 use Rattle.hwp_law_served.proofs.of_hwp_core_rule.tasks.StepLeaves.{content_of, steps-planned}
-use Rattle.hwp_law_served.specs.hwp_script_lines.declared.Command.{Command}
-use Rattle.hwp_law_served.specs.hwp_script_lines.declared.Command.TheVariants as commands
+use Rattle.hwp_law_served.specs.hwp_script_words.declared.Command.{Command}
+use Rattle.hwp_law_served.specs.hwp_script_words.declared.Command.TheVariants as commands
 use Rattle.hwp_law_served.specs.hwp_report_text.declared.Answer.{Answer}
 use Rattle.hwp_law_served.specs.hwp_report_text.declared.Answer.TheVariants as answers
 use Rattle.hwp_law_served.specs.hwp_report_text.declared.OfflineResult.{OfflineResult}

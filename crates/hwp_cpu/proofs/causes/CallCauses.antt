@@ -22,9 +22,9 @@ use Rattle.hwp_law_served.specs.hwp_core_rule.declared.SharedWord.TheVariants as
 use Rattle.hwp_law_served.specs.hwp_core_rule.declared.Setting.{Setting}
 use Rattle.hwp_law_served.specs.hwp_core_rule.declared.View.{View}
 use Rattle.hwp_law_served.specs.hwp_core_rule.parts.Policies.{last_policy, settings_of}
-use Rattle.hwp_law_served.specs.hwp_script_lines.declared.Command.{Command}
-use Rattle.hwp_law_served.specs.hwp_script_lines.declared.Command.TheVariants as commands
-use Rattle.hwp_law_served.specs.hwp_script_lines.declared.PrctlArgs.{PrctlArgs}
+use Rattle.hwp_law_served.specs.hwp_script_words.declared.Command.{Command}
+use Rattle.hwp_law_served.specs.hwp_script_words.declared.Command.TheVariants as commands
+use Rattle.hwp_law_served.specs.hwp_script_words.declared.PrctlArgs.{PrctlArgs}
 use Rattle.hwp_law_served.specs.hwp_report_text.declared.Answer.{Answer}
 use Rattle.hwp_law_served.specs.hwp_law.Outcomes.{reply_answer}
 use Rattle.hwp_law_served.specs.hwp_banks.Banks.{Banks, raw_event}

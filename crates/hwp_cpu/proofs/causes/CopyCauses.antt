@@ -22,8 +22,8 @@ use Rattle.hwp_law_served.proofs.of_hwp_core_rule.Lists.{each-weaken}
 use Rattle.hwp_law_served.proofs.of_hwp_core_rule.MoreEntries.{each-append}
 use Rattle.hwp_law_served.specs.hwp_core_rule.Known.{HasOnlyBeside, IsAt, Precedes, Saw, SawStop, deeds}
 use Rattle.hwp_law_served.specs.hwp_core_rule.Pages.{SawState}
-use Rattle.hwp_law_served.specs.hwp_script_lines.declared.Command.{Command}
-use Rattle.hwp_law_served.specs.hwp_script_lines.declared.Command.TheVariants as commands
+use Rattle.hwp_law_served.specs.hwp_script_words.declared.Command.{Command}
+use Rattle.hwp_law_served.specs.hwp_script_words.declared.Command.TheVariants as commands
 use Rattle.hwp_law_served.specs.hwp_report_text.declared.Answer.{Answer}
 use Rattle.hwp_law_served.specs.hwp_claim.declared.EventOutcome.{EventOutcome}
 use Rattle.hwp_law_served.specs.hwp_claim.Checks.{Check, left_by, lines_of}

@@ -14,8 +14,8 @@ use Rattle.hwp_law_served.specs.hwp_core_rule.declared.SharedWord.TheVariants as
 use Rattle.hwp_law_served.specs.hwp_core_rule.declared.View.{View}
 use Rattle.hwp_law_served.specs.hwp_core_rule.parts.Policies.{settings_of}
 use Rattle.hwp_law_served.specs.hwp_core_rule.Known.{Saw}
-use Rattle.hwp_law_served.specs.hwp_script_lines.declared.Command.{Command}
-use Rattle.hwp_law_served.specs.hwp_script_lines.declared.Command.TheVariants as commands
+use Rattle.hwp_law_served.specs.hwp_script_words.declared.Command.{Command}
+use Rattle.hwp_law_served.specs.hwp_script_words.declared.Command.TheVariants as commands
 use Rattle.hwp_law_served.specs.hwp_report_text.declared.Answer.{Answer}
 use Rattle.hwp_law_served.specs.hwp_law.Settings.{last_policy, settings}
 use Rattle.hwp_law_served.specs.hwp_claim.declared.EventOutcome.{EventOutcome}

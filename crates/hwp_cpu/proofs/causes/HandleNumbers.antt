@@ -9,8 +9,8 @@ use Rattle.hwp_law_served.specs.hwp_geom.declared.Who.{Who}
 use Rattle.hwp_law_served.specs.hwp_core_rule.declared.Made.{Made}
 use Rattle.hwp_law_served.specs.hwp_core_rule.declared.View.{View}
 use Rattle.hwp_law_served.proofs.of_hwp_core_rule.Lists.{set_else, set_here}
-use Rattle.hwp_law_served.specs.hwp_script_lines.declared.Command.{Command}
-use Rattle.hwp_law_served.specs.hwp_script_lines.declared.Command.TheVariants as commands
+use Rattle.hwp_law_served.specs.hwp_script_words.declared.Command.{Command}
+use Rattle.hwp_law_served.specs.hwp_script_words.declared.Command.TheVariants as commands
 use Rattle.hwp_law_served.specs.hwp_report_text.declared.Answer.{Answer}
 use Rattle.hwp_law_served.specs.hwp_report_text.declared.Answer.TheVariants as answers
 use Rattle.hwp_law_served.specs.hwp_law.Losses.{number_by, tells_number}

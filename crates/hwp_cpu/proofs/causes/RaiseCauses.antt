@@ -9,8 +9,8 @@ use Rattle.hwp_law_served.specs.hwp_geom.declared.ThreadDecl.{ThreadDecl}
 use Rattle.hwp_law_served.specs.hwp_geom.declared.Who.{Who}
 use Rattle.hwp_law_served.specs.hwp_severity.declared.McgBits.{McgBits}
 use Rattle.hwp_law_served.specs.hwp_core_rule.declared.View.{View}
-use Rattle.hwp_law_served.specs.hwp_script_lines.declared.Command.{Command}
-use Rattle.hwp_law_served.specs.hwp_script_lines.declared.Command.TheVariants as commands
+use Rattle.hwp_law_served.specs.hwp_script_words.declared.Command.{Command}
+use Rattle.hwp_law_served.specs.hwp_script_words.declared.Command.TheVariants as commands
 use Rattle.hwp_law_served.specs.hwp_report_text.declared.Answer.{Answer}
 use Rattle.hwp_law_served.specs.hwp_banks.Banks.{Banks}
 use Rattle.hwp_law_served.specs.hwp_law.Commands.{can_fail, process_of_thread}

@@ -16,9 +16,9 @@ use Rattle.hwp_law_served.specs.hwp_banks.declared.Origin.{Origin}
 use Rattle.hwp_law_served.specs.hwp_severity.declared.McgBits.{McgBits}
 use Rattle.hwp_law_served.specs.hwp_core_rule.declared.Made.{Made}
 use Rattle.hwp_law_served.specs.hwp_core_rule.declared.View.{View}
-use Rattle.hwp_law_served.specs.hwp_script_lines.declared.Command.{Command}
-use Rattle.hwp_law_served.specs.hwp_script_lines.declared.Command.TheVariants as commands
-use Rattle.hwp_law_served.specs.hwp_script_lines.declared.PrctlArgs.{PrctlArgs}
+use Rattle.hwp_law_served.specs.hwp_script_words.declared.Command.{Command}
+use Rattle.hwp_law_served.specs.hwp_script_words.declared.Command.TheVariants as commands
+use Rattle.hwp_law_served.specs.hwp_script_words.declared.PrctlArgs.{PrctlArgs}
 use Rattle.hwp_law_served.specs.hwp_report_text.declared.Answer.{Answer}
 use Rattle.hwp_law_served.specs.hwp_law.Commands.{current_thread}
 use Rattle.hwp_law_served.specs.hwp_law.Settings.{arguments, settings}

@@ -5,7 +5,7 @@ use Rattle.hwp_law_served.specs.hwp_geom.declared.Layout.{Layout}
 use Rattle.hwp_law_served.specs.hwp_geom.declared.Who.{Who}
 use Rattle.hwp_law_served.specs.hwp_core_rule.declared.Made.{Made}
 use Rattle.hwp_law_served.specs.hwp_core_rule.declared.View.{View}
-use Rattle.hwp_law_served.specs.hwp_script_lines.declared.Command.{Command}
+use Rattle.hwp_law_served.specs.hwp_script_words.declared.Command.{Command}
 use Rattle.hwp_law_served.specs.hwp_core_rule.Known.{HasMadeNone, HasOnly}
 use Rattle.hwp_law_served.specs.hwp_claim_frame.Claims.{IsStopped}
 use Rattle.hwp_law_served.specs.Causes.{FoundStopped}

@@ -11,8 +11,8 @@ use Rattle.hwp_cpu_command.specs.hwp_claim.hwp_guest.declared.Admit.{Admit}
 use Rattle.hwp_cpu_command.specs.hwp_claim.hwp_guest.declared.Admit.TheVariants as admissions
 use Rattle.hwp_cpu_command.specs.hwp_cpu_control.declared.Denial.{Denial}
 use Rattle.hwp_cpu_command.specs.hwp_cpu_control.declared.Denial.TheVariants as denials
-use Rattle.hwp_cpu_command.specs.hwp_script_lines.declared.Command.{Command}
-use Rattle.hwp_cpu_command.specs.hwp_script_lines.declared.Command.TheVariants as commands
+use Rattle.hwp_cpu_command.specs.hwp_script_words.declared.Command.{Command}
+use Rattle.hwp_cpu_command.specs.hwp_script_words.declared.Command.TheVariants as commands
 use Rattle.hwp_cpu_command.specs.hwp_core_rule.declared.State.{State}
 use Rattle.hwp_cpu_command.specs.hwp_core_rule.declared.View.{View}
 use Rattle.hwp_cpu_command.specs.hwp_core_rule.Rule.{Holds}

@@ -17,9 +17,9 @@ use Rattle.hwp_cpu_command.specs.hwp_page.declared.At.{At}
 use Rattle.hwp_cpu_command.specs.hwp_page.History.{BodyValue}
 use Rattle.hwp_cpu_command.specs.hwp_words.Names.{page_named}
 use Rattle.hwp_cpu_command.specs.hwp_words.Stops.{is_stopped}
-use Rattle.hwp_cpu_command.specs.hwp_script_lines.declared.Command.{Command}
-use Rattle.hwp_cpu_command.specs.hwp_script_lines.declared.Command.TheVariants as commands
-use Rattle.hwp_cpu_command.specs.hwp_script_lines.declared.PrctlArgs.{PrctlArgs}
+use Rattle.hwp_cpu_command.specs.hwp_script_words.declared.Command.{Command}
+use Rattle.hwp_cpu_command.specs.hwp_script_words.declared.Command.TheVariants as commands
+use Rattle.hwp_cpu_command.specs.hwp_script_words.declared.PrctlArgs.{PrctlArgs}
 use Rattle.hwp_cpu_command.specs.hwp_core_rule.declared.View.{View}
 use Rattle.hwp_cpu_command.specs.hwp_core_rule.declared.Turn.{Turn}
 use Rattle.hwp_cpu_command.specs.hwp_banks.Banks.{Banks}

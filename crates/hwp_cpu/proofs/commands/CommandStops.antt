@@ -28,7 +28,7 @@ use Rattle.hwp_cpu_command.specs.hwp_core_rule.Calls.{Steps, logs as logs_of}
 use Rattle.hwp_cpu_command.proofs.of_hwp_core_rule.tasks.StepLeaves.{steps-planned}
 use Rattle.hwp_cpu_command.specs.hwp_core_rule.Known.{Saw, SawStop}
 use Rattle.hwp_cpu_command.proofs.of_hwp_core_rule.tasks.SightKeeps.{saw-load, saw-stays}
-use Rattle.hwp_cpu_command.specs.hwp_script_lines.declared.Command.{Command}
+use Rattle.hwp_cpu_command.specs.hwp_script_words.declared.Command.{Command}
 use Rattle.hwp_cpu_command.specs.hwp_report_text.declared.Answer.{Answer}
 use Rattle.hwp_cpu_command.specs.hwp_report_text.declared.Answer.TheVariants as answers
 use Rattle.hwp_cpu_command.specs.hwp_law.Outcomes.{outcome_answer, reply_answer}

@@ -21,8 +21,8 @@ use Rattle.hwp_plain.specs.hwp_core_rule.declared.Setting.{Setting}
 use Rattle.hwp_plain.specs.hwp_core_rule.declared.Spoiled.{Spoiled}
 use Rattle.hwp_plain.specs.hwp_core_rule.declared.View.{View}
 use Rattle.hwp_plain.specs.hwp_core_rule.Lists.{EachMember}
-use Rattle.hwp_law.specs.hwp_script_read.declared.Command.{Command}
-use Rattle.hwp_law.specs.hwp_script_read.declared.Command.TheVariants as commands
+use Rattle.hwp_law.specs.hwp_script_words.declared.Command.{Command}
+use Rattle.hwp_law.specs.hwp_script_words.declared.Command.TheVariants as commands
 use Rattle.hwp_law.specs.hwp_report_text.declared.Answer.{Answer}
 use Rattle.hwp_law.specs.Cows.{acting, copied_from}
 use Rattle.hwp_law.specs.Settings.{set_after, set_behind, setting_of, settings, unset}

@@ -20,8 +20,8 @@ use Rattle.hwp_plain.specs.hwp_core_rule.Lists.{EachMember}
 use Rattle.hwp_plain.proofs.of_hwp_core_rule.Lists.{each-push}
 use Rattle.hwp_plain.proofs.of_hwp_core_rule.MoreEntries.{each-append}
 use Rattle.hwp_plain.specs.hwp_core_rule.Known.{IsAt, IsOnTheWay, deeds, is_failure}
-use Rattle.hwp_law.specs.hwp_script_read.declared.Command.{Command}
-use Rattle.hwp_law.specs.hwp_script_read.declared.Command.TheVariants as commands
+use Rattle.hwp_law.specs.hwp_script_words.declared.Command.{Command}
+use Rattle.hwp_law.specs.hwp_script_words.declared.Command.TheVariants as commands
 use Rattle.hwp_law.specs.hwp_report_text.declared.Answer.{Answer}
 use Rattle.hwp_law.specs.hwp_report_text.declared.Answer.TheVariants as answers
 use Rattle.hwp_law.specs.Copies.{MakesCopy, must_be_named}

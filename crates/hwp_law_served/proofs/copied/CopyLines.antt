@@ -22,8 +22,8 @@ use Rattle.hwp_plain.specs.hwp_core_rule.declared.View.{View}
 use Rattle.hwp_plain.proofs.of_hwp_core_rule.Lists.{each-push}
 use Rattle.hwp_plain.specs.hwp_core_rule.Boards.{view_of}
 use Rattle.hwp_plain.specs.hwp_core_rule.Known.{IsOnTheWay, deeds, is_failure}
-use Rattle.hwp_law.specs.hwp_script_read.declared.Command.TheVariants as commands
-use Rattle.hwp_law.specs.hwp_script_read.declared.Script.{Script}
+use Rattle.hwp_law.specs.hwp_script_words.declared.Command.TheVariants as commands
+use Rattle.hwp_law.specs.hwp_script_words.declared.Script.{Script}
 use Rattle.hwp_law.specs.hwp_report_text.declared.Report.{Report}
 use Rattle.hwp_law.specs.Commands.{command_at, is_check}
 use Rattle.hwp_law.specs.Copies.{checks_by, copy_checks, is_load, is_store, own_in}

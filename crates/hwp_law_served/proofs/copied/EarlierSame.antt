@@ -9,8 +9,8 @@ use Rattle.hwp_law.specs.hwp_kill.declared.Policy.{Policy}
 use Rattle.hwp_law.specs.hwp_kill.Prctl.{reply}
 use Rattle.hwp_law.specs.hwp_banks.Banks.{Banks}
 use Rattle.hwp_plain.specs.hwp_core_rule.declared.View.{View}
-use Rattle.hwp_law.specs.hwp_script_read.declared.Command.{Command}
-use Rattle.hwp_law.specs.hwp_script_read.declared.Command.TheVariants as commands
+use Rattle.hwp_law.specs.hwp_script_words.declared.Command.{Command}
+use Rattle.hwp_law.specs.hwp_script_words.declared.Command.TheVariants as commands
 use Rattle.hwp_law.specs.hwp_report_text.declared.Answer.{Answer}
 use Rattle.hwp_law.specs.hwp_report_text.declared.Answer.TheVariants as answers
 use Rattle.hwp_law.specs.Outcomes.{reply_answer}

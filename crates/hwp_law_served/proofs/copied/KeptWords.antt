@@ -21,9 +21,9 @@ use Rattle.hwp_plain.specs.hwp_core_rule.Lists.{EachMember, SomeMember}
 use Rattle.hwp_plain.proofs.of_hwp_core_rule.Lists.{at_map}
 use Rattle.hwp_plain.specs.hwp_core_rule.Boards.{view_of}
 use Rattle.hwp_plain.specs.hwp_core_rule.Known.{deeds}
-use Rattle.hwp_law.specs.hwp_script_read.declared.Command.{Command}
-use Rattle.hwp_law.specs.hwp_script_read.declared.Command.TheVariants as commands
-use Rattle.hwp_law.specs.hwp_script_read.declared.Script.{Script}
+use Rattle.hwp_law.specs.hwp_script_words.declared.Command.{Command}
+use Rattle.hwp_law.specs.hwp_script_words.declared.Command.TheVariants as commands
+use Rattle.hwp_law.specs.hwp_script_words.declared.Script.{Script}
 use Rattle.hwp_law.specs.hwp_report_text.declared.Answer.TheVariants as answers
 use Rattle.hwp_law.specs.hwp_report_text.declared.Report.{Report}
 use Rattle.hwp_law.specs.Commands.{command_at}

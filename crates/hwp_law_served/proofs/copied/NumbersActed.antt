@@ -4,8 +4,8 @@ use Rattle.std.specs.List.{zip}
 use Rattle.std.proofs.lemmas.Option.{none-some, same_Some}
 use Rattle.hwp_law.specs.hwp_geom.declared.FileNo.{FileNo}
 use Rattle.hwp_law.specs.hwp_geom.declared.Layout.{Layout}
-use Rattle.hwp_law.specs.hwp_script_read.declared.Command.{Command}
-use Rattle.hwp_law.specs.hwp_script_read.declared.Command.TheVariants as commands
+use Rattle.hwp_law.specs.hwp_script_words.declared.Command.{Command}
+use Rattle.hwp_law.specs.hwp_script_words.declared.Command.TheVariants as commands
 use Rattle.hwp_law.specs.hwp_report_text.declared.Answer.{Answer}
 use Rattle.hwp_law.specs.Cows.{acting}
 use Rattle.hwp_law.specs.Acting.{acting_from}

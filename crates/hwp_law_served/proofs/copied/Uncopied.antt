@@ -5,8 +5,8 @@ use Rattle.hwp_law.specs.hwp_geom.declared.VSlot.{VSlot}
 use Rattle.hwp_law.specs.hwp_geom.declared.Who.{Who}
 use Rattle.hwp_law.specs.hwp_banks.Banks.{Banks}
 use Rattle.hwp_plain.specs.hwp_core_rule.declared.View.{View}
-use Rattle.hwp_law.specs.hwp_script_read.declared.Command.{Command}
-use Rattle.hwp_law.specs.hwp_script_read.declared.Command.TheVariants as commands
+use Rattle.hwp_law.specs.hwp_script_words.declared.Command.{Command}
+use Rattle.hwp_law.specs.hwp_script_words.declared.Command.TheVariants as commands
 use Rattle.hwp_law.specs.hwp_report_text.declared.Answer.{Answer}
 use Rattle.hwp_law.specs.Commands.{can_fail}
 use Rattle.hwp_cpu_row.specs.declared.FrameChange.{FrameChange}

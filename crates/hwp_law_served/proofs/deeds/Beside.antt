@@ -11,7 +11,7 @@ use Rattle.hwp_plain.specs.hwp_core_rule.declared.View.{View}
 use Rattle.hwp_plain.specs.hwp_core_rule.Lists.{EachMember}
 use Rattle.hwp_plain.proofs.of_hwp_core_rule.Lists.{at_map}
 use Rattle.hwp_plain.specs.hwp_core_rule.Known.{deeds}
-use Rattle.hwp_law.specs.hwp_script_read.declared.Command.{Command}
+use Rattle.hwp_law.specs.hwp_script_words.declared.Command.{Command}
 use Rattle.hwp_law.specs.Pairings.{is_soft}
 use Rattle.hwp_cpu_row.specs.declared.Offlining.{Offlining}
 use Rattle.hwp_cpu_row.specs.declared.Row.{Row}

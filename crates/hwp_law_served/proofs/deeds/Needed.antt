@@ -19,7 +19,7 @@ use Rattle.hwp_cpu_row.specs.hwp_claim_act.Abandoned as abandoned
 use Rattle.hwp_cpu_row.specs.hwp_claim_act.Abandons.{signals_now}
 use Rattle.hwp_law.specs.hwp_severity.declared.Severity.{Severity}
 use Rattle.hwp_law.specs.hwp_severity.declared.Severity.TheVariants as severities
-use Rattle.hwp_law.specs.hwp_script_read.declared.Command.{Command}
+use Rattle.hwp_law.specs.hwp_script_words.declared.Command.{Command}
 use Rattle.hwp_law.specs.hwp_report_text.declared.Answer.{Answer}
 use Rattle.hwp_law.specs.Commands.{current_thread}
 use Rattle.hwp_law.specs.Entries.{IsRequiredBy}

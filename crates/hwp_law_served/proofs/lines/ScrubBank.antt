@@ -14,15 +14,14 @@ use Rattle.hwp_law.specs.hwp_banks.Events.{own_event}
 use Rattle.hwp_law.specs.hwp_banks.Logged.{logged, without_over}
 use Rattle.hwp_plain.specs.hwp_core_rule.declared.View.{View}
 use Rattle.hwp_plain.proofs.of_hwp_core_rule.Lists.{set_here}
-use Rattle.hwp_law.specs.hwp_script_read.declared.Command.{Command}
-use Rattle.hwp_law.specs.hwp_script_read.declared.Command.TheVariants as commands
+use Rattle.hwp_law.specs.hwp_script_words.declared.Command.{Command}
+use Rattle.hwp_law.specs.hwp_script_words.declared.Command.TheVariants as commands
 use Rattle.hwp_law.specs.hwp_report_text.declared.Answer.{Answer}
 use Rattle.hwp_law.specs.hwp_report_text.declared.Answer.TheVariants as answers
-use Rattle.hwp_law.specs.hwp_banks.Banks.{Banks, empty_banks, log_in}
+use Rattle.hwp_law.specs.hwp_banks.Banks.{Banks, empty_banks, log_in, raw_bank, raw_event}
 use Rattle.hwp_law.specs.Commands.{arrival_of}
 use Rattle.hwp_law.specs.hwp_severity.declared.Arrival.{Arrival}
 use Rattle.hwp_law.specs.Events.{logged_if_done}
-use Rattle.hwp_law.specs.hwp_banks.Banks.{raw_bank, raw_event}
 use Rattle.hwp_cpu_row.specs.hwp_claim.declared.Held.{Held}
 use Rattle.hwp_cpu_row.specs.hwp_claim.declared.EventOutcome.{EventOutcome}
 use Rattle.hwp_cpu_row.specs.hwp_claim.Checks.{Check, IsActedOn, left_by, with_own}

@@ -37,7 +37,7 @@ use Rattle.hwp_plain.specs.hwp_core_rule.Calls.{CanMake, Steps, logs}
 use Rattle.hwp_plain.proofs.of_hwp_core_rule.tasks.StepLeaves.{content_of}
 use Rattle.hwp_plain.specs.hwp_core_rule.Known.{deeds, is_by}
 use Rattle.hwp_plain.proofs.of_hwp_core_rule.tasks.MadeEntries.{PutsNone}
-use Rattle.hwp_law.specs.hwp_script_read.declared.Command.{Command}
+use Rattle.hwp_law.specs.hwp_script_words.declared.Command.{Command}
 use Rattle.hwp_law.specs.hwp_report_text.declared.Answer.{Answer}
 use Rattle.hwp_law.specs.Commands.{can_fail}
 use Rattle.hwp_law.specs.Entries.{Makes}

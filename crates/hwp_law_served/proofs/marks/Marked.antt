@@ -13,7 +13,7 @@ use Rattle.hwp_plain.specs.hwp_core_rule.Lists.{SomeMember}
 use Rattle.hwp_plain.specs.hwp_core_rule.Words.{words_of}
 use Rattle.hwp_plain.proofs.of_hwp_core_rule.Lists.{at_map}
 use Rattle.hwp_plain.proofs.of_hwp_core_rule.MoveKeeps.{shaped}
-use Rattle.hwp_law.specs.hwp_script_read.declared.Script.{Script}
+use Rattle.hwp_law.specs.hwp_script_words.declared.Script.{Script}
 use Rattle.hwp_law.specs.hwp_report_text.declared.FrameLine.{FrameLine}
 use Rattle.hwp_law.specs.hwp_report_text.declared.Report.{Report}
 use Rattle.hwp_law.specs.Lines.{is_same_command}

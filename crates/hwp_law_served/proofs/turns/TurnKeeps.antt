@@ -3,7 +3,7 @@ use Rattle.std.proofs.Common.{◌≡◌, ◌≢◌, ℕ, ◌⊎◌, inl, inr, Li
 use Rattle.std.proofs.lemmas.Bool.{cases_eq}
 use Rattle.hwp_law.specs.hwp_geom.declared.Layout.{Layout}
 use Rattle.hwp_plain.specs.hwp_core_rule.declared.State.{State}
-use Rattle.hwp_law.specs.hwp_script_read.declared.Go.{Go}
+use Rattle.hwp_law.specs.hwp_script_words.declared.Go.{Go}
 use Rattle.hwp_plain.specs.hwp_core_rule.declared.Turn.{Turn}
 use Rattle.hwp_plain.specs.hwp_core_rule.Boards.{Played}
 use Rattle.hwp_plain.specs.hwp_core_rule.Ranks.{Made}

@@ -4,7 +4,7 @@ use Rattle.hwp_law.specs.hwp_geom.declared.Layout.{Layout}
 use Rattle.hwp_plain.specs.hwp_core_rule.declared.State.{State}
 use Rattle.hwp_plain.specs.hwp_core_rule.Moves.{Move}
 use Rattle.hwp_plain.specs.hwp_core_rule.Rule.{Holds}
-use Rattle.hwp_law.specs.hwp_script_read.declared.Go.{Go}
+use Rattle.hwp_law.specs.hwp_script_words.declared.Go.{Go}
 use Rattle.hwp_plain.specs.hwp_core_rule.Boards.{Played}
 use Rattle.hwp_plain.specs.hwp_core_rule.Turns.{Member}
 use Rattle.hwp_plain.specs.Order.{Finishing, InOrder, Running, Schedule, TurnOf, Word}

@@ -12,10 +12,10 @@ use Rattle.hwp_law_served.specs.hwp_page.Step.{IsOf}
 use Rattle.hwp_law_served.specs.hwp_report_text.declared.Answer.{Answer}
 use Rattle.hwp_law_served.specs.hwp_report_text.declared.Answer.TheVariants as answers
 use Rattle.hwp_law_served.specs.hwp_report_text.declared.Report.{Report}
-use Rattle.hwp_law_served.specs.hwp_script_read.Valid.{IsAnon, IsTwinFit, IsValid}
-use Rattle.hwp_law_served.specs.hwp_script_read.declared.Command.{Command}
-use Rattle.hwp_law_served.specs.hwp_script_read.declared.Command.TheVariants as commands
-use Rattle.hwp_law_served.specs.hwp_script_read.declared.Script.{Script}
+use Rattle.hwp_law_served.specs.hwp_script_words.Valid.{IsAnon, IsTwinFit, IsValid}
+use Rattle.hwp_law_served.specs.hwp_script_words.declared.Command.{Command}
+use Rattle.hwp_law_served.specs.hwp_script_words.declared.Command.TheVariants as commands
+use Rattle.hwp_law_served.specs.hwp_script_words.declared.Script.{Script}
 use Rattle.hwp_law_served.specs.hwp_law.Commands.{command_at}
 use Rattle.hwp_law_served.specs.hwp_law.Cows.{Cow, acting, copied_from, cow_after, cow_of, own_page, twin_or}
 use Rattle.hwp_law_served.specs.hwp_law.Acting.{acting_script, copied_at}

@@ -15,8 +15,8 @@ use Rattle.hwp_law_served.specs.hwp_banks.Banks.{Banks}
 use Rattle.hwp_law_served.specs.hwp_core_rule.declared.State.{State}
 use Rattle.hwp_law_served.specs.hwp_core_rule.Lists.{EachMember}
 use Rattle.hwp_law_served.specs.hwp_core_rule.Boards.{view_of}
-use Rattle.hwp_law_served.specs.hwp_script_read.declared.Command.TheVariants as commands
-use Rattle.hwp_law_served.specs.hwp_script_read.declared.Script.{Script}
+use Rattle.hwp_law_served.specs.hwp_script_words.declared.Command.TheVariants as commands
+use Rattle.hwp_law_served.specs.hwp_script_words.declared.Script.{Script}
 use Rattle.hwp_law_served.specs.hwp_report_text.declared.EventLine.{EventLine}
 use Rattle.hwp_law_served.specs.hwp_report_text.declared.Report.{Report}
 use Rattle.hwp_law_served.specs.hwp_severity.declared.Arrival.{Arrival}

@@ -16,9 +16,9 @@ use Rattle.hwp_law_served.specs.hwp_core_rule.declared.SharedWord.TheVariants as
 use Rattle.hwp_law_served.specs.hwp_core_rule.declared.State.{State}
 use Rattle.hwp_law_served.specs.hwp_core_rule.Logs.{state_of}
 use Rattle.hwp_law_served.specs.hwp_core_rule.Boards.{Played, view_of}
-use Rattle.hwp_law_served.specs.hwp_script_read.declared.Command.{Command}
-use Rattle.hwp_law_served.specs.hwp_script_read.declared.Command.TheVariants as commands
-use Rattle.hwp_law_served.specs.hwp_script_read.declared.Script.{Script}
+use Rattle.hwp_law_served.specs.hwp_script_words.declared.Command.{Command}
+use Rattle.hwp_law_served.specs.hwp_script_words.declared.Command.TheVariants as commands
+use Rattle.hwp_law_served.specs.hwp_script_words.declared.Script.{Script}
 use Rattle.hwp_law_served.specs.hwp_report_text.declared.Answer.{Answer}
 use Rattle.hwp_law_served.specs.hwp_report_text.declared.Answer.TheVariants as answers
 use Rattle.hwp_law_served.specs.hwp_report_text.declared.Report.{Report}

@@ -7,7 +7,7 @@ use Rattle.hwp_law_served.specs.hwp_geom.declared.Who.{Who}
 use Rattle.hwp_law_served.specs.hwp_page.declared.What.{What}
 use Rattle.hwp_law_served.specs.hwp_core_rule.declared.State.{State}
 use Rattle.hwp_law_served.specs.hwp_core_rule.Lists.{SomeMember}
-use Rattle.hwp_law_served.specs.hwp_script_read.declared.Script.{Script}
+use Rattle.hwp_law_served.specs.hwp_script_words.declared.Script.{Script}
 use Rattle.hwp_law_served.specs.hwp_report_text.declared.Report.{Report}
 use Rattle.hwp_law_served.specs.hwp_law.Copies.{own_in}
 use Rattle.hwp_law_served.proofs.RunEnds.{IsEnd}

@@ -2,8 +2,8 @@
 -- its processors acted on.
 use Rattle.std.proofs.Common.{◌≡◌, ℕ, ◌+◌, ◌≤◌, List, [], Option, Some, option_map, slice_get, take, unwrap_or, ap, ◌∙◌, subst}
 use Rattle.std.specs.List.{zip}
-use Rattle.hwp_law_served.specs.hwp_script_read.declared.Command.{Command}
-use Rattle.hwp_law_served.specs.hwp_script_read.declared.Script.{Script}
+use Rattle.hwp_law_served.specs.hwp_script_words.declared.Command.{Command}
+use Rattle.hwp_law_served.specs.hwp_script_words.declared.Script.{Script}
 use Rattle.hwp_law_served.specs.hwp_report_text.declared.Answer.{Answer}
 use Rattle.hwp_law_served.specs.hwp_report_text.declared.CpuLine.{CpuLine}
 use Rattle.hwp_law_served.specs.hwp_report_text.declared.Report.{Report}

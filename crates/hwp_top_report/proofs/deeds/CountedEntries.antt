@@ -16,7 +16,7 @@ use Rattle.hwp_law_served.specs.hwp_core_rule.parts.Entries.{weigh, weigh_from}
 use Rattle.hwp_law_served.proofs.of_hwp_core_rule.Lists.{sum-zero}
 use Rattle.hwp_law_served.specs.hwp_core_rule.Boards.{view_of}
 use Rattle.hwp_law_served.specs.hwp_core_rule.Known.{deeds, is_by}
-use Rattle.hwp_law_served.specs.hwp_script_read.declared.Script.{Script}
+use Rattle.hwp_law_served.specs.hwp_script_words.declared.Script.{Script}
 use Rattle.hwp_law_served.specs.hwp_report_text.declared.Report.{Report}
 use Rattle.hwp_law_served.specs.hwp_law.Lines.{is_same_command}
 use Rattle.hwp_law_served.specs.hwp_law.Pairings.{entries_of}

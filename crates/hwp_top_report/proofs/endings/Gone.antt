@@ -22,8 +22,8 @@ use Rattle.hwp_law_served.specs.hwp_core_rule.Words.{words_of}
 use Rattle.hwp_law_served.proofs.of_hwp_core_rule.Lists.{at_map}
 use Rattle.hwp_law_served.proofs.of_hwp_core_rule.MoveKeeps.{shaped}
 use Rattle.hwp_law_served.specs.hwp_core_rule.Boards.{view_of}
-use Rattle.hwp_law_served.specs.hwp_script_read.declared.Command.{Command}
-use Rattle.hwp_law_served.specs.hwp_script_read.declared.Script.{Script}
+use Rattle.hwp_law_served.specs.hwp_script_words.declared.Command.{Command}
+use Rattle.hwp_law_served.specs.hwp_script_words.declared.Script.{Script}
 use Rattle.hwp_law_served.specs.hwp_report_text.declared.Report.{Report}
 use Rattle.hwp_law_served.specs.hwp_law.Commands.{command_at, process_of_thread, thread_of}
 use Rattle.hwp_law_served.specs.hwp_law.Endings.{HasEnding, IsGone}

@@ -16,11 +16,11 @@ use Rattle.hwp_law_served.specs.hwp_geom.declared.Who.{Who}
 use Rattle.hwp_law_served.specs.hwp_report_text.declared.Answer.{Answer}
 use Rattle.hwp_law_served.specs.hwp_report_text.declared.Answer.TheVariants as answers
 use Rattle.hwp_law_served.specs.hwp_report_text.declared.Report.{Report}
-use Rattle.hwp_law_served.specs.hwp_script_read.Forks.{froze, names_twin}
-use Rattle.hwp_law_served.specs.hwp_script_read.Valid.{AreLists, IsAnon, IsCommandOf, IsTwinFit, IsValid, NamesNoTwin}
-use Rattle.hwp_law_served.specs.hwp_script_read.declared.Command.{Command}
-use Rattle.hwp_law_served.specs.hwp_script_read.declared.Command.TheVariants as commands
-use Rattle.hwp_law_served.specs.hwp_script_read.declared.Script.{Script}
+use Rattle.hwp_law_served.specs.hwp_script_words.Forks.{froze, names_twin}
+use Rattle.hwp_law_served.specs.hwp_script_words.Valid.{AreLists, IsAnon, IsCommandOf, IsTwinFit, IsValid, NamesNoTwin}
+use Rattle.hwp_law_served.specs.hwp_script_words.declared.Command.{Command}
+use Rattle.hwp_law_served.specs.hwp_script_words.declared.Command.TheVariants as commands
+use Rattle.hwp_law_served.specs.hwp_script_words.declared.Script.{Script}
 use Rattle.hwp_law_served.specs.hwp_law.Commands.{command_at}
 use Rattle.hwp_law_served.specs.hwp_law.Cows.{Cow, cow_of, froze_slot, own_page}
 use Rattle.hwp_law_served.specs.hwp_law.Lines.{answers_to}

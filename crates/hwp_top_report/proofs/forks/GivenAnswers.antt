@@ -22,9 +22,9 @@ use Rattle.hwp_law_served.specs.hwp_report_text.declared.OfflineResult.{OfflineR
 use Rattle.hwp_law_served.specs.hwp_report_text.declared.OfflineResult.TheVariants as results
 use Rattle.hwp_law_served.specs.hwp_report_text.declared.OfflinedLine.{OfflinedLine}
 use Rattle.hwp_law_served.specs.hwp_report_text.declared.Report.{Report}
-use Rattle.hwp_law_served.specs.hwp_script_read.declared.Command.{Command}
-use Rattle.hwp_law_served.specs.hwp_script_read.declared.Command.TheVariants as commands
-use Rattle.hwp_law_served.specs.hwp_script_read.declared.Script.{Script}
+use Rattle.hwp_law_served.specs.hwp_script_words.declared.Command.{Command}
+use Rattle.hwp_law_served.specs.hwp_script_words.declared.Command.TheVariants as commands
+use Rattle.hwp_law_served.specs.hwp_script_words.declared.Script.{Script}
 use Rattle.hwp_law_served.specs.hwp_law.Commands.{command_at}
 use Rattle.hwp_law_served.specs.hwp_law.Cows.{acting}
 use Rattle.hwp_law_served.specs.hwp_law.Acting.{acting_script, copied_at}

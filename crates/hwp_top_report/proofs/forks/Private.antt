@@ -24,10 +24,10 @@ use Rattle.hwp_law_served.specs.hwp_page.declared.What.TheVariants as entries
 use Rattle.hwp_law_served.specs.hwp_report_text.declared.Answer.{Answer}
 use Rattle.hwp_law_served.specs.hwp_report_text.declared.Answer.TheVariants as answers
 use Rattle.hwp_law_served.specs.hwp_report_text.declared.Report.{Report}
-use Rattle.hwp_law_served.specs.hwp_script_read.Valid.{IsCommandOf, IsValid}
-use Rattle.hwp_law_served.specs.hwp_script_read.declared.Command.{Command}
-use Rattle.hwp_law_served.specs.hwp_script_read.declared.Command.TheVariants as commands
-use Rattle.hwp_law_served.specs.hwp_script_read.declared.Script.{Script}
+use Rattle.hwp_law_served.specs.hwp_script_words.Valid.{IsCommandOf, IsValid}
+use Rattle.hwp_law_served.specs.hwp_script_words.declared.Command.{Command}
+use Rattle.hwp_law_served.specs.hwp_script_words.declared.Command.TheVariants as commands
+use Rattle.hwp_law_served.specs.hwp_script_words.declared.Script.{Script}
 use Rattle.hwp_law_served.specs.hwp_law.Commands.{command_at, has_watch}
 use Rattle.hwp_law_served.specs.hwp_law.Cows.{Cow, acting, cow_of, own_page, through, twin_or}
 use Rattle.hwp_law_served.specs.hwp_law.Acting.{acting_script, copied_at}

@@ -14,10 +14,10 @@ use Rattle.hwp_law_served.specs.hwp_geom.declared.Thread.{Thread}
 use Rattle.hwp_law_served.specs.hwp_geom.declared.ThreadDecl.{ThreadDecl}
 use Rattle.hwp_law_served.specs.hwp_geom.declared.TransDecl.{TransDecl}
 use Rattle.hwp_law_served.specs.hwp_geom.declared.VSlot.{VSlot}
-use Rattle.hwp_law_served.specs.hwp_script_read.Forks.{cannot_share, freezes, froze, has_shared_page, is_away, is_cow, is_doubled, is_either, is_odd, is_shared, is_unfit, is_used_by, is_wrong_child, is_wrong_fork, slots}
-use Rattle.hwp_law_served.specs.hwp_script_read.Valid.{IsAccess}
-use Rattle.hwp_law_served.specs.hwp_script_read.declared.Command.{Command}
-use Rattle.hwp_law_served.specs.hwp_script_read.declared.Command.TheVariants as commands
+use Rattle.hwp_law_served.specs.hwp_script_words.Forks.{cannot_share, freezes, froze, has_shared_page, is_away, is_cow, is_doubled, is_either, is_odd, is_shared, is_unfit, is_used_by, is_wrong_child, is_wrong_fork, slots}
+use Rattle.hwp_law_served.specs.hwp_script_words.Valid.{IsAccess}
+use Rattle.hwp_law_served.specs.hwp_script_words.declared.Command.{Command}
+use Rattle.hwp_law_served.specs.hwp_script_words.declared.Command.TheVariants as commands
 use Rattle.hwp_top_report.proofs.forks.AnswerLines.{zip-get}
 
 -- ---- tests of lists

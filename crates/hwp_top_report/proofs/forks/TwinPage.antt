@@ -15,11 +15,11 @@ use Rattle.hwp_law_served.specs.hwp_page.declared.At.{At}
 use Rattle.hwp_law_served.specs.hwp_page.declared.Entry.{Entry}
 use Rattle.hwp_law_served.specs.hwp_report_text.declared.Answer.TheVariants as answers
 use Rattle.hwp_law_served.specs.hwp_report_text.declared.Report.{Report}
-use Rattle.hwp_law_served.specs.hwp_script_read.Forks.{names_twin}
-use Rattle.hwp_law_served.specs.hwp_script_read.Valid.{IsCommandOf, IsValid}
-use Rattle.hwp_law_served.specs.hwp_script_read.declared.Command.{Command}
-use Rattle.hwp_law_served.specs.hwp_script_read.declared.Command.TheVariants as commands
-use Rattle.hwp_law_served.specs.hwp_script_read.declared.Script.{Script}
+use Rattle.hwp_law_served.specs.hwp_script_words.Forks.{names_twin}
+use Rattle.hwp_law_served.specs.hwp_script_words.Valid.{IsCommandOf, IsValid}
+use Rattle.hwp_law_served.specs.hwp_script_words.declared.Command.{Command}
+use Rattle.hwp_law_served.specs.hwp_script_words.declared.Command.TheVariants as commands
+use Rattle.hwp_law_served.specs.hwp_script_words.declared.Script.{Script}
 use Rattle.hwp_law_served.specs.hwp_law.Commands.{command_at}
 use Rattle.hwp_law_served.specs.hwp_law.Cows.{copied_from, cow_of}
 use Rattle.hwp_law_served.specs.hwp_law.Acting.{acting_script, copied_at}

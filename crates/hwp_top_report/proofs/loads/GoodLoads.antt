@@ -22,7 +22,7 @@ use Rattle.hwp_law_served.specs.hwp_core_rule.parts.Holdings.{HoldsNothing}
 use Rattle.hwp_law_served.proofs.of_hwp_core_rule.Lists.{each-weaken}
 use Rattle.hwp_law_served.specs.hwp_core_rule.Boards.{Played}
 use Rattle.hwp_law_served.specs.hwp_core_rule.Turns.{Member}
-use Rattle.hwp_law_served.specs.hwp_script_read.declared.Script.{Script}
+use Rattle.hwp_law_served.specs.hwp_script_words.declared.Script.{Script}
 use Rattle.hwp_law_served.specs.hwp_report_text.declared.Report.{Report}
 use Rattle.hwp_law_served.specs.hwp_law.PageHistory.{IsHistory}
 use Rattle.hwp_law_served.specs.hwp_law.Law.{HasShape, IsLawful}

@@ -33,8 +33,8 @@ use Rattle.hwp_law_served.proofs.of_hwp_core_rule.Lists.{at_map, sum-map, sum-ze
 use Rattle.hwp_law_served.proofs.of_hwp_core_rule.MoveKeeps.{shaped}
 use Rattle.hwp_law_served.specs.hwp_core_rule.Boards.{Played, view_of}
 use Rattle.hwp_law_served.specs.hwp_core_rule.Known.{Saw, earlier_losses}
-use Rattle.hwp_law_served.specs.hwp_script_read.declared.Command.{Command}
-use Rattle.hwp_law_served.specs.hwp_script_read.declared.Script.{Script}
+use Rattle.hwp_law_served.specs.hwp_script_words.declared.Command.{Command}
+use Rattle.hwp_law_served.specs.hwp_script_words.declared.Script.{Script}
 use Rattle.hwp_law_served.specs.hwp_report_text.declared.Answer.{Answer}
 use Rattle.hwp_law_served.specs.hwp_report_text.declared.CpuLine.{CpuLine}
 use Rattle.hwp_law_served.specs.hwp_report_text.declared.Report.{Report}

@@ -25,7 +25,7 @@ use Rattle.hwp_law_served.specs.hwp_core_rule.parts.Counter.{CountDebts, is_by_h
 use Rattle.hwp_law_served.proofs.of_hwp_core_rule.Lists.{at_map, map-was, same-or}
 use Rattle.hwp_law_served.specs.hwp_core_rule.Boards.{view_of}
 use Rattle.hwp_law_served.specs.hwp_core_rule.Known.{Saw}
-use Rattle.hwp_law_served.specs.hwp_script_read.declared.Script.{Script}
+use Rattle.hwp_law_served.specs.hwp_script_words.declared.Script.{Script}
 use Rattle.hwp_law_served.specs.hwp_report_text.declared.FrameLine.{FrameLine}
 use Rattle.hwp_law_served.specs.hwp_report_text.declared.How.TheVariants as hows
 use Rattle.hwp_law_served.specs.hwp_report_text.declared.MarkLine.{MarkLine}

@@ -34,9 +34,9 @@ use Rattle.hwp_law_served.specs.hwp_core_rule.parts.Holdings.{IsPast}
 use Rattle.hwp_law_served.specs.hwp_core_rule.parts.Policies.{last_policy as last_set, settings_of}
 use Rattle.hwp_law_served.proofs.of_hwp_core_rule.Lists.{at_map, map-was}
 use Rattle.hwp_law_served.specs.hwp_core_rule.Boards.{Played, view_of}
-use Rattle.hwp_law_served.specs.hwp_script_read.declared.Command.{Command}
-use Rattle.hwp_law_served.specs.hwp_script_read.declared.Command.TheVariants as commands
-use Rattle.hwp_law_served.specs.hwp_script_read.declared.Script.{Script}
+use Rattle.hwp_law_served.specs.hwp_script_words.declared.Command.{Command}
+use Rattle.hwp_law_served.specs.hwp_script_words.declared.Command.TheVariants as commands
+use Rattle.hwp_law_served.specs.hwp_script_words.declared.Script.{Script}
 use Rattle.hwp_law_served.specs.hwp_report_text.declared.Answer.{Answer}
 use Rattle.hwp_law_served.specs.hwp_report_text.declared.Report.{Report}
 use Rattle.hwp_law_served.specs.hwp_law.Commands.{can_fail, has_watch}

@@ -16,12 +16,12 @@ use Rattle.hwp_law_served.specs.hwp_kill.declared.Policy.{Policy}
 use Rattle.hwp_law_served.specs.hwp_kill.Prctl.{policy_set}
 use Rattle.hwp_law_served.specs.hwp_core_rule.declared.Setting.{Setting}
 use Rattle.hwp_law_served.specs.hwp_core_rule.Lists.{EachMember}
-use Rattle.hwp_law_served.specs.hwp_script_read.declared.Command.{Command}
-use Rattle.hwp_law_served.specs.hwp_script_read.declared.Command.TheVariants as commands
+use Rattle.hwp_law_served.specs.hwp_script_words.declared.Command.{Command}
+use Rattle.hwp_law_served.specs.hwp_script_words.declared.Command.TheVariants as commands
 use Rattle.hwp_law_served.specs.hwp_report_text.declared.Answer.{Answer}
 use Rattle.hwp_law_served.specs.hwp_report_text.declared.Answer.TheVariants as answers
 use Rattle.hwp_law_served.specs.hwp_law.Settings.{arguments, last_policy, set_behind, setting_of, settings, unset}
-use Rattle.hwp_law_served.specs.hwp_script_read.Forks.{is_thread_of}
+use Rattle.hwp_law_served.specs.hwp_script_words.Forks.{is_thread_of}
 use Rattle.hwp_law_served.specs.hwp_cpu_control.Forks.{threads_of}
 use Rattle.hwp_law_served.proofs.of_hwp_law.SettingLaws.{settings-more}
 use Rattle.hwp_law_served.proofs.Homes.{there-is}

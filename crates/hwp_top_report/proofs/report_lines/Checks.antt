@@ -18,7 +18,7 @@ use Rattle.hwp_law_served.specs.hwp_core_rule.declared.View.{View}
 use Rattle.hwp_law_served.specs.hwp_core_rule.Lists.{EachMember}
 use Rattle.hwp_law_served.proofs.of_hwp_core_rule.Lists.{at_longer}
 use Rattle.hwp_law_served.specs.hwp_core_rule.Boards.{view_of}
-use Rattle.hwp_law_served.specs.hwp_script_read.declared.Script.{Script}
+use Rattle.hwp_law_served.specs.hwp_script_words.declared.Script.{Script}
 use Rattle.hwp_law_served.specs.hwp_report_text.declared.Acted.TheVariants as acts
 use Rattle.hwp_law_served.specs.hwp_report_text.declared.Report.{Report}
 use Rattle.hwp_law_served.specs.hwp_law.Checks.{AreLinesOf, IsAct, IsCheck, IsLineOf, IsResult}

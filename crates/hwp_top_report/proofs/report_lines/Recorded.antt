@@ -30,8 +30,8 @@ use Rattle.hwp_law_served.specs.hwp_core_rule.Known.{deeds, is_by}
 use Rattle.hwp_law_served.specs.hwp_claim_act.declared.Failed.{Failed}
 use Rattle.hwp_law_served.specs.hwp_claim_act.Abandoned as abandoned
 use Rattle.hwp_law_served.specs.hwp_claim.Fails.{IsPageless}
-use Rattle.hwp_law_served.specs.hwp_script_read.declared.Command.{Command}
-use Rattle.hwp_law_served.specs.hwp_script_read.declared.Script.{Script}
+use Rattle.hwp_law_served.specs.hwp_script_words.declared.Command.{Command}
+use Rattle.hwp_law_served.specs.hwp_script_words.declared.Script.{Script}
 use Rattle.hwp_law_served.specs.hwp_report_text.declared.Answer.{Answer}
 use Rattle.hwp_law_served.specs.hwp_report_text.declared.FrameLine.{FrameLine}
 use Rattle.hwp_law_served.specs.hwp_report_text.declared.MarkLine.{MarkLine}

@@ -18,9 +18,9 @@ use Rattle.hwp_law_served.proofs.of_hwp_core_rule.Lists.{at_last, at_longer, at_
 use Rattle.hwp_law_served.specs.hwp_core_rule.Boards.{view_of}
 use Rattle.hwp_law_served.specs.hwp_claim_frame.Claims.{is_own}
 use Rattle.hwp_law_served.specs.hwp_claim_frame.Done.{Marking}
-use Rattle.hwp_law_served.specs.hwp_script_read.declared.Command.{Command}
-use Rattle.hwp_law_served.specs.hwp_script_read.declared.Command.TheVariants as commands
-use Rattle.hwp_law_served.specs.hwp_script_read.declared.Script.{Script}
+use Rattle.hwp_law_served.specs.hwp_script_words.declared.Command.{Command}
+use Rattle.hwp_law_served.specs.hwp_script_words.declared.Command.TheVariants as commands
+use Rattle.hwp_law_served.specs.hwp_script_words.declared.Script.{Script}
 use Rattle.hwp_law_served.specs.hwp_report_text.declared.Acted.{Acted}
 use Rattle.hwp_law_served.specs.hwp_report_text.declared.Acted.TheVariants as acts
 use Rattle.hwp_law_served.specs.hwp_report_text.declared.Answer.{Answer}

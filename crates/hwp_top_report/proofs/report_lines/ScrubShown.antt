@@ -16,7 +16,7 @@ use Rattle.hwp_law_served.proofs.of_hwp_core_rule.Lists.{at_map, each-weaken, ma
 use Rattle.hwp_law_served.proofs.of_hwp_core_rule.MoreEntries.{each-append}
 use Rattle.hwp_law_served.specs.hwp_core_rule.Boards.{Played}
 use Rattle.hwp_law_served.specs.hwp_core_rule.Known.{Saw}
-use Rattle.hwp_law_served.specs.hwp_script_read.declared.Script.{Script}
+use Rattle.hwp_law_served.specs.hwp_script_words.declared.Script.{Script}
 use Rattle.hwp_law_served.specs.hwp_report_text.declared.Answer.{Answer}
 use Rattle.hwp_law_served.specs.hwp_report_text.declared.Answer.TheVariants as answers
 use Rattle.hwp_law_served.specs.hwp_report_text.declared.EventLine.{EventLine}

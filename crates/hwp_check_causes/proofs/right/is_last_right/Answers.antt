@@ -1,7 +1,7 @@
 use Rattle.std.proofs.Common.{◌≡◌, ◌↔◌, IsTrue, sym, subst}
 use Rattle.hwp_check_evidence.specs.hwp_kill.declared.Policy.{Policy}
 use Rattle.hwp_check_evidence.specs.hwp_kill.Prctl.{reply}
-use Rattle.hwp_check_evidence.specs.hwp_script_read.declared.Command.{Command}
+use Rattle.hwp_check_evidence.specs.hwp_script_words.declared.Command.{Command}
 use Rattle.hwp_check_evidence.specs.hwp_law.Outcomes.{reply_answer}
 use Rattle.hwp_check_evidence.specs.hwp_law.Settings.{arguments}
 use Rattle.hwp_check_evidence.specs.hwp_law.Policies.{policy_before}

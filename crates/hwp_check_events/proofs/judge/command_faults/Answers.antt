@@ -1,6 +1,6 @@
 use Rattle.std.proofs.Common.{ap, sym, subst}
 use Rattle.hwp_law.specs.Commands.{arrival_of}
-use Rattle.hwp_law.specs.hwp_script_read.declared.Command.{Command}
+use Rattle.hwp_law.specs.hwp_script_words.declared.Command.{Command}
 use Rattle.hwp_check_event_line.specs.Reading.{copies_in}
 use Rattle.hwp_check_event_line.specs.Firsts.{shown_lines}
 use Rattle.hwp_check_events.specs.Copied.{copied_by}

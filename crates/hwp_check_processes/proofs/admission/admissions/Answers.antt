@@ -3,7 +3,7 @@ use Rattle.std.proofs.lemmas.Option.{slice_get-get_or}
 use Rattle.hwp_check_rules.specs.hwp_guest.declared.Admit.{Admit}
 use Rattle.hwp_check_rules.specs.hwp_law.GuestRule.{denied}
 use Rattle.hwp_check_rules.specs.hwp_report_text.declared.Answer.{Answer}
-use Rattle.hwp_check_rules.specs.hwp_script_read.declared.Command.{Command}
+use Rattle.hwp_check_rules.specs.hwp_script_words.declared.Command.{Command}
 use Rattle.hwp_check_processes.specs.Admission.{AreAdmissions}
 use Rattle.hwp_check_processes.proofs.AdmissionLaws.{next-admission}
 use Rattle.hwp_check_processes.proofs.admission.admissions.Goals as goal

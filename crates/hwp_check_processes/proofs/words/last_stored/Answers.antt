@@ -1,7 +1,7 @@
 use Rattle.std.proofs.Common.{ℕ, Option, unwrap_or, ap, ◌∙◌, arith}
 use Rattle.hwp_check_rules.specs.hwp_law.Private.{word_stored}
 use Rattle.hwp_check_rules.specs.hwp_report_text.declared.Answer.{Answer}
-use Rattle.hwp_check_rules.specs.hwp_script_read.declared.Command.{Command}
+use Rattle.hwp_check_rules.specs.hwp_script_words.declared.Command.{Command}
 use Rattle.hwp_check_processes.proofs.WordLaws.{word-all, word_more}
 use Rattle.hwp_check_processes.proofs.words.last_stored.Goals as goal
 

@@ -2,7 +2,7 @@ use Rattle.std.proofs.Common.{◌+◌, List, Some, sym, ap, ◌∙◌, subst}
 use Rattle.std.proofs.lemmas.Option.{slice_get-get_or}
 use Rattle.hwp_law.specs.Cows.{acting}
 use Rattle.hwp_law.specs.hwp_report_text.declared.Answer.{Answer}
-use Rattle.hwp_law.specs.hwp_script_read.declared.Command.{Command}
+use Rattle.hwp_law.specs.hwp_script_words.declared.Command.{Command}
 use Rattle.hwp_check_rules.specs.ActedOn.{AreActed}
 use Rattle.hwp_check_rules.proofs.ActedLists.{next-acted}
 use Rattle.hwp_check_rules.proofs.acted.acting_list.Goals as goal

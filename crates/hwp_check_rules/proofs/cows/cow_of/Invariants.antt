@@ -1,7 +1,7 @@
 use Rattle.std.proofs.Common.{◌≡◌, drop, fold}
 use Rattle.hwp_law.specs.Cows.{Cow, cow_after, cow_of}
 use Rattle.hwp_law.specs.hwp_report_text.declared.Answer.{Answer}
-use Rattle.hwp_law.specs.hwp_script_read.declared.Command.{Command}
+use Rattle.hwp_law.specs.hwp_script_words.declared.Command.{Command}
 use Rattle.hwp_check_rules.specs.ActedOn.{cow_in}
 use Rattle.hwp_check_rules.proofs.cows.cow_of.Given as goal
 

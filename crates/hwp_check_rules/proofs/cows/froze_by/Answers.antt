@@ -1,7 +1,7 @@
 use Rattle.std.proofs.Common.{Option, false, sym, ap, ◌∙◌}
 use Rattle.std.specs.Option.{option_map_or}
 use Rattle.hwp_law.specs.hwp_geom.declared.ThreadDecl.{ThreadDecl}
-use Rattle.hwp_law.specs.hwp_script_read.Forks.{freezes}
+use Rattle.hwp_law.specs.hwp_script_words.Forks.{freezes}
 use Rattle.hwp_check_event_line.proofs.Lookups.{found-there, none-there}
 use Rattle.hwp_check_rules.proofs.cows.froze_by.Goals as goal
 

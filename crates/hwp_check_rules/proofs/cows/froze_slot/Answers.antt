@@ -1,8 +1,8 @@
 use Rattle.std.proofs.Common.{Option, false, sym, ap, ◌∙◌}
 use Rattle.std.specs.Option.{option_map_or}
 use Rattle.hwp_law.specs.hwp_geom.declared.TransDecl.{TransDecl}
-use Rattle.hwp_law.specs.hwp_script_read.Forks.{froze}
-use Rattle.hwp_law.specs.hwp_script_read.declared.Command.TheVariants as commands
+use Rattle.hwp_law.specs.hwp_script_words.Forks.{froze}
+use Rattle.hwp_law.specs.hwp_script_words.declared.Command.TheVariants as commands
 use Rattle.hwp_check_event_line.proofs.Lookups.{found-there, none-there}
 use Rattle.hwp_check_rules.proofs.cows.froze_slot.Goals as goal
 

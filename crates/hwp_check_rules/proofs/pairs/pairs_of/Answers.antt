@@ -1,7 +1,7 @@
 use Rattle.std.proofs.Common.{◌≡◌, ◌≤◌, ◌+◌, List, ap, ◌∙◌, arith}
 use Rattle.std.specs.List.{zip}
 use Rattle.hwp_law.specs.hwp_report_text.declared.Answer.{Answer}
-use Rattle.hwp_law.specs.hwp_script_read.declared.Command.{Command}
+use Rattle.hwp_law.specs.hwp_script_words.declared.Command.{Command}
 use Rattle.hwp_check_rules.proofs.PairLaws.{all-pairs, next-pair}
 use Rattle.hwp_check_rules.proofs.pairs.pairs_of.Goals as goal
 

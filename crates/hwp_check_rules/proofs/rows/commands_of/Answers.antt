@@ -1,5 +1,5 @@
 use Rattle.std.proofs.Common.{List, Option, [], unwrap_or, sym, ap, ◌∙◌}
-use Rattle.hwp_law.specs.hwp_script_read.declared.Command.{Command}
+use Rattle.hwp_law.specs.hwp_script_words.declared.Command.{Command}
 use Rattle.hwp_check_event_line.proofs.Lookups.{found-there, none-there}
 use Rattle.hwp_check_rules.proofs.rows.commands_of.Goals as goal
 

@@ -1,5 +1,5 @@
 use Rattle.std.proofs.Common.{◌≡◌, ◌<◌, ℕ, Bool, false, List, Option, Some, None, MatchOption, cond, length, map, ap, sym, subst, ◌∙◌}
-use Rattle.hwp_check_rules.specs.hwp_script_read.declared.Command.{Command}
+use Rattle.hwp_check_rules.specs.hwp_script_words.declared.Command.{Command}
 use Rattle.hwp_check_rules.specs.Faults.{first_free, IsFrameFault}
 use Rattle.hwp_check_rules.specs.Firsts.{soonest, IsFirstFault}
 use Rattle.hwp_check_state.specs.Frames.{AreDoneOf, AreRight, cached_after, ends_of, is_right_frame, is_unsaid_from}

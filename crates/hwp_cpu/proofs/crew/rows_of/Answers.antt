@@ -1,5 +1,5 @@
 use Rattle.std.proofs.Common.{◌≡◌, [], ◌∷◌, ◌++◌, None, List, sym, subst}
-use Rattle.hwp_script_lines.proofs.PairsLaws.{Pairs-push}
+use Rattle.hwp_script_words.proofs.PairsLaws.{Pairs-push}
 use Rattle.hwp_cpu_row.specs.declared.Row.{Row}
 use Rattle.hwp_cpu.specs.declared.processor.Processor.{Processor}
 use Rattle.hwp_cpu.specs.Processors.{AreFinished}

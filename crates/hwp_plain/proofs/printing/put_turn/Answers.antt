@@ -1,6 +1,6 @@
 use Rattle.std.proofs.Common.{[], ◌∷◌, string_bytes, codes, decimal}
 use Rattle.std.proofs.lemmas.Result.{on_ok_weaker}
-use Rattle.hwp_script_read.specs.hwp_script_lines.Kinds.{kind_text}
+use Rattle.hwp_script_words.specs.Kinds.{kind_text}
 use Rattle.hwp_plain.specs.TraceText.{change_words, place_words, turn_word}
 use Rattle.hwp_plain.proofs.SpacedWords.{put-whole}
 use Rattle.hwp_plain.proofs.printing.put_turn.Goals as goal

@@ -1,6 +1,6 @@
 use Rattle.std.proofs.Common.{◌≡◌, ◌↔◌, true, refl, sym, subst, inl, inr}
 use Rattle.std.proofs.lemmas.Bool.{both_ways}
-use Rattle.hwp_script_read.specs.declared.Until.{Until}
+use Rattle.hwp_script_words.specs.declared.Until.{Until}
 use Rattle.hwp_plain.specs.Order.{EndsWord}
 use Rattle.hwp_plain.proofs.scheduler.is_end.Goals as goal
 

@@ -1,5 +1,5 @@
 use Rattle.std.proofs.Common.{◌≡◌, map, take, length}
-use Rattle.hwp_script_read.specs.hwp_geom.Limits.{cpu_limit}
+use Rattle.hwp_script_words.specs.hwp_geom.Limits.{cpu_limit}
 use Rattle.hwp_plain.proofs.scheduler.levels_of.Given as goal
 
 abbrev pub invariant-loop-i : goal.invariant-loop-i

@@ -1,7 +1,7 @@
 use Rattle.std.proofs.Common.{ℕ, ◌≡◌, ◌<◌, ◌^◌, ◌↔◌, List, Option, Some, None, decimal, refl, sym, ap, ◌∙◌, arith}
 use Rattle.std.specs.Prelude.{IfSome, IsSome}
 use Rattle.std.proofs.lemmas.Fmt.{decimal_injective}
-use Rattle.hwp_script_lines.specs.hwp_geom.Limits.{line_limit}
+use Rattle.hwp_script_words.specs.hwp_geom.Limits.{line_limit}
 use Rattle.hwp_report_words.specs.Reads.{Below, IsReadAs}
 use Rattle.hwp_report_words.proofs.numbers.read_line_number.Goals as goal
 

@@ -1,6 +1,6 @@
 use Rattle.std.proofs.Common.{ℕ, ◌^◌, decimal, Option, Some, None, List}
 use Rattle.std.specs.Prelude.{IfSome, IfNone}
-use Rattle.hwp_script_lines.specs.Numbers.{IsNumber}
+use Rattle.hwp_script_words.specs.Numbers.{IsNumber}
 use Rattle.hwp_report_words.specs.Reads.{IsReadAs, Below}
 use Rattle.hwp_report_words.proofs.numbers.read_number.Goals as goal
 

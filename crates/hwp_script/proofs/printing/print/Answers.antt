@@ -1,5 +1,5 @@
 use Rattle.std.proofs.Common.{◌≤◌, ◌∙◌, length, sym, subst}
-use Rattle.hwp_script_read.specs.Limits.{script_limit}
+use Rattle.hwp_script_read.specs.hwp_script_words.Limits.{script_limit}
 use Rattle.hwp_script.specs.Round.{IsTextOf}
 use Rattle.hwp_script.proofs.PutLaws.{script_parts}
 use Rattle.hwp_script.proofs.RoundTrip.{round_trip}

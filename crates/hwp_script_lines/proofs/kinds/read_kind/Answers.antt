@@ -1,6 +1,6 @@
 use Rattle.std.proofs.Common.{◌≡◌, ◌∙◌, sym, ap, arith, rules}
-use Rattle.hwp_geom.specs.declared.Kind.TheVariants as kinds
-use Rattle.hwp_script_lines.specs.Kinds.{kind_text}
+use Rattle.hwp_script_words.specs.hwp_geom.declared.Kind.TheVariants as kinds
+use Rattle.hwp_script_words.specs.Kinds.{kind_text}
 use Rattle.hwp_script_lines.proofs.Searches.{none-more, none-at}
 use Rattle.hwp_script_lines.proofs.Listed.{kind_listed, all_kinds}
 use Rattle.hwp_script_lines.proofs.kinds.read_kind.Goals as goal

@@ -1,5 +1,5 @@
 use Rattle.std.proofs.Common.{◌≡◌}
-use Rattle.hwp_script_lines.specs.Kinds.{kind_text}
+use Rattle.hwp_script_words.specs.Kinds.{kind_text}
 use Rattle.hwp_script_lines.proofs.Searches.{IsNoneOf}
 use Rattle.hwp_script_lines.proofs.kinds.read_kind.Given as goal
 

@@ -1,7 +1,7 @@
 use Rattle.std.proofs.Common.{◌≡◌, ◌∷◌, [], map, decimal, ap, ◌∙◌, arith}
 use Rattle.std.proofs.lemmas.List.{length-map}
-use Rattle.hwp_script_lines.specs.Numbers.{IsNumberWord}
-use Rattle.hwp_script_lines.proofs.PairsLaws.{All-now, one-of}
+use Rattle.hwp_script_words.specs.Numbers.{IsNumberWord}
+use Rattle.hwp_script_words.proofs.PairsLaws.{All-now, one-of}
 use Rattle.hwp_script_lines.proofs.numbers.one_number.Goals as goal
 
 pub returns-in_default : goal.returns-in_default

@@ -1,7 +1,7 @@
 use Rattle.std.proofs.Common.{[], subst, sym, arith}
 use Rattle.std.proofs.lemmas.List.{length-map}
 use Rattle.hwp_script_lines.specs.Numbers.{IsRegister, IsRegisterWord}
-use Rattle.hwp_script_lines.proofs.PairsLaws.{All-now, now-at}
+use Rattle.hwp_script_words.proofs.PairsLaws.{All-now, now-at}
 use Rattle.hwp_script_lines.proofs.numbers.three_registers.Goals as goal
 
 pub returns-in-None : goal.returns-in-None

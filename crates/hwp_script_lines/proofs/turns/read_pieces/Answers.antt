@@ -1,5 +1,5 @@
 use Rattle.std.proofs.Common.{[], inl, inr, arith}
-use Rattle.hwp_script_lines.proofs.PairsLaws.{one-of, two-of}
+use Rattle.hwp_script_words.proofs.PairsLaws.{one-of, two-of}
 use Rattle.hwp_script_lines.proofs.TurnLaws.{few-pieces}
 use Rattle.hwp_script_lines.proofs.turns.read_pieces.Goals as goal
 

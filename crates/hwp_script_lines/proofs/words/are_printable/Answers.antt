@@ -3,7 +3,7 @@ use Rattle.std.specs.Prelude.{All}
 use Rattle.std.proofs.lemmas.List.{take_all, length-map}
 use Rattle.std.proofs.lemmas.List.Elements.{All-push}
 use Rattle.hwp_script_lines.specs.Grammar.{IsPrintable}
-use Rattle.hwp_script_lines.proofs.PairsLaws.{take-now, All-now}
+use Rattle.hwp_script_words.proofs.PairsLaws.{take-now, All-now}
 use Rattle.hwp_script_lines.proofs.words.are_printable.Goals as goal
 
 pub returns-then-not-is_printable : goal.returns-then-not-is_printable

@@ -1,5 +1,5 @@
 use Rattle.std.proofs.Common.{arith}
-use Rattle.hwp_script_read.specs.Forks.{is_away}
+use Rattle.hwp_script_lines.specs.hwp_script_words.Forks.{is_away}
 use Rattle.hwp_script_read.proofs.PairsWalk.{one-first, one-more, one-found, no-one}
 use Rattle.hwp_script_read.proofs.forks.are_away.Goals as goal
 

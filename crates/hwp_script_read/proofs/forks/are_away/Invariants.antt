@@ -1,4 +1,4 @@
-use Rattle.hwp_script_read.specs.Forks.{is_away}
+use Rattle.hwp_script_lines.specs.hwp_script_words.Forks.{is_away}
 use Rattle.hwp_script_read.proofs.PairsWalk.{IsNoOne}
 use Rattle.hwp_script_read.proofs.forks.are_away.Given as goal
 

@@ -2,7 +2,7 @@ use Rattle.std.proofs.Common.{◌&&◌, ◌||◌, Option, arith}
 use Rattle.std.specs.List.{list_any}
 use Rattle.hwp_script_lines.specs.hwp_geom.declared.VSlot.{VSlot}
 use Rattle.hwp_script_lines.specs.hwp_geom.declared.TransDecl.{TransDecl}
-use Rattle.hwp_script_read.specs.Forks.{froze, is_cow, is_unfit}
+use Rattle.hwp_script_lines.specs.hwp_script_words.Forks.{froze, is_cow, is_unfit}
 use Rattle.hwp_script_read.specs.Sums.{names_of}
 use Rattle.hwp_script_read.proofs.PairsWalk.{pair-first, pair-more, pair-found, no-pair}
 use Rattle.hwp_script_read.proofs.forks.cannot_share.Goals as goal

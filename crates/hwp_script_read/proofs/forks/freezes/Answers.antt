@@ -1,7 +1,7 @@
 use Rattle.std.proofs.Common.{◌&&◌, ◌==◌, Option, arith}
 use Rattle.hwp_script_lines.specs.hwp_geom.declared.VSlot.{VSlot}
 use Rattle.hwp_script_lines.specs.hwp_geom.declared.TransDecl.{TransDecl}
-use Rattle.hwp_script_read.specs.Forks.{is_cow}
+use Rattle.hwp_script_lines.specs.hwp_script_words.Forks.{is_cow}
 use Rattle.hwp_script_read.proofs.PairsWalk.{pair-first, pair-more, pair-found, no-pair}
 use Rattle.hwp_script_read.proofs.forks.freezes.Goals as goal
 

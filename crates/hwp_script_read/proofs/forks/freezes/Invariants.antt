@@ -1,7 +1,7 @@
 use Rattle.std.proofs.Common.{◌&&◌, ◌==◌, Option}
 use Rattle.hwp_script_lines.specs.hwp_geom.declared.VSlot.{VSlot}
 use Rattle.hwp_script_lines.specs.hwp_geom.declared.TransDecl.{TransDecl}
-use Rattle.hwp_script_read.specs.Forks.{is_cow}
+use Rattle.hwp_script_lines.specs.hwp_script_words.Forks.{is_cow}
 use Rattle.hwp_script_read.proofs.PairsWalk.{IsNoPair}
 use Rattle.hwp_script_read.proofs.forks.freezes.Given as goal
 

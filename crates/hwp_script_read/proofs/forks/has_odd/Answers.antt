@@ -1,5 +1,5 @@
 use Rattle.std.proofs.Common.{arith}
-use Rattle.hwp_script_read.specs.Forks.{is_odd}
+use Rattle.hwp_script_lines.specs.hwp_script_words.Forks.{is_odd}
 use Rattle.hwp_script_read.proofs.PairsWalk.{pair-first, pair-more, pair-found, no-pair}
 use Rattle.hwp_script_read.proofs.forks.has_odd.Goals as goal
 

@@ -1,4 +1,4 @@
-use Rattle.hwp_script_read.specs.Forks.{is_odd}
+use Rattle.hwp_script_lines.specs.hwp_script_words.Forks.{is_odd}
 use Rattle.hwp_script_read.proofs.PairsWalk.{IsNoPair}
 use Rattle.hwp_script_read.proofs.forks.has_odd.Given as goal
 

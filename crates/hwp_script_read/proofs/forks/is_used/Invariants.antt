@@ -1,4 +1,4 @@
-use Rattle.hwp_script_read.specs.Forks.{is_used_by}
+use Rattle.hwp_script_lines.specs.hwp_script_words.Forks.{is_used_by}
 use Rattle.hwp_script_read.specs.Sums.{names_of}
 use Rattle.hwp_script_read.proofs.PairsWalk.{IsNoOne}
 use Rattle.hwp_script_read.proofs.forks.is_used.Given as goal

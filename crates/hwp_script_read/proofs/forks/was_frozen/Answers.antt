@@ -1,5 +1,5 @@
 use Rattle.std.proofs.Common.{refl, ap, ◌∙◌, arith}
-use Rattle.hwp_script_read.specs.Forks.{froze}
+use Rattle.hwp_script_lines.specs.hwp_script_words.Forks.{froze}
 use Rattle.hwp_script_read.specs.Sums.{names_of}
 use Rattle.hwp_script_read.proofs.PairsWalk.{one-first, one-more, one-found, no-one}
 use Rattle.hwp_script_read.proofs.forks.was_frozen.Goals as goal

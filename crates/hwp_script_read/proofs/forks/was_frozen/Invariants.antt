@@ -1,4 +1,4 @@
-use Rattle.hwp_script_read.specs.Forks.{froze}
+use Rattle.hwp_script_lines.specs.hwp_script_words.Forks.{froze}
 use Rattle.hwp_script_read.specs.Sums.{names_of}
 use Rattle.hwp_script_read.proofs.PairsWalk.{IsNoOne}
 use Rattle.hwp_script_read.proofs.forks.was_frozen.Given as goal

@@ -1,5 +1,5 @@
 use Rattle.std.proofs.Common.{refl, ap, ◌∙◌, arith}
-use Rattle.hwp_script_read.specs.Forks.{forks}
+use Rattle.hwp_script_read.specs.Context.{forks}
 use Rattle.hwp_script_read.proofs.PairsWalk.{one-first, one-more, one-found, no-one}
 use Rattle.hwp_script_read.proofs.forks.were_forked.Goals as goal
 

@@ -1,4 +1,4 @@
-use Rattle.hwp_script_read.specs.Forks.{forks}
+use Rattle.hwp_script_read.specs.Context.{forks}
 use Rattle.hwp_script_read.proofs.PairsWalk.{IsNoOne}
 use Rattle.hwp_script_read.proofs.forks.were_forked.Given as goal
 

@@ -1,4 +1,4 @@
-use Rattle.hwp_script_read.specs.Guests.{bars_guest}
+use Rattle.hwp_script_lines.specs.hwp_script_words.Guests.{bars_guest}
 use Rattle.hwp_script_read.proofs.PairsWalk.{IsNoOne}
 use Rattle.hwp_script_read.proofs.guests.cannot_be_guest.Given as goal
 

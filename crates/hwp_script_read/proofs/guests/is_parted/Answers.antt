@@ -1,5 +1,5 @@
 use Rattle.std.proofs.Common.{refl, arith}
-use Rattle.hwp_script_read.specs.Guests.{is_apart}
+use Rattle.hwp_script_lines.specs.hwp_script_words.Guests.{is_apart}
 use Rattle.hwp_script_read.proofs.PairsWalk.{one-first, one-more, one-found, no-one}
 use Rattle.hwp_script_read.proofs.guests.is_parted.Goals as goal
 

@@ -1,4 +1,4 @@
-use Rattle.hwp_script_read.specs.Guests.{is_apart}
+use Rattle.hwp_script_lines.specs.hwp_script_words.Guests.{is_apart}
 use Rattle.hwp_script_read.proofs.PairsWalk.{IsNoOne}
 use Rattle.hwp_script_read.proofs.guests.is_parted.Given as goal
 

@@ -1,4 +1,5 @@
-use hwp_script_lines::{Command, Go, Layout, List};
+use crate::command::{Command, Go};
+use hwp_geom::{Layout, List};
 
 /// The most words of a schedule (this project's rule).
 pub const MAX_SCHEDULE: u32 = 100_000;

@@ -2,7 +2,7 @@ use Rattle.std.proofs.Common.{rules, ap, ◌∙◌, ◌==◌, not, length}
 use Rattle.std.proofs.lemmas.Iterator.Consumers.{map_from_collect, YieldsList-from_filter}
 use Rattle.std.proofs.lemmas.Iterator.Splits.{YieldsList-from_slice_split}
 use borrow.Author.Tests.{tests}
-use Rattle.hwp_script_lines.proofs.words.words_in.Goals as goal
+use Rattle.hwp_script_words.proofs.words.words_in.Goals as goal
 
 pub returns : goal.returns
 returns c =

@@ -4,8 +4,8 @@ use Rattle.std.proofs.lemmas.Fmt.{parse-decimal, IsAscii-decimal}
 use Rattle.std.proofs.lemmas.Bool.Decides.{Decides-eqb}
 use Rattle.std.proofs.lemmas.Slice.Eq.{slice_eq-Decides}
 use Rattle.std.proofs.lemmas.Str.{IsUtf8-from_ascii}
-use Rattle.hwp_script_lines.specs.Numbers.{IsNumber}
-use Rattle.hwp_script_lines.proofs.numbers.read_number.Goals as goal
+use Rattle.hwp_script_words.specs.Numbers.{IsNumber}
+use Rattle.hwp_script_words.proofs.numbers.read_number.Goals as goal
 
 -- the text of a number is ASCII, and so UTF-8
 IsUtf8-number : (word : List ℕ) (n : ℕ) → IsNumber word n → IsUtf8 word

@@ -1,7 +1,7 @@
 -- Which processes can't be guests: all threads of a guest run on one processor, and each has a handler.
 use Rattle.std.specs.Prelude.{ℕ, Bool, not, ◌&&◌, ◌||◌, ◌==◌, List}
 use Rattle.std.specs.List.{list_any}
-use Rattle.hwp_script_lines.specs.hwp_geom.declared.ThreadDecl.{ThreadDecl}
+use Rattle.hwp_geom.specs.declared.ThreadDecl.{ThreadDecl}
 
 -- whether a thread of the process shows that a thread can't be one of the same guest: that one has no handler, or they run on two processors
 abbrev pub is_apart : ℕ → ThreadDecl → ThreadDecl → Bool

@@ -1,17 +1,15 @@
 -- What a script may say of twins, and where a process may be forked. A fork freezes the pages to which the parent has a translation with a
 -- twin: behind it parent and child read the same words, and each goes over to its twin at its first store.
-use Rattle.std.specs.Prelude.{ℕ, Bool, true, false, not, ◌&&◌, ◌||◌, ◌==◌, nat_lt, List, Option, Some, None, is_some, slice_get, count_by, zip}
+use Rattle.std.specs.Prelude.{ℕ, Bool, false, not, ◌&&◌, ◌||◌, ◌==◌, nat_lt, List, Option, Some, None, is_some, slice_get, count_by, zip}
 use Rattle.std.specs.List.{list_any}
 use Rattle.std.specs.Option.{option_map_or}
-use Rattle.hwp_script_lines.specs.hwp_geom.Layout.{has_twin, is_twin}
-use Rattle.hwp_script_lines.specs.hwp_geom.declared.Layout.{Layout}
-use Rattle.hwp_script_lines.specs.hwp_geom.declared.ThreadDecl.{ThreadDecl}
-use Rattle.hwp_script_lines.specs.hwp_geom.declared.TransDecl.{TransDecl}
-use Rattle.hwp_script_lines.specs.hwp_geom.declared.VSlot.{VSlot}
-use Rattle.hwp_script_lines.specs.declared.ScriptLine.{ScriptLine}
-use Rattle.hwp_script_lines.specs.declared.ScriptLine.TheVariants as forms
-use Rattle.hwp_script_lines.specs.declared.Command.{Command}
-use Rattle.hwp_script_lines.specs.declared.Command.TheVariants as commands
+use Rattle.hwp_geom.specs.Layout.{is_twin}
+use Rattle.hwp_geom.specs.declared.Layout.{Layout}
+use Rattle.hwp_geom.specs.declared.ThreadDecl.{ThreadDecl}
+use Rattle.hwp_geom.specs.declared.TransDecl.{TransDecl}
+use Rattle.hwp_geom.specs.declared.VSlot.{VSlot}
+use Rattle.hwp_script_words.specs.declared.command.Command.{Command}
+use Rattle.hwp_script_words.specs.declared.command.Command.TheVariants as commands
 
 -- the thread that a command is of
 abbrev pub actor : Command → Option ℕ
@@ -110,13 +108,3 @@ is_wrong_fork layout cpu before c = false
 abbrev pub is_fork_of : ℕ → Command → Bool
 is_fork_of process (commands.Fork t p) = p.0 == process
 is_fork_of process c = false
-
--- whether a line is
-abbrev pub forks : ℕ → ScriptLine → Bool
-forks process (forms.Command c) = is_fork_of process c
-forks process f = false
-
--- whether one of the lines forked the process that the command forks
-abbrev pub is_again : List ScriptLine → Command → Bool
-is_again above (commands.Fork t p) = list_any (forks p.0) above
-is_again above c = false

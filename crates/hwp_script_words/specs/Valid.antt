@@ -1,25 +1,24 @@
 -- What every script has that some text gives.
 use Rattle.std.specs.Prelude.{◌≡◌, ◌≢◌, ℕ, Bool, true, false, ◌<◌, ◌≤◌, ◌+◌, ◌^◌, length, take, sum_by, count_by, All, IsSomeAnd, slice_get, Option, Some, None, List, [], ◌∷◌}
-use Rattle.hwp_script_lines.specs.hwp_geom.Layout.{IsSound, has_twin, is_guest, is_twin, twin_of}
-use Rattle.hwp_script_lines.specs.hwp_geom.Limits.{line_limit, command_limit}
-use Rattle.hwp_script_lines.specs.hwp_geom.declared.Layout.{Layout}
-use Rattle.hwp_script_lines.specs.hwp_geom.declared.Proc.{Proc}
-use Rattle.hwp_script_lines.specs.hwp_geom.declared.Thread.{Thread}
-use Rattle.hwp_script_lines.specs.hwp_geom.declared.VSlot.{VSlot}
-use Rattle.hwp_script_lines.specs.hwp_geom.declared.Version.TheVariants as versions
-use Rattle.hwp_script_lines.specs.hwp_geom.declared.ThreadDecl.{ThreadDecl}
-use Rattle.hwp_script_lines.specs.hwp_geom.declared.TransDecl.{TransDecl}
-use Rattle.hwp_script_lines.specs.hwp_geom.declared.PageKind.{PageKind}
-use Rattle.hwp_script_lines.specs.hwp_geom.declared.PageKind.TheVariants as kinds
-use Rattle.hwp_script_read.specs.declared.script.Script.{Script}
-use Rattle.hwp_script_lines.specs.Grammar.{IsCollectorWithin}
-use Rattle.hwp_script_lines.specs.declared.Go.{Go}
-use Rattle.hwp_script_lines.specs.declared.Command.{Command}
-use Rattle.hwp_script_lines.specs.declared.Command.TheVariants as commands
-use Rattle.hwp_script_read.specs.Forks.{has_shared_page, is_fork_of, is_wrong_fork, names_twin}
-use Rattle.hwp_script_read.specs.Guests.{cannot_be_guest}
-use Rattle.hwp_script_read.specs.Limits.{schedule_limit}
-use Rattle.hwp_script_read.specs.Reasons.{IsNewer}
+use Rattle.hwp_geom.specs.Layout.{IsSound, has_twin, is_guest, is_twin, twin_of}
+use Rattle.hwp_geom.specs.Limits.{line_limit, command_limit}
+use Rattle.hwp_geom.specs.declared.Layout.{Layout}
+use Rattle.hwp_geom.specs.declared.Proc.{Proc}
+use Rattle.hwp_geom.specs.declared.Thread.{Thread}
+use Rattle.hwp_geom.specs.declared.VSlot.{VSlot}
+use Rattle.hwp_geom.specs.declared.Version.TheVariants as versions
+use Rattle.hwp_geom.specs.declared.ThreadDecl.{ThreadDecl}
+use Rattle.hwp_geom.specs.declared.TransDecl.{TransDecl}
+use Rattle.hwp_geom.specs.declared.PageKind.{PageKind}
+use Rattle.hwp_geom.specs.declared.PageKind.TheVariants as kinds
+use Rattle.hwp_script_words.specs.declared.script.Script.{Script}
+use Rattle.hwp_script_words.specs.Commands.{IsCollectorWithin, IsNewer}
+use Rattle.hwp_script_words.specs.declared.command.Go.{Go}
+use Rattle.hwp_script_words.specs.declared.command.Command.{Command}
+use Rattle.hwp_script_words.specs.declared.command.Command.TheVariants as commands
+use Rattle.hwp_script_words.specs.Forks.{has_shared_page, is_fork_of, is_wrong_fork, names_twin}
+use Rattle.hwp_script_words.specs.Guests.{cannot_be_guest}
+use Rattle.hwp_script_words.specs.Limits.{schedule_limit}
 
 -- a thread of the processor
 abbrev pub IsThreadOf : Layout → ℕ → Thread → Type 0
