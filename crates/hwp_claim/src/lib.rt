@@ -15,16 +15,15 @@ pub use fail::{Fail, FailAnswer, Found};
 pub use handler::Handler;
 pub use hwp_banks::{BANKS, Bank, Event, Origin, Status};
 pub use hwp_claim_frame::{
-    At, Board, Body, CacheWord, CounterWord, Cpu, Entry, FileNo, Frame, FrameWord, Kind, Layout,
-    Line, List, Mask, Mode, Ops, OutOfMemory, Outcome, Page, PageWord, PolicyWord, Proc,
-    ProcessWord, Pte, Ranked, Scheduled, SharedWord, Step, StopWord, Task, Text, Thread, Turn,
-    VSlot, Who, index, is_stopped, let_go_of, lowest_bit,
+    At, Board, Body, Cpu, Entry, FileNo, Frame, FrameWord, Layout, Line, List, Mask, Mode,
+    OutOfMemory, Outcome, Page, Proc, ProcessWord, Ranked, Scheduled, SharedWord, Step, StopWord,
+    Task, Text, Thread, Turn, VSlot, Who, index, is_stopped, let_go_of, lowest_bit,
 };
 pub use hwp_law::{
     Access, Acted, Admit, Answer, Collector, Command, CpuLine, Decision, EventLine, FrameLine,
     Guest, GuestAccess, GuestLine, How, MAX_SCRIPT, MarkLine, McgBits, Noted, OfflineResult,
     OfflinedLine, PrctlArgs, Report, Script, Stop, StopCause, Taken, Version, Whereabouts, grade,
-    guest_access, handle, is_text, policy_word, print, read_number,
+    guest_access, handle, is_text, print, read_number,
 };
 pub use inject::Inject;
 pub use lines::ToldLines;

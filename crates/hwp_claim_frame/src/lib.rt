@@ -9,10 +9,9 @@ mod meet;
 pub use claim::{Claim, ClaimAnswer};
 pub use grab::{Grab, GrabAnswer};
 pub use hwp_core::{
-    At, Board, Body, CacheWord, CounterWord, Cpu, Entry, FileNo, Frame, FrameWord, GiveUp,
-    HeldSlots, Kind, Layout, Line, List, Mask, Mode, Ops, OutOfMemory, Outcome, Page, PageWord,
-    PolicyWord, Proc, ProcessWord, Pte, Ranked, Refer, Release, Scheduled, SharedWord, Situation,
-    SlotRoom, Slots, Step, StopWord, Task, Text, Thread, Turn, Unhold, Unlock, VSlot, What, Who,
-    index, is_stopped, let_go_of, lowest_bit,
+    At, Board, Body, CounterWord, Cpu, Entry, FileNo, Frame, FrameWord, GiveUp, HeldSlots, Layout,
+    Line, List, Mask, Mode, OutOfMemory, Outcome, Page, Proc, ProcessWord, Pte, Ranked, Refer,
+    Release, Scheduled, SharedWord, Situation, SlotRoom, Slots, Step, StopWord, Task, Text, Thread,
+    Turn, Unhold, Unlock, VSlot, What, Who, index, is_stopped, let_go_of, lowest_bit,
 };
 pub use meet::{Meet, MeetAnswer};

@@ -17,12 +17,12 @@ pub use clear::Clear;
 pub use give_up::GiveUp;
 pub use hold::Hold;
 pub use hwp_core_rule::{
-    At, Board, Body, CacheWord, Code, CounterWord, Cpu, Damage, Entry, FileNo, Frame, FrameWord,
-    FreeWord, HeldSlots, Kind, Layout, Line, List, Mask, Met, Mode, Ops, OutOfMemory, Outcome,
-    POISON, Page, PageKind, PageState, PageWord, PolicyWord, Proc, ProcessWord, Pte, REFERENCE,
-    Ranked, Reply, Scheduled, Seen, SharedWord, Signal, SignalList, SignalRoom, Situation,
-    SlotRoom, Slots, Step, StopWord, Task, Text, Thread, Turn, VSlot, Version, View, What, Who,
-    advance, frame_in, index, is_stopped, lowest_bit, next_to_read, signals,
+    At, Board, Body, Code, CounterWord, Cpu, Damage, Entry, FileNo, Frame, FrameWord, FreeWord,
+    HeldSlots, Kind, Layout, Line, List, Mask, Met, Mode, OutOfMemory, Outcome, POISON, Page,
+    PageKind, PageState, PolicyWord, Proc, ProcessWord, Pte, REFERENCE, Ranked, Reply, Scheduled,
+    Seen, SharedWord, Signal, SignalList, SignalRoom, Situation, SlotRoom, Slots, Step, StopWord,
+    Task, Text, Thread, Turn, VSlot, Version, View, What, Who, advance, frame_in, index,
+    is_stopped, lowest_bit, next_to_read, signals,
 };
 pub use let_go::let_go_of;
 pub use pin::{Pin, PinAnswer};

@@ -13,13 +13,12 @@ pub use cows::{Cow, Cows};
 pub use due::{DueFrames, take_notes};
 pub use guests::Guests;
 pub use hwp_claim::{
-    Acted, Admit, Answer, BANKS, Bank, Board, Body, CacheWord, Collector, Command, CounterWord,
-    Cpu, CpuLine, Decision, Entry, Event, EventLine, EventOutcome, FailAnswer, FileNo, Found,
-    Frame, FrameLine, FrameWord, GuestLine, Held, How, Inject, Kind, Layout, List, MAX_SCRIPT,
-    MarkLine, Mask, McgBits, Mode, Noted, OfflineResult, OfflinedLine, Ops, Origin, OutOfMemory,
-    Page, PageWord, PolicyWord, PrctlArgs, ProcessWord, Pte, Ranked, Report, Scheduled, Script,
-    SharedWord, Status, Step, Stop, StopCause, StopWord, Task, Text, Turn, VSlot, Version,
-    Whereabouts, Who, handle, index, is_text, no_events, policy_word, print, read_number,
+    Acted, Admit, Answer, BANKS, Bank, Board, Body, Collector, Command, Cpu, CpuLine, Decision,
+    Entry, Event, EventLine, EventOutcome, FailAnswer, FileNo, Found, Frame, FrameLine, FrameWord,
+    GuestLine, Held, How, Inject, Layout, List, MAX_SCRIPT, MarkLine, Mask, McgBits, Mode, Noted,
+    OfflineResult, OfflinedLine, Origin, OutOfMemory, Page, PrctlArgs, Ranked, Report, Scheduled,
+    Script, SharedWord, Status, Step, Stop, StopCause, StopWord, Task, Text, Turn, VSlot, Version,
+    Whereabouts, Who, handle, index, is_text, no_events, print, read_number,
 };
 pub use local::{Handles, Local, Watching};
 pub use row::{FrameChange, Offlining, Row};

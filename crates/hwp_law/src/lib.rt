@@ -11,7 +11,7 @@ pub use hwp_report_text::{
     Access, Acted, Admit, Answer, Arrival, At, Code, CpuLine, Decision, Entry, EventLine,
     FrameLine, Grade, Guest, GuestLine, How, MarkLine, McgBits, Met, OfflineResult, OfflinedLine,
     Outcome, PageState, Policy, Reply, Report, Seen, Severity, Signal, Situation, Slots, Stop,
-    StopCause, Taken, Version, What, Whereabouts, grade, handle, policy_word, prctl, print,
+    StopCause, Taken, Version, What, Whereabouts, grade, handle, prctl, print,
 };
 pub use hwp_script_words::{
     Collector, Command, Cpu, FileNo, Frame, Layout, Line, List, MAX_SCRIPT, Mask, Mode, Noted,
