@@ -1,4 +1,3 @@
-mod LineEnds
 mod Numbered
 mod Parts
 pub use Rattle.hwp_page.proofs.of_hwp_geom as of_hwp_geom

@@ -1,23 +1,9 @@
--- The words of a line, as they are printed.
-use Rattle.std.specs.Prelude.{List, ℕ, [], ◌∷◌, ◌++◌, decimal}
+-- The words of an answer, as they are printed.
+use Rattle.std.specs.Prelude.{List, ℕ, [], ◌∷◌, decimal}
 use Rattle.hwp_page.specs.hwp_geom.Words.{hex}
-use Rattle.hwp_report_text.specs.declared.printing.words.Word.{Word}
-use Rattle.hwp_report_text.specs.declared.printing.words.Word.TheVariants as words
 use Rattle.hwp_report_text.specs.declared.printing.answers.Said.{Said}
 use Rattle.hwp_report_text.specs.declared.printing.answers.Said.TheVariants as saids
-use Rattle.hwp_report_text.specs.ReportText.{placed, row_word}
-
--- the bytes of a word
-abbrev pub word_text : Word → List ℕ
-word_text (words.Text text) = text.now
-word_text (words.Number number) = decimal number
-word_text (words.Hex number) = hex number
-word_text (words.Row row) = row_word row
-
--- what stands behind the first words of a line: its other words, with a space before each, and a line feed
-abbrev pub line_end : List (List ℕ) → List ℕ
-line_end [] = 10 ∷ []
-line_end (w ∷ ws) = 32 ∷ (w ++ line_end ws)
+use Rattle.hwp_report_text.specs.ReportText.{placed}
 
 -- a word, with what stands behind it
 abbrev pub said_words : Said → List (List ℕ)

@@ -12,12 +12,13 @@ use crate::terms::{
 use answers::put_cpu_lines;
 use entries::put_entries;
 use hwp_page::{Entry, List, Mask, OutOfMemory, Text, Version, Who};
+use hwp_script_words::{Word, put_line};
 use std::alloc::Global;
-use words::{Word, put_line, put_verb};
+use verbs::put_verb;
 
 mod answers;
 mod entries;
-mod words;
+mod verbs;
 
 /// The one text of a report.
 pub fn print(alloc: Global, report: &Report) -> Result<Text, OutOfMemory>

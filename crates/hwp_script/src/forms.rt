@@ -7,7 +7,7 @@ ghost use Rattle.hwp_script.specs.Printed.{command_line, thread_words, page_line
 
 use hwp_script_read::{
     Backing, Command, Frame, Go, Line, OutOfMemory, PrctlArgs, Proc, ScriptLine, Thread, Until,
-    VSlot, kind_name,
+    VSlot, Word, kind_name, put_line,
 };
 
 /// Adds the line of a form to a text, with its line feed.
@@ -45,26 +45,38 @@ pub fn put_form(out: &mut String, form: &ScriptLine) -> Result<(), OutOfMemory>
         ScriptLine::Cpu(cpu) => put_number(out, "cpu", *cpu),
         ScriptLine::Command(command) => put_command(out, command),
         ScriptLine::Schedule(turns) => put_schedule(out, turns.as_slice()),
-        ScriptLine::End => writeln!(out, "end"),
+        ScriptLine::End => put_line(out, Word::Text("end"), &[]),
     }
 }
 
-fn put_number(out: &mut String, word: &str, number: u64) -> Result<(), OutOfMemory>
+fn put_number(out: &mut String, word: &'static str, number: u64) -> Result<(), OutOfMemory>
     ensures { OnOk result (string_bytes out.new ≡ string_bytes out.old ++ line (word.now ∷ decimal number ∷ [])) }
 {
-    writeln!(out, "{word} {number}")
+    put_line(out, Word::Text(word), &[Word::Number(number)])
 }
 
 fn put_trans(out: &mut String, slot: u64, process: u64, page: u64) -> Result<(), OutOfMemory>
     ensures { OnOk result (string_bytes out.new ≡ string_bytes out.old ++ line (codes "trans" ∷ decimal slot ∷ decimal process ∷ decimal page ∷ [])) }
 {
-    writeln!(out, "trans {slot} {process} {page}")
+    put_line(
+        out,
+        Word::Text("trans"),
+        &[
+            Word::Number(slot),
+            Word::Number(process),
+            Word::Number(page),
+        ],
+    )
 }
 
 fn put_cow(out: &mut String, slot: u64, twin: u64) -> Result<(), OutOfMemory>
     ensures { OnOk result (string_bytes out.new ≡ string_bytes out.old ++ line (codes "cow" ∷ decimal slot ∷ decimal twin ∷ [])) }
 {
-    writeln!(out, "cow {slot} {twin}")
+    put_line(
+        out,
+        Word::Text("cow"),
+        &[Word::Number(slot), Word::Number(twin)],
+    )
 }
 
 fn put_thread(
@@ -77,9 +89,27 @@ fn put_thread(
     ensures { OnOk result (string_bytes out.new ≡ string_bytes out.old ++ line (thread_words thread process cpu handler)) }
 {
     if handler {
-        writeln!(out, "thread {thread} {process} {cpu} handler")
+        put_line(
+            out,
+            Word::Text("thread"),
+            &[
+                Word::Number(thread),
+                Word::Number(process),
+                Word::Number(cpu),
+                Word::Text("handler"),
+            ],
+        )
     } else {
-        writeln!(out, "thread {thread} {process} {cpu} nohandler")
+        put_line(
+            out,
+            Word::Text("thread"),
+            &[
+                Word::Number(thread),
+                Word::Number(process),
+                Word::Number(cpu),
+                Word::Text("nohandler"),
+            ],
+        )
     }
 }
 
@@ -87,14 +117,39 @@ fn put_page(out: &mut String, page: u64, backing: Backing, locked: bool) -> Resu
     ensures { OnOk result (string_bytes out.new ≡ string_bytes out.old ++ line (page_line page backing locked)) }
 {
     match (backing, locked) {
-        (Backing::Anon, false) => writeln!(out, "page {page} anon"),
-        (Backing::Anon, true) => writeln!(out, "page {page} anon locked"),
-        (Backing::File { file, fill }, false) => {
-            writeln!(out, "page {page} file {file} fill {fill}")
-        }
-        (Backing::File { file, fill }, true) => {
-            writeln!(out, "page {page} file {file} fill {fill} locked")
-        }
+        (Backing::Anon, false) => put_line(
+            out,
+            Word::Text("page"),
+            &[Word::Number(page), Word::Text("anon")],
+        ),
+        (Backing::Anon, true) => put_line(
+            out,
+            Word::Text("page"),
+            &[Word::Number(page), Word::Text("anon"), Word::Text("locked")],
+        ),
+        (Backing::File { file, fill }, false) => put_line(
+            out,
+            Word::Text("page"),
+            &[
+                Word::Number(page),
+                Word::Text("file"),
+                Word::Number(file),
+                Word::Text("fill"),
+                Word::Number(fill),
+            ],
+        ),
+        (Backing::File { file, fill }, true) => put_line(
+            out,
+            Word::Text("page"),
+            &[
+                Word::Number(page),
+                Word::Text("file"),
+                Word::Number(file),
+                Word::Text("fill"),
+                Word::Number(fill),
+                Word::Text("locked"),
+            ],
+        ),
     }
 }
 
@@ -125,7 +180,7 @@ fn put_command(out: &mut String, command: &Command) -> Result<(), OutOfMemory>
         Command::Log { status, addr, misc } => put_log(out, status, addr, misc),
         Command::RaiseUser { thread, ripv, eipv } => put_user(out, thread, ripv, eipv),
         Command::RaiseKernel { ripv, eipv } => put_kernel(out, ripv, eipv),
-        Command::RaiseNested => writeln!(out, "raise nested"),
+        Command::RaiseNested => put_line(out, Word::Text("raise"), &[Word::Text("nested")]),
         Command::Inject { frame } => put_short(out, "inject", frame.0),
         Command::Soft { frame } => put_short(out, "soft", frame.0),
         Command::Unpoison { frame } => put_short(out, "unpoison", frame.0),
@@ -136,15 +191,22 @@ fn put_command(out: &mut String, command: &Command) -> Result<(), OutOfMemory>
 
 fn put_access(
     out: &mut String,
-    word: &str,
+    word: &'static str,
     thread: Thread,
     slot: VSlot,
     at: Line,
 ) -> Result<(), OutOfMemory>
     ensures { OnOk result (string_bytes out.new ≡ string_bytes out.old ++ line (word.now ∷ decimal thread.0 ∷ decimal slot.0 ∷ decimal at ∷ [])) }
 {
-    let at = at.get();
-    writeln!(out, "{word} {} {} {at}", thread.0, slot.0)
+    put_line(
+        out,
+        Word::Text(word),
+        &[
+            Word::Number(thread.0 as u64),
+            Word::Number(slot.0 as u64),
+            Word::Number(at.get() as u64),
+        ],
+    )
 }
 
 fn put_store(
@@ -156,56 +218,102 @@ fn put_store(
 ) -> Result<(), OutOfMemory>
     ensures { OnOk result (string_bytes out.new ≡ string_bytes out.old ++ line (codes "store" ∷ decimal thread.0 ∷ decimal slot.0 ∷ decimal at ∷ decimal word ∷ [])) }
 {
-    let at = at.get();
-    writeln!(out, "store {} {} {at} {word}", thread.0, slot.0)
+    put_line(
+        out,
+        Word::Text("store"),
+        &[
+            Word::Number(thread.0 as u64),
+            Word::Number(slot.0 as u64),
+            Word::Number(at.get() as u64),
+            Word::Number(word),
+        ],
+    )
 }
 
-fn put_short(out: &mut String, word: &str, number: u16) -> Result<(), OutOfMemory>
+fn put_short(out: &mut String, word: &'static str, number: u16) -> Result<(), OutOfMemory>
     ensures { OnOk result (string_bytes out.new ≡ string_bytes out.old ++ line (word.now ∷ decimal number ∷ [])) }
 {
-    writeln!(out, "{word} {number}")
+    put_line(out, Word::Text(word), &[Word::Number(number as u64)])
 }
 
 fn put_prctl(out: &mut String, thread: Thread, args: PrctlArgs) -> Result<(), OutOfMemory>
     ensures { OnOk result (string_bytes out.new ≡ string_bytes out.old
         ++ line (codes "prctl" ∷ decimal thread.0 ∷ decimal args.operation ∷ decimal args.arg2 ∷ decimal args.arg3 ∷ decimal args.arg4 ∷ decimal args.arg5 ∷ [])) }
 {
-    writeln!(
+    put_line(
         out,
-        "prctl {} {} {} {} {} {}",
-        thread.0, args.operation, args.arg2, args.arg3, args.arg4, args.arg5
+        Word::Text("prctl"),
+        &[
+            Word::Number(thread.0 as u64),
+            Word::Number(args.operation),
+            Word::Number(args.arg2),
+            Word::Number(args.arg3),
+            Word::Number(args.arg4),
+            Word::Number(args.arg5),
+        ],
     )
 }
 
-fn put_frame_line(out: &mut String, word: &str, frame: Frame, at: Line) -> Result<(), OutOfMemory>
+fn put_frame_line(
+    out: &mut String,
+    word: &'static str,
+    frame: Frame,
+    at: Line,
+) -> Result<(), OutOfMemory>
     ensures { OnOk result (string_bytes out.new ≡ string_bytes out.old ++ line (word.now ∷ decimal frame.0 ∷ decimal at ∷ [])) }
 {
-    let at = at.get();
-    writeln!(out, "{word} {} {at}", frame.0)
+    put_line(
+        out,
+        Word::Text(word),
+        &[Word::Number(frame.0 as u64), Word::Number(at.get() as u64)],
+    )
 }
 
 fn put_scrub(out: &mut String, first: Frame, last: Frame) -> Result<(), OutOfMemory>
     ensures { OnOk result (string_bytes out.new ≡ string_bytes out.old ++ line (codes "scrub" ∷ decimal first.0 ∷ decimal last.0 ∷ [])) }
 {
-    writeln!(out, "scrub {} {}", first.0, last.0)
+    put_line(
+        out,
+        Word::Text("scrub"),
+        &[Word::Number(first.0 as u64), Word::Number(last.0 as u64)],
+    )
 }
 
 fn put_watch(out: &mut String, threshold: u16, window: u8) -> Result<(), OutOfMemory>
     ensures { OnOk result (string_bytes out.new ≡ string_bytes out.old ++ line (codes "watch" ∷ decimal threshold ∷ decimal window ∷ [])) }
 {
-    writeln!(out, "watch {threshold} {window}")
+    put_line(
+        out,
+        Word::Text("watch"),
+        &[Word::Number(threshold as u64), Word::Number(window as u64)],
+    )
 }
 
 fn put_fork(out: &mut String, thread: Thread, process: Proc) -> Result<(), OutOfMemory>
     ensures { OnOk result (string_bytes out.new ≡ string_bytes out.old ++ line (codes "fork" ∷ decimal thread.0 ∷ decimal process.0 ∷ [])) }
 {
-    writeln!(out, "fork {} {}", thread.0, process.0)
+    put_line(
+        out,
+        Word::Text("fork"),
+        &[
+            Word::Number(thread.0 as u64),
+            Word::Number(process.0 as u64),
+        ],
+    )
 }
 
 fn put_log(out: &mut String, status: u64, addr: u64, misc: u64) -> Result<(), OutOfMemory>
     ensures { OnOk result (string_bytes out.new ≡ string_bytes out.old ++ line (codes "log" ∷ register status ∷ register addr ∷ register misc ∷ [])) }
 {
-    writeln!(out, "log 0x{status:x} 0x{addr:x} 0x{misc:x}")
+    put_line(
+        out,
+        Word::Text("log"),
+        &[
+            Word::Register(status),
+            Word::Register(addr),
+            Word::Register(misc),
+        ],
+    )
 }
 
 fn put_user(out: &mut String, thread: Thread, ripv: bool, eipv: bool) -> Result<(), OutOfMemory>
@@ -213,7 +321,16 @@ fn put_user(out: &mut String, thread: Thread, ripv: bool, eipv: bool) -> Result<
 {
     let ripv = u64::from(ripv);
     let eipv = u64::from(eipv);
-    writeln!(out, "raise user {} {ripv} {eipv}", thread.0)
+    put_line(
+        out,
+        Word::Text("raise"),
+        &[
+            Word::Text("user"),
+            Word::Number(thread.0 as u64),
+            Word::Number(ripv),
+            Word::Number(eipv),
+        ],
+    )
 }
 
 fn put_kernel(out: &mut String, ripv: bool, eipv: bool) -> Result<(), OutOfMemory>
@@ -221,7 +338,11 @@ fn put_kernel(out: &mut String, ripv: bool, eipv: bool) -> Result<(), OutOfMemor
 {
     let ripv = u64::from(ripv);
     let eipv = u64::from(eipv);
-    writeln!(out, "raise kernel {ripv} {eipv}")
+    put_line(
+        out,
+        Word::Text("raise"),
+        &[Word::Text("kernel"), Word::Number(ripv), Word::Number(eipv)],
+    )
 }
 
 fn put_turn(out: &mut String, turn: Go) -> Result<(), OutOfMemory>

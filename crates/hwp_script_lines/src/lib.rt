@@ -15,7 +15,7 @@ pub use hwp_script_words::{
     Collector, Command, Cpu, FileNo, Frame, Go, Kind, Layout, Line, List, MAX_COMMANDS, MAX_CPUS,
     MAX_FILES, MAX_PROCS, MAX_SCHEDULE, MAX_SCRIPT, MAX_THREADS, Mask, Mode, Noted, OutOfMemory,
     Page, PageKind, PrctlArgs, Proc, Script, Text, Thread, ThreadDecl, TransDecl, Until, VSlot,
-    Version, Who, is_text, kind_name, read_number, words_in,
+    Version, Who, Word, is_text, kind_name, put_line, read_number, words_in,
 };
 pub use lines::read_lines;
 pub use script_line::{Backing, LineRead, Numbered, ScriptLine};

@@ -1,11 +1,12 @@
 //! The words of a fault script as data: its commands, the turns of its schedule, and the script, which is the machine that it declares
 //! with a list of commands for each processor; and what every script has that some text gives. Beside it stand the words of a line, the
-//! number that a word is, and the names of the kinds of step, which scripts, reports and traces share.
+//! number that a word is, the names of the kinds of step, and how a line of words is printed, which scripts, reports and traces share.
 #![tactic(auto)]
 
 mod command;
 mod kinds;
 mod numbers;
+mod printing;
 mod script;
 mod words;
 
@@ -18,5 +19,6 @@ pub use hwp_geom::{
 };
 pub use kinds::kind_name;
 pub use numbers::read_number;
+pub use printing::{Word, put_line, put_rest, put_word, put_words};
 pub use script::{MAX_SCHEDULE, MAX_SCRIPT, Script};
 pub use words::{is_text, words_in};

@@ -2,12 +2,13 @@ ghost use Rattle.std.specs.Prelude.{◌≡◌, ◌∷◌, ◌++◌, OnOk, string
 ghost use Rattle.std.specs.List.{flat_map};
 ghost use Rattle.hwp_page.specs.hwp_geom.Words.{line};
 ghost use Rattle.hwp_report_text.specs.ReportText.{answer_words, cpu_line_words, event_words, guest_words, offlined_words};
-ghost use Rattle.hwp_report_text.specs.Sayings.{line_end, said_words};
+ghost use Rattle.hwp_script_words.specs.Printed.{line_end};
+ghost use Rattle.hwp_report_text.specs.Sayings.{said_words};
 
 use crate::lines::{Answer, CpuLine, EventLine, GuestLine, OfflinedLine};
-use crate::printing::words::{Word, put_line, put_rest, put_word, put_words};
 use crate::terms::{acted_word, guest_word};
 use hwp_page::{At, Mask, OutOfMemory};
+use hwp_script_words::{Word, put_line, put_rest, put_word, put_words};
 
 /// The lines below a processor.
 pub(crate) fn put_cpu_lines(out: &mut String, lines: &[CpuLine]) -> Result<(), OutOfMemory>

@@ -4,11 +4,12 @@ ghost use Rattle.hwp_page.specs.hwp_geom.Words.{line};
 ghost use Rattle.hwp_report_text.specs.Terms.{situation_word as situation_text};
 ghost use Rattle.hwp_report_text.specs.ReportText.{entry_lines, met_words, required_words, seen_words, signal_words, verb_words};
 
-use crate::printing::words::{Word, put_line, put_verb};
+use crate::printing::verbs::put_verb;
 use crate::terms::{code_word, situation_word};
 use hwp_page::{
     Entry, Line, Met, OutOfMemory, Seen, Signal, Situation, Thread, VSlot, What, Who, policy_word,
 };
+use hwp_script_words::{Word, put_line};
 
 /// The lines below a page.
 pub(crate) fn put_entries(out: &mut String, entries: &[Entry]) -> Result<(), OutOfMemory>

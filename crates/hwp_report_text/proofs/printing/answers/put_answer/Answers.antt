@@ -1,5 +1,5 @@
 use Rattle.std.proofs.lemmas.Result.{on_ok_weaker}
-use Rattle.hwp_report_text.proofs.LineEnds.{line_put}
+use Rattle.hwp_script_words.proofs.LineEnds.{line_put}
 use Rattle.hwp_report_text.proofs.printing.answers.put_answer.Goals as goal
 
 pub returns : goal.returns

@@ -1,7 +1,7 @@
 use Rattle.std.proofs.Common.{[], ◌∷◌, codes, decimal, ◌∙◌, ap}
 use Rattle.std.proofs.lemmas.Result.{on_ok_weaker}
 use Rattle.hwp_report_text.specs.ReportText.{answer_words}
-use Rattle.hwp_report_text.proofs.LineEnds.{front_put}
+use Rattle.hwp_script_words.proofs.LineEnds.{front_put}
 use Rattle.hwp_report_text.proofs.printing.answers.put_offlined.Goals as goal
 
 pub returns : goal.returns

@@ -1,7 +1,7 @@
 use Rattle.std.proofs.Common.{[], ◌∷◌, decimal, refl}
 use Rattle.std.proofs.lemmas.Result.{on_ok_weaker}
-use Rattle.hwp_report_text.proofs.LineEnds.{front_put}
-use Rattle.hwp_report_text.proofs.printing.words.put_verb.Goals as goal
+use Rattle.hwp_script_words.proofs.LineEnds.{front_put}
+use Rattle.hwp_report_text.proofs.printing.verbs.put_verb.Goals as goal
 
 pub returns : goal.returns
 returns c =

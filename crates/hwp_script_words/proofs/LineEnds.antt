@@ -1,9 +1,9 @@
 -- Printing a line word by word.
 use Rattle.std.proofs.Common.{◌≡◌, ℕ, List, [], ◌∷◌, ◌++◌, map, refl, sym, ap, ◌∙◌, append_assoc}
 use Rattle.std.specs.List.{flat_map}
-use Rattle.hwp_page.specs.hwp_geom.Words.{line}
-use Rattle.hwp_report_text.specs.declared.printing.words.Word.{Word}
-use Rattle.hwp_report_text.specs.Sayings.{line_end, word_text}
+use Rattle.hwp_geom.specs.Words.{line}
+use Rattle.hwp_script_words.specs.declared.printing.Word.{Word}
+use Rattle.hwp_script_words.specs.Printed.{line_end, word_text}
 
 -- a line is its first word and what stands behind it
 line-first : (w : List ℕ) (ws : List (List ℕ)) → line (w ∷ ws) ≡ w ++ line_end ws

@@ -1,15 +1,14 @@
 ghost use Rattle.std.specs.Prelude.{◌≡◌, ◌∷◌, ◌++◌, OnOk, string_bytes, decimal, map};
 ghost use Rattle.std.specs.List.{flat_map};
-ghost use Rattle.hwp_page.specs.hwp_geom.Words.{line};
-ghost use Rattle.hwp_report_text.specs.ReportText.{verb_words};
-ghost use Rattle.hwp_report_text.specs.Sayings.{line_end, word_text};
+ghost use Rattle.hwp_geom.specs.Words.{line};
+ghost use Rattle.hwp_script_words.specs.Printed.{line_end, word_text};
 
-use hwp_page::{OutOfMemory, Who};
+use hwp_geom::OutOfMemory;
 use itoa::Buffer;
 
 /// A word of a line.
 #[derive(Clone, Copy)]
-pub(crate) enum Word {
+pub enum Word {
     /// A text.
     Text(&'static str),
     /// A number, in decimal.
@@ -18,35 +17,20 @@ pub(crate) enum Word {
     Hex(u64),
     /// A row of the severity table.
     Row(u8),
+    /// A register word: `0x` and a number in hex.
+    Register(u64),
 }
 
 /// Adds a line to a text.
-pub(crate) fn put_line(out: &mut String, first: Word, rest: &[Word]) -> Result<(), OutOfMemory>
+pub fn put_line(out: &mut String, first: Word, rest: &[Word]) -> Result<(), OutOfMemory>
     ensures { OnOk result (string_bytes out.new ≡ string_bytes out.old ++ line (word_text first ∷ map word_text rest.now)) }
 {
     put_word(out, first)?;
     put_rest(out, rest)
 }
 
-/// Adds a line that begins with a verb and a command's processor and number.
-pub(crate) fn put_verb(
-    out: &mut String,
-    verb: &'static str,
-    who: Who,
-    rest: &[Word],
-) -> Result<(), OutOfMemory>
-    ensures { OnOk result (string_bytes out.new ≡ string_bytes out.old ++ line (verb_words verb.now who (map word_text rest.now))) }
-{
-    put_word(out, Word::Text(verb))?;
-    put_words(
-        out,
-        &[Word::Number(who.cpu.0 as u64), Word::Number(who.seq as u64)],
-    )?;
-    put_rest(out, rest)
-}
-
 /// Adds the rest of a line: words, with a space before each, and a line feed.
-pub(crate) fn put_rest(out: &mut String, words: &[Word]) -> Result<(), OutOfMemory>
+pub fn put_rest(out: &mut String, words: &[Word]) -> Result<(), OutOfMemory>
     ensures { OnOk result (string_bytes out.new ≡ string_bytes out.old ++ line_end (map word_text words.now)) }
 {
     put_words(out, words)?;
@@ -55,7 +39,7 @@ pub(crate) fn put_rest(out: &mut String, words: &[Word]) -> Result<(), OutOfMemo
 }
 
 /// Adds words, with a space before each.
-pub(crate) fn put_words(out: &mut String, words: &[Word]) -> Result<(), OutOfMemory>
+pub fn put_words(out: &mut String, words: &[Word]) -> Result<(), OutOfMemory>
     ensures { OnOk result (string_bytes out.new ≡ string_bytes out.old ++ flat_map (λ w. 32 ∷ word_text w) words.now) }
 {
     for word in words {
@@ -66,7 +50,7 @@ pub(crate) fn put_words(out: &mut String, words: &[Word]) -> Result<(), OutOfMem
 }
 
 /// Adds a word.
-pub(crate) fn put_word(out: &mut String, word: Word) -> Result<(), OutOfMemory>
+pub fn put_word(out: &mut String, word: Word) -> Result<(), OutOfMemory>
     ensures { OnOk result (string_bytes out.new ≡ string_bytes out.old ++ word_text word) }
 {
     match word {
@@ -80,5 +64,6 @@ pub(crate) fn put_word(out: &mut String, word: Word) -> Result<(), OutOfMemory>
         }
         Word::Hex(number) => write!(out, "{number:x}"),
         Word::Row(row) => write!(out, "S{row}"),
+        Word::Register(number) => write!(out, "0x{number:x}"),
     }
 }
