@@ -5,6 +5,8 @@ ghost use Rattle.hwp_script_lines.specs.Numbers.{IsRegister, IsRegisterWord};
 ghost use Rattle.hwp_script_lines.specs.Grammar.{AreRegisters};
 ghost use Rattle.hwp_script_lines.specs.Misfits.{AreMisfit, AreNumbers};
 
+use hwp_script_words::read_number;
+
 /// Why words are no line.
 #[derive(Clone, Copy)]
 pub(crate) enum Misfit {
