@@ -7,6 +7,7 @@ use Rattle.hwp_script_words.specs.hwp_geom.declared.VSlot.{VSlot}
 use Rattle.hwp_script_words.specs.hwp_geom.declared.Version.{Version}
 use Rattle.hwp_script_words.specs.hwp_geom.Pairs.{Pairs}
 use Rattle.hwp_script_words.specs.hwp_geom.Limits.{number, line_limit, cpu_limit, frame_limit, file_limit, process_limit, thread_limit, page_limit, translation_limit}
+use Rattle.hwp_script_words.specs.Commands.{IsCollectorWithin}
 use Rattle.hwp_script_words.specs.Numbers.{IsNumberWord}
 use Rattle.hwp_script_lines.specs.Numbers.{IsRegister, IsRegisterWord, register}
 use Rattle.hwp_script_words.specs.Kinds.{kind_text}

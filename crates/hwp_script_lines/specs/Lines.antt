@@ -2,6 +2,7 @@
 use Rattle.std.specs.Prelude.{◌≡◌, ℕ, Bool, false, if◌then◌else◌, ◌==◌, ◌||◌, ◌+◌, ◌++◌, List, [], ◌∷◌, length}
 use Rattle.hwp_script_words.specs.hwp_geom.Words.{pieces}
 use Rattle.hwp_script_words.specs.hwp_geom.Pairs.{Pairs}
+use Rattle.hwp_script_words.specs.Words.{words_of}
 use Rattle.hwp_script_lines.specs.Grammar.{IsForm, IsUnknown, IsBadNumber, IsOverLimit}
 use Rattle.hwp_script_lines.specs.declared.script_line.LineRead.{LineRead}
 use Rattle.hwp_script_lines.specs.declared.script_line.Numbered.{Numbered}

@@ -15,6 +15,7 @@ use Rattle.hwp_script_lines.specs.declared.Backing.TheVariants as backings
 use Rattle.hwp_script_lines.specs.declared.Go.{Go}
 use Rattle.hwp_script_lines.specs.declared.Command.{Command}
 use Rattle.hwp_script_lines.specs.declared.Command.TheVariants as commands
+use Rattle.hwp_script_lines.specs.hwp_script_words.Commands.{IsNewer}
 use Rattle.hwp_script_lines.specs.hwp_script_words.Limits.{schedule_limit}
 use Rattle.hwp_script_read.specs.Context.{version_in, cpus_in, frames_in, kernel_in, recovery_in, early_in, files_in, procs_in, threads_in, pages_in, trans_in, names_in, lists_in, commands_in, go_in, place_in, process_of, slot_of, highest, is_again}
 use Rattle.hwp_script_read.specs.Collects.{commands_of}
