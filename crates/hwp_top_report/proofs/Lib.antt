@@ -22,7 +22,7 @@ pub mod Retired
 pub mod AllowedThere
 pub mod Signals
 pub mod loads
-mod Ended
+mod BoardEnds
 mod Tables
 mod RecordLaws
 mod LineLaws

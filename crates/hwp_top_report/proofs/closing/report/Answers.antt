@@ -2,7 +2,7 @@ use Rattle.std.proofs.Common.{ℕ, List, refl, ◌∙◌, subst, sym}
 use Rattle.hwp_plain.specs.hwp_core_rule.Words.{words_of}
 use Rattle.hwp_law_served.specs.Rows.{Note}
 use Rattle.hwp_top_report.specs.Closing.{AreLinesBy, HasStopper, IsStopBy}
-use Rattle.hwp_top_report.proofs.Ended.{outcome-closes, outcome-stopper, outcome-whole}
+use Rattle.hwp_top_report.proofs.BoardEnds.{outcome-closes, outcome-stopper, outcome-whole}
 use Rattle.hwp_top_report.proofs.closing.report.Goals as goal
 
 pub all_notes-requires-clause-cpus : goal.all_notes-requires-clause-cpus
