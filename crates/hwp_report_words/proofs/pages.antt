@@ -1,3 +1,3 @@
 pub mod WordsPut
 pub mod SameWords
-mod NoLines
+pub mod NoLines
