@@ -18,7 +18,8 @@ pub use counting::summary;
 pub use counts::Summary;
 pub use cuts::first_line;
 pub use hwp_report_text::{
-    Acted, Answer, CpuLine, FrameLine, How, MarkLine, Report, Stop, StopCause, Whereabouts, print,
+    Acted, Answer, CpuLine, FrameLine, How, MarkLine, Report, Stop, StopCause, Text, Whereabouts,
+    print,
 };
 pub use printing::print_summary;
 pub use reading::{BadReport, read};

@@ -10,6 +10,9 @@ mod printing;
 mod seeding;
 
 pub use forms::put_form;
-pub use hwp_script_read::{Command, Go, PrctlArgs, ReadScript, Refused, Script, Until, Why, read};
+pub use hwp_script_read::{
+    Command, Go, MAX_SCRIPT, PrctlArgs, ReadScript, Refused, Script, Until, Why, is_text, read,
+    read_number,
+};
 pub use printing::print;
 pub use seeding::generate;

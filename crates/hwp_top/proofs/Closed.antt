@@ -13,8 +13,8 @@ use Rattle.hwp_threads.proofs.of_hwp_core_rule.WordsOpen.{length-below}
 use Rattle.hwp_threads.specs.hwp_core_rule.Boards.{Played}
 use Rattle.hwp_threads.specs.hwp_core_rule.Hands.{Hand}
 use Rattle.hwp_threads.specs.Parts.{Own}
-use Rattle.hwp_script.specs.hwp_script_read.declared.Script.{Script}
-use Rattle.hwp_script.specs.hwp_script_read.hwp_script_words.Valid.{IsValid}
+use Rattle.hwp_top_words.specs.hwp_script_read.declared.Script.{Script}
+use Rattle.hwp_top_words.specs.hwp_script_read.hwp_script_words.Valid.{IsValid}
 use Rattle.hwp_top_report.specs.hwp_report_text.declared.Report.{Report}
 use Rattle.hwp_top_report.proofs.of_hwp_law_served.Homes.{there-is}
 use Rattle.hwp_top_report.specs.hwp_cpu_row.declared.Row.{Row}

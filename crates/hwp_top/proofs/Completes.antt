@@ -1,70 +1,24 @@
 -- Every script is served: where a source gives the text of one, and no read and no write fails, `step` and `step tlb` end with the
 -- whole report, or are out of memory. That follows from the clauses of the top call.
-use Rattle.std.proofs.Common.{◌≡◌, ◌⊎◌, inl, inr, ℕ, zero, suc, ◌+◌, ◌<◌, ◌≤◌, List, [], ◌∷◌, ◌++◌, Option, Some, None, length, slice_index_or, append-nil, refl, sym, true≢false, ap, ◌∙◌, subst, arith}
+use Rattle.std.proofs.Common.{◌≡◌, ◌⊎◌, inl, inr, ℕ, zero, suc, ◌<◌, List, [], ◌∷◌, Option, Some, None, slice_index_or, refl, sym, true≢false, subst, arith}
 use Rattle.std.specs.Prelude.{Bool, true, false, not, Contains, IsTrue}
-use Rattle.std.specs.Io.KnownBytes.{Appends, Consumes, IsAtEnd}
-use Rattle.std.proofs.lemmas.List.{length-append}
-use Rattle.hwp_script.specs.hwp_script_read.Reads.{IsRefused, IsRefusedFor, Reads}
-use Rattle.hwp_script.specs.hwp_script_read.Reasons.{number}
-use Rattle.hwp_script.specs.hwp_script_read.declared.Refused.{Refused}
-use Rattle.hwp_script.specs.hwp_script_read.declared.Script.{Script}
-use Rattle.hwp_script.specs.hwp_script_read.declared.Why.{Why}
-use Rattle.hwp_script.specs.hwp_script_read.declared.Why.TheVariants as whys
-use Rattle.hwp_script.proofs.of_hwp_script_read.OneScript.{one_script}
-use Rattle.hwp_script.proofs.of_hwp_script_read.ReadLaws.{apart}
-use Rattle.hwp_report.specs.hwp_report_text.declared.Report.{Report}
+use Rattle.std.specs.Io.KnownBytes.{Appends}
+use Rattle.hwp_top_words.specs.hwp_script_read.Reads.{Reads}
+use Rattle.hwp_top_words.specs.hwp_script_read.declared.Refused.{Refused}
+use Rattle.hwp_top_words.specs.hwp_script_read.declared.Script.{Script}
+use Rattle.hwp_top_words.proofs.of_hwp_script_read.OneScript.{one_script}
+use Rattle.hwp_top_report.specs.hwp_report_text.declared.Report.{Report}
 use Rattle.hwp_top_report.specs.hwp_table_words.Ends.{EndValue}
 use Rattle.hwp_top_report.specs.Caches.{IsCachedEnd}
-use Rattle.hwp_top.specs.declared.served.Call.{Call}
-use Rattle.hwp_top.specs.declared.served.Call.TheVariants as calls
-use Rattle.hwp_top.specs.Calls.{IsCall, IsNoCall, IsStep}
+use Rattle.hwp_top_words.specs.declared.served.Call.{Call}
+use Rattle.hwp_top_words.proofs.Asked.{step-alone, step-asked, step-call}
+use Rattle.hwp_top_words.proofs.GivenBytes.{all-given, unrefused}
+use Rattle.hwp_top_words.specs.Calls.{IsNoCall, IsStep}
 use Rattle.hwp_top.specs.Outputs.{IsOutput, IsOutputOf, IsRefusedCall, IsRefusedFor as IsRefusedAt, IsStepped, tlb_entries}
 use Rattle.hwp_top.specs.Serving.{HasReported, end_at}
-use Rattle.hwp_top.specs.Top.{IsDone, IsReportOfRun, Refuses}
-
--- a source that is at its end gave all that it had
-pub all-given : (had : List ℕ) (left : Option (List ℕ)) (bytes : List ℕ) → Consumes (Some had) left bytes → IsAtEnd left → had ≡ bytes
-all-given had None bytes consumed end = absurd consumed
-all-given had (Some rest) bytes consumed end = consumed ∙ ap (λ (l : List ℕ). bytes ++ l) end ∙ append-nil bytes
-
--- and never gives more
-no-more : (had : List ℕ) (left : Option (List ℕ)) (bytes : List ℕ) → Consumes (Some had) left bytes → length bytes ≤ length had
-no-more had None bytes consumed = absurd consumed
-no-more had (Some rest) bytes consumed =
-    let whole : length had ≡ length (bytes ++ rest) = ap (λ (l : List ℕ). length l) consumed in
-    let parts : length (bytes ++ rest) ≡ length bytes + length rest = length-append bytes rest in omega arith
-
--- the text of a script is not refused
-pub unrefused : (had : List ℕ) (script : Script) (left : Option (List ℕ)) (r : Refused) → Reads had script → Refuses (Some had) left r → ⊥
-unrefused had script left r reads refuses = which r.why refl refuses.refusal.reason
-  where
-    which : (w : Why) → r.why ≡ w → IsRefusedFor refuses.bytes r w → ⊥
-    which whys.TooLong is reason = omega (arith, reason.1, reads.short, no-more had left refuses.bytes refuses.consumed)
-    which w is reason =
-        let same : had ≡ refuses.bytes = all-given had left refuses.bytes refuses.consumed (refuses.whole (λ (long : r.why ≡ whys.TooLong). omega (arith, ap number (sym is ∙ long)))) in
-        apart had r script (subst (λ (l : List ℕ). IsRefused l r) (sym same) refuses.refusal) reads
-
--- the call of `step`, and of `step tlb`
-abbrev step-call : Bool → Call
-step-call false = calls.Step
-step-call true = calls.StepTlb
-
--- the words ask for no other
-step-alone : (caches : Bool) (words : List (List ℕ)) (call : Call) → IsStep words caches → IsCall words call → call ≡ step-call caches
-step-alone false words calls.Step step asked = refl
-step-alone false words calls.StepTlb step asked = absurd (omega (arith, ap (λ (l : List (List ℕ)). length l) (sym step ∙ asked)))
-step-alone false words calls.Check step asked = absurd (omega (arith, ap (λ (l : List (List ℕ)). length (slice_index_or l 0 [])) (sym step ∙ asked)))
-step-alone false words (calls.Gen seed) step asked = absurd (omega (arith, ap (λ (l : List (List ℕ)). length l) (sym step ∙ asked.0)))
-step-alone false words (calls.Sum seed) step asked = absurd (omega (arith, ap (λ (l : List (List ℕ)). length l) (sym step ∙ asked.0)))
-step-alone true words calls.StepTlb step asked = refl
-step-alone true words calls.Step step asked = absurd (omega (arith, ap (λ (l : List (List ℕ)). length l) (sym step ∙ asked)))
-step-alone true words calls.Check step asked = absurd (omega (arith, ap (λ (l : List (List ℕ)). length l) (sym step ∙ asked)))
-step-alone true words (calls.Gen seed) step asked = absurd (omega (arith, ap (λ (l : List (List ℕ)). length (slice_index_or l 0 [])) (sym step ∙ asked.0)))
-step-alone true words (calls.Sum seed) step asked = absurd (omega (arith, ap (λ (l : List (List ℕ)). length (slice_index_or l 0 [])) (sym step ∙ asked.0)))
-
-step-asked : (caches : Bool) (words : List (List ℕ)) → IsStep words caches → IsCall words (step-call caches)
-step-asked false words step = step
-step-asked true words step = step
+use Rattle.hwp_top_words.specs.Statuses.{IsDone}
+use Rattle.hwp_top_words.specs.Inputs.{Refuses}
+use Rattle.hwp_top.specs.Top.{IsReportOfRun}
 
 not-refused-at : (caches : Bool) (left left' : Option (List ℕ)) (r : Refused) → IsRefusedAt (step-call caches) left left' r → Refuses left left' r
 not-refused-at false left left' r refused = refused

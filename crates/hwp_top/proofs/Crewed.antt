@@ -7,8 +7,8 @@ use Rattle.hwp_threads.specs.hwp_table_words.Seats.{HasRight, Moves, SeatValue, 
 use Rattle.hwp_threads.specs.hwp_table_words.Stands.{Me}
 use Rattle.hwp_threads.specs.Dealing.{IsUnused, workers_at}
 use Rattle.hwp_threads.specs.Gathering.{AreBare, AreGathered}
-use Rattle.hwp_script.specs.hwp_script_read.declared.Script.{Script}
-use Rattle.hwp_script.specs.hwp_script_read.hwp_script_words.Valid.{IsValid}
+use Rattle.hwp_top_words.specs.hwp_script_read.declared.Script.{Script}
+use Rattle.hwp_top_words.specs.hwp_script_read.hwp_script_words.Valid.{IsValid}
 use Rattle.hwp_cpu.specs.declared.Processor.{Processor}
 use Rattle.hwp_top.specs.Runs.{AreAtBeginning, processors}
 use Rattle.hwp_top.proofs.Played.{written-back}

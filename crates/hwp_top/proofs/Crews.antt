@@ -12,10 +12,10 @@ use Rattle.hwp_top_report.specs.hwp_core_rule.Rule.{Holds}
 use Rattle.hwp_top_report.specs.hwp_core_rule.declared.Turn.{Turn}
 use Rattle.hwp_top_report.specs.hwp_core_rule.Boards.{AreSeated, Played, view_of}
 use Rattle.hwp_top_report.specs.hwp_core_rule.Ranks.{Made}
-use Rattle.hwp_script.specs.hwp_script_read.declared.Command.{Command}
-use Rattle.hwp_script.specs.hwp_script_read.declared.Script.{Script}
-use Rattle.hwp_script.specs.hwp_script_read.hwp_script_words.Forks.{is_fork_of}
-use Rattle.hwp_script.specs.hwp_script_read.hwp_script_words.Valid.{AreLists, IsCommandOf, IsValid}
+use Rattle.hwp_top_words.specs.hwp_script_read.declared.Command.{Command}
+use Rattle.hwp_top_words.specs.hwp_script_read.declared.Script.{Script}
+use Rattle.hwp_top_words.specs.hwp_script_read.hwp_script_words.Forks.{is_fork_of}
+use Rattle.hwp_top_words.specs.hwp_script_read.hwp_script_words.Valid.{AreLists, IsCommandOf, IsValid}
 use Rattle.hwp_top_report.specs.hwp_plain.Order.{InOrder, IsAt, Running, cpu_of, running}
 use Rattle.hwp_top_report.specs.hwp_plain.Ready.{IsCrew}
 use Rattle.hwp_top_report.proofs.of_hwp_plain.CrewOpens.{opening-crew}

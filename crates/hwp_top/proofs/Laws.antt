@@ -1,6 +1,6 @@
 -- The laws of memory failure, of a run on threads.
 use Rattle.hwp_threads.specs.hwp_core_rule.declared.State.{State}
-use Rattle.hwp_script.specs.hwp_script_read.declared.Script.{Script}
+use Rattle.hwp_top_words.specs.hwp_script_read.declared.Script.{Script}
 use Rattle.hwp_top_report.specs.hwp_report_text.declared.Report.{Report}
 use Rattle.hwp_top_report.specs.hwp_law.Law.{IsLawful}
 use Rattle.hwp_top_report.specs.Loads.{AreGoodLoads}

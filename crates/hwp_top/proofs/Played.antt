@@ -7,9 +7,9 @@ use Rattle.hwp_top_report.specs.hwp_core_rule.declared.State.{State}
 use Rattle.hwp_top_report.specs.hwp_core_rule.Opening.{opening}
 use Rattle.hwp_top_report.specs.hwp_core_rule.Rule.{Holds}
 use Rattle.hwp_top_report.specs.hwp_core_rule.Boards.{AreSeated, Played}
-use Rattle.hwp_script.specs.hwp_script_read.declared.Go.{Go}
-use Rattle.hwp_script.specs.hwp_script_read.declared.Script.{Script}
-use Rattle.hwp_script.specs.hwp_script_read.hwp_script_words.Valid.{IsValid}
+use Rattle.hwp_top_words.specs.hwp_script_read.declared.Go.{Go}
+use Rattle.hwp_top_words.specs.hwp_script_read.declared.Script.{Script}
+use Rattle.hwp_top_words.specs.hwp_script_read.hwp_script_words.Valid.{IsValid}
 use Rattle.hwp_top_report.specs.hwp_plain.Order.{AreOver, Grows, InOrder, Running, logged, running}
 use Rattle.hwp_top_report.specs.hwp_plain.Ready.{IsCrew}
 use Rattle.hwp_top_report.specs.hwp_law_served.Turns.{Leads}

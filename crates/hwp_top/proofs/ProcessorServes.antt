@@ -9,9 +9,9 @@ use Rattle.hwp_top_report.specs.hwp_core_rule.Rule.{Holds}
 use Rattle.hwp_top_report.proofs.of_hwp_core_rule.Lists.{at_map}
 use Rattle.hwp_top_report.specs.hwp_core_rule.declared.Turn.{Turn}
 use Rattle.hwp_top_report.specs.hwp_core_rule.Boards.{AreSeated, view_of}
-use Rattle.hwp_script.specs.hwp_script_read.declared.Command.{Command}
-use Rattle.hwp_script.specs.hwp_script_read.declared.Script.{Script}
-use Rattle.hwp_script.specs.hwp_script_read.hwp_script_words.Valid.{IsValid}
+use Rattle.hwp_top_words.specs.hwp_script_read.declared.Command.{Command}
+use Rattle.hwp_top_words.specs.hwp_script_read.declared.Script.{Script}
+use Rattle.hwp_top_words.specs.hwp_script_read.hwp_script_words.Valid.{IsValid}
 use Rattle.hwp_top_report.specs.hwp_plain.Order.{cpu_of}
 use Rattle.hwp_top_report.proofs.of_hwp_law_served.Homes.{there-is}
 use Rattle.hwp_top_report.specs.hwp_cpu_row.declared.Row.{Row}

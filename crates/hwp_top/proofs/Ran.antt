@@ -25,8 +25,8 @@ use Rattle.hwp_threads.specs.hwp_table_words.Stands.{Me}
 use Rattle.hwp_threads.specs.Dealing.{HasMoved, IsUnused, seat_at, workers_at}
 use Rattle.hwp_threads.specs.Gathering.{AreBare, AreGathered, mine_in, own_in}
 use Rattle.hwp_threads.proofs.SeatMoves.{bare-when-over, dealt-moved, have-moved}
-use Rattle.hwp_script.specs.hwp_script_read.declared.Script.{Script}
-use Rattle.hwp_script.specs.hwp_script_read.hwp_script_words.Valid.{IsValid}
+use Rattle.hwp_top_words.specs.hwp_script_read.declared.Script.{Script}
+use Rattle.hwp_top_words.specs.hwp_script_read.hwp_script_words.Valid.{IsValid}
 use Rattle.hwp_top_report.specs.hwp_plain.Order.{cpu_of as number_of}
 use Rattle.hwp_top_report.proofs.of_hwp_law_served.Homes.{there-is}
 use Rattle.hwp_cpu.specs.declared.Processor.{Processor}

@@ -1,14 +1,15 @@
 -- The report level of an output follows from the output.
-use Rattle.std.specs.Prelude.{◌≡◌, ℕ, List, Option, Some, None, IsSomeAnd}
+use Rattle.std.specs.Prelude.{◌≡◌, ℕ, List, Option, Some, None}
 use Rattle.std.proofs.Common.{subst, sym}
 use Rattle.std.specs.Io.KnownBytes.{Appends}
-use Rattle.hwp_report.specs.hwp_report_text.declared.Report.{Report}
+use Rattle.hwp_top_report.specs.hwp_report_text.declared.Report.{Report}
 use Rattle.hwp_top_report.specs.hwp_table_words.Ends.{EndValue}
-use Rattle.hwp_top.specs.declared.served.Call.{Call}
-use Rattle.hwp_top.specs.declared.served.Call.TheVariants as calls
-use Rattle.hwp_top.specs.Calls.{IsCall}
-use Rattle.hwp_top.specs.Outputs.{IsOutputOf, IsReported, IsReportedOf, IsStepReport, IsStepped}
-use Rattle.hwp_top.specs.Top.{IsDone}
+use Rattle.hwp_top_words.specs.declared.served.Call.{Call}
+use Rattle.hwp_top_words.specs.declared.served.Call.TheVariants as calls
+use Rattle.hwp_top_words.specs.Calls.{IsCall}
+use Rattle.hwp_top_words.specs.Reported.{IsReported, IsReportedOf, IsStepReport}
+use Rattle.hwp_top.specs.Outputs.{IsOutputOf, IsStepped}
+use Rattle.hwp_top_words.specs.Statuses.{IsDone}
 
 step-report : (left left' : Option (List ℕ)) (status : ℕ) (text : List ℕ) (report : Report) (ended : EndValue) → IsStepped left left' status text report ended → IsStepReport left left' status text report
 step-report left left' status text report ended o =
@@ -49,13 +50,3 @@ delivered words call left left' taken taken' status end text report given ended 
     let so = done is in
     let at-end : IsReportedOf call left left' end text report = subst (λ (n : ℕ). IsReportedOf call left left' n text report) (sym so.0) (reported-of call left left' status text report ended tlb output) in
     (text, record { call = call; asked = asked; output = subst (λ (r : Option Report). IsReportedOf call left left' end text r) (sym same) at-end }, so.1)
-
--- the report of `step`, or of `run`, that was written whole
-pub delivered-report : (left left' taken taken' : Option (List ℕ)) (status end : ℕ) (text : List ℕ) (report given : Option Report)
-    → IsSomeAnd report (IsStepReport left left' status text) → given ≡ report
-    → (IsDone end → (end ≡ status) × Appends taken taken' text)
-    → IsDone end → (text : List ℕ) × IsSomeAnd given (IsStepReport left left' end text) × Appends taken taken' text
-delivered-report left left' taken taken' status end text report given output same done is =
-    let so = done is in
-    let at-end : IsSomeAnd report (IsStepReport left left' end text) = subst (λ (n : ℕ). IsSomeAnd report (IsStepReport left left' n text)) (sym so.0) output in
-    (text, subst (λ (r : Option Report). IsSomeAnd r (IsStepReport left left' end text)) (sym same) at-end, so.1)

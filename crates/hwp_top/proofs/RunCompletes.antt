@@ -1,21 +1,24 @@
 -- Every script is served: where a source gives the text of one, and no read and no write fails, `run` and `run tlb` end with the whole
 -- report, or are out of memory, if they end. That follows from the clauses of the top call for runs on threads.
-use Rattle.std.proofs.Common.{◌≡◌, ◌⊎◌, inl, inr, ℕ, zero, suc, ◌<◌, List, [], ◌∷◌, Option, Some, None, length, slice_index_or, refl, sym, true≢false, ap, ◌∙◌, subst, arith}
+use Rattle.std.proofs.Common.{◌≡◌, ◌⊎◌, inl, inr, ℕ, zero, suc, ◌<◌, List, [], ◌∷◌, Option, Some, None, slice_index_or, refl, sym, true≢false, subst, arith}
 use Rattle.std.specs.Prelude.{Bool, true, false, not, Contains, IsTrue}
 use Rattle.std.specs.Io.KnownBytes.{Appends}
-use Rattle.hwp_script.specs.hwp_script_read.Reads.{Reads}
-use Rattle.hwp_script.specs.hwp_script_read.declared.Refused.{Refused}
-use Rattle.hwp_script.specs.hwp_script_read.declared.Script.{Script}
-use Rattle.hwp_script.proofs.of_hwp_script_read.OneScript.{one_script}
+use Rattle.hwp_top_words.specs.hwp_script_read.Reads.{Reads}
+use Rattle.hwp_top_words.specs.hwp_script_read.declared.Refused.{Refused}
+use Rattle.hwp_top_words.specs.hwp_script_read.declared.Script.{Script}
+use Rattle.hwp_top_words.proofs.of_hwp_script_read.OneScript.{one_script}
 use Rattle.hwp_top_report.specs.hwp_report_text.declared.Report.{Report}
 use Rattle.hwp_top_report.specs.hwp_table_words.Ends.{EndValue}
 use Rattle.hwp_top_report.specs.Caches.{IsCachedEnd}
 use Rattle.hwp_top.specs.Outputs.{tlb_entries}
 use Rattle.hwp_top.specs.Serving.{end_at}
-use Rattle.hwp_top.specs.Top.{IsDone, Refuses}
-use Rattle.hwp_top.proofs.Completes.{all-given, unrefused}
+use Rattle.hwp_top_words.specs.Statuses.{IsDone}
+use Rattle.hwp_top_words.specs.Inputs.{Refuses}
+use Rattle.hwp_top_words.proofs.GivenBytes.{all-given, unrefused}
+use Rattle.hwp_top_words.proofs.Asked.{one-run}
 use Rattle.hwp_top.specs.RunServing.{HasReported}
-use Rattle.hwp_top.specs.RunCalls.{IsNoRun, IsReportOfThreads, IsRun, IsThreaded, IsThreadedCall, IsThreadedOf}
+use Rattle.hwp_top_words.specs.Calls.{IsNoRun, IsRun}
+use Rattle.hwp_top.specs.RunCalls.{IsReportOfThreads, IsThreaded, IsThreadedCall, IsThreadedOf}
 
 -- the parts of an output of `run`, or of `run tlb`
 record IsRunOutput (caches : Bool) (left left' : Option (List ℕ)) (status : ℕ) (text : List ℕ) (report : Option Report) (ended tlb : Option EndValue) : Type 0 where
@@ -34,13 +37,6 @@ run-output false left left' status text None ended tlb o = absurd o.0
 run-output true left left' status text (Some it) ended (Some end) o = record { it = it; given_is = refl; end = end; closed_is = refl; other_is = o.1; threaded = o.0.threaded; cached = λ is. o.0.cached }
 run-output true left left' status text (Some it) ended None o = absurd o.0
 run-output true left left' status text None ended tlb o = absurd o.0
-
--- the words ask for one of both alone
-one-run : (words : List (List ℕ)) (a b : Bool) → IsRun words a → IsRun words b → a ≡ b
-one-run words false false one other = refl
-one-run words true true one other = refl
-one-run words false true one other = absurd (omega (arith, ap (λ (l : List (List ℕ)). length l) (sym one ∙ other)))
-one-run words true false one other = absurd (omega (arith, ap (λ (l : List (List ℕ)). length l) (sym one ∙ other)))
 
 module _ (caches : Bool) (words : List (List ℕ)) (had : List ℕ) (left taken taken' : Option (List ℕ)) (reads reads' writes writes' status : ℕ) (report : Option Report) (ended tlb : Option EndValue)
     (statuses : Contains (0 ∷ 2 ∷ 3 ∷ 4 ∷ 5 ∷ 6 ∷ 8 ∷ []) status)

@@ -2,13 +2,13 @@
 use Rattle.std.proofs.Common.{◌≡◌, ℕ, List, sym, subst}
 use Rattle.std.specs.Prelude.{Option}
 use Rattle.std.specs.Io.KnownBytes.{Appends}
-use Rattle.hwp_io.specs.Causes.{AppendsStrictFront}
-use Rattle.hwp_report.specs.hwp_report_text.declared.Report.{Report}
+use Rattle.hwp_top_words.specs.hwp_io.Causes.{AppendsStrictFront}
+use Rattle.hwp_top_report.specs.hwp_report_text.declared.Report.{Report}
 use Rattle.hwp_top_report.specs.hwp_table_words.Ends.{EndValue}
-use Rattle.hwp_top.specs.declared.served.Call.{Call}
-use Rattle.hwp_top.specs.Calls.{IsCall}
+use Rattle.hwp_top_words.specs.declared.served.Call.{Call}
+use Rattle.hwp_top_words.specs.Calls.{IsCall}
 use Rattle.hwp_top.specs.Outputs.{IsOutput, IsOutputOf}
-use Rattle.hwp_top.specs.Top.{IsDone}
+use Rattle.hwp_top_words.specs.Statuses.{IsDone}
 
 -- an output of a call, and what was given of it
 module _ (words : List (List ℕ)) (call : Call) (left left' : Option (List ℕ)) (status : ℕ) (text : List ℕ) (report given : Option Report) (ended closed tlb cached : Option EndValue)

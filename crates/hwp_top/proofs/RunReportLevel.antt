@@ -2,7 +2,7 @@
 use Rattle.std.specs.Prelude.{ℕ, Bool, true, false, List, Option, Some, None, IsSomeAnd}
 use Rattle.hwp_top_report.specs.hwp_report_text.declared.Report.{Report}
 use Rattle.hwp_top_report.specs.hwp_table_words.Ends.{EndValue}
-use Rattle.hwp_top.specs.Outputs.{IsStepReport}
+use Rattle.hwp_top_words.specs.Reported.{IsStepReport}
 use Rattle.hwp_top.specs.RunCalls.{IsThreaded, IsThreadedOf}
 
 module _ (left left' : Option (List ℕ)) (status : ℕ) (text : List ℕ) where

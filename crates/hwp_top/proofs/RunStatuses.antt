@@ -3,8 +3,8 @@ use Rattle.std.specs.Prelude.{◌≡◌, ℕ, Bool, true, false, List, ◌⊎◌
 use Rattle.std.proofs.Common.{lit<, refl, subst, sym, ◌∙◌, inl, inr}
 use Rattle.hwp_top_report.specs.hwp_report_text.declared.Report.{Report}
 use Rattle.hwp_top_report.specs.hwp_table_words.Ends.{EndValue}
-use Rattle.hwp_top.specs.Top.{IsDone, done_status}
-use Rattle.hwp_top.proofs.Statuses.{RunStatus, report_is_done, report_is_run_status}
+use Rattle.hwp_top_words.specs.Statuses.{IsDone, done_status}
+use Rattle.hwp_top_words.proofs.Statuses.{RunStatus, report_is_done, report_is_run_status}
 use Rattle.hwp_top.specs.RunCalls.{IsThreadedOf}
 
 module _ (left left' : Option (List ℕ)) (status : ℕ) (text : List ℕ) where

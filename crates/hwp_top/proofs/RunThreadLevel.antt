@@ -2,11 +2,12 @@
 use Rattle.std.proofs.Common.{◌≡◌, ℕ, List, sym, subst}
 use Rattle.std.specs.Prelude.{Bool, Option}
 use Rattle.std.specs.Io.KnownBytes.{Appends}
-use Rattle.hwp_io.specs.Causes.{AppendsStrictFront}
+use Rattle.hwp_top_words.specs.hwp_io.Causes.{AppendsStrictFront}
 use Rattle.hwp_top_report.specs.hwp_report_text.declared.Report.{Report}
 use Rattle.hwp_top_report.specs.hwp_table_words.Ends.{EndValue}
-use Rattle.hwp_top.specs.Top.{IsDone}
-use Rattle.hwp_top.specs.RunCalls.{IsRun, IsThreadedCall, IsThreadedOf}
+use Rattle.hwp_top_words.specs.Statuses.{IsDone}
+use Rattle.hwp_top_words.specs.Calls.{IsRun}
+use Rattle.hwp_top.specs.RunCalls.{IsThreadedCall, IsThreadedOf}
 
 -- an output of a run on threads, and what was given of it
 module _ (words : List (List ℕ)) (caches : Bool) (left left' : Option (List ℕ)) (status : ℕ) (text : List ℕ) (report given : Option Report) (ended closed tlb cached : Option EndValue)

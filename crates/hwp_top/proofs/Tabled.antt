@@ -3,7 +3,7 @@ use Rattle.std.proofs.Common.{◌≡◌, ℕ, List, sym, ap, ◌∙◌}
 use Rattle.hwp_top_report.specs.hwp_table_words.Ends.{EndValue, IsEnd}
 use Rattle.hwp_top_report.specs.hwp_table_words.Known.{Known}
 use Rattle.hwp_table.specs.Boards.{whole_then}
-use Rattle.hwp_script.specs.hwp_script_read.declared.Script.{Script}
+use Rattle.hwp_top_words.specs.hwp_script_read.declared.Script.{Script}
 use Rattle.hwp_top_report.specs.hwp_cpu_row.declared.Row.{Row}
 use Rattle.hwp_top.specs.Runs.{IsTablePlayed, KnowsRun}
 

@@ -24,8 +24,8 @@ use Rattle.hwp_threads.specs.Parts.{AreParts, IsClaim, Own, Stands, froms, tos}
 use Rattle.hwp_threads.proofs.FailureClaims.{back, stands-on, stands-settled}
 use Rattle.hwp_threads.proofs.OwnKeeps.{own-keeps}
 use Rattle.hwp_top_report.proofs.of_hwp_plain.TrailViews.{AreViews, view-there, views-more, views-open}
-use Rattle.hwp_script.specs.hwp_script_read.declared.Script.{Script}
-use Rattle.hwp_script.specs.hwp_script_read.hwp_script_words.Valid.{IsValid}
+use Rattle.hwp_top_words.specs.hwp_script_read.declared.Script.{Script}
+use Rattle.hwp_top_words.specs.hwp_script_read.hwp_script_words.Valid.{IsValid}
 use Rattle.hwp_top_report.specs.hwp_plain.Order.{logged}
 use Rattle.hwp_top_report.specs.hwp_plain.Ready.{Claimed}
 use Rattle.hwp_top_report.specs.hwp_law_served.Turns.{Leads}

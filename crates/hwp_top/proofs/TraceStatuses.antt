@@ -2,8 +2,8 @@
 use Rattle.std.specs.Prelude.{◌≡◌, ℕ, List, ◌⊎◌, Option, Some, None}
 use Rattle.std.proofs.Common.{lit<, refl, subst, sym, inl, inr}
 use Rattle.hwp_top_report.specs.hwp_report_text.declared.Report.{Report}
-use Rattle.hwp_top.specs.Top.{IsDone}
-use Rattle.hwp_top.proofs.Statuses.{RunStatus, report_is_done, report_is_run_status}
+use Rattle.hwp_top_words.specs.Statuses.{IsDone}
+use Rattle.hwp_top_words.proofs.Statuses.{RunStatus, report_is_done, report_is_run_status}
 use Rattle.hwp_top.specs.TraceCalls.{IsShown}
 
 module _ (left left' : Option (List ℕ)) (status : ℕ) (text : List ℕ) where

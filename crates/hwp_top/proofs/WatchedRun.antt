@@ -5,7 +5,7 @@ use Rattle.hwp_top_report.specs.hwp_plain.Boards.{Board}
 use Rattle.hwp_top_report.specs.hwp_plain.Order.{logged}
 use Rattle.hwp_top_report.specs.hwp_plain.Traced.{AreTold}
 use Rattle.hwp_top_report.specs.hwp_plain.declared.TraceLine.{TraceLine}
-use Rattle.hwp_script.specs.hwp_script_read.declared.Script.{Script}
+use Rattle.hwp_top_words.specs.hwp_script_read.declared.Script.{Script}
 use Rattle.hwp_top_report.proofs.of_hwp_plain.ToldTurns.{all-told}
 use Rattle.hwp_top_report.specs.hwp_report_text.declared.Report.{Report}
 use Rattle.hwp_top.specs.Runs.{IsReportOf}

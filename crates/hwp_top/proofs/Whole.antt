@@ -1,7 +1,7 @@
 -- The report of a run is lawful, and the law of the run holds of it.
 use Rattle.std.proofs.Common.{List, [], sym, subst}
-use Rattle.hwp_script.specs.hwp_script_read.declared.Script.{Script}
-use Rattle.hwp_script.specs.hwp_script_read.hwp_script_words.Valid.{IsValid}
+use Rattle.hwp_top_words.specs.hwp_script_read.declared.Script.{Script}
+use Rattle.hwp_top_words.specs.hwp_script_read.hwp_script_words.Valid.{IsValid}
 use Rattle.hwp_top_report.specs.hwp_report_text.declared.Report.{Report}
 use Rattle.hwp_top_report.specs.hwp_law.Acting.{acting_script, copied_at}
 use Rattle.hwp_top_report.specs.hwp_core_rule.declared.State.{State}

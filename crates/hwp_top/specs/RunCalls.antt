@@ -1,6 +1,6 @@
 -- What `run` and `run tlb` write.
-use Rattle.std.specs.Prelude.{◌≡◌, ℕ, Bool, true, false, List, [], ◌∷◌, Option, None, codes}
-use Rattle.hwp_script.specs.hwp_script_read.declared.Script.{Script}
+use Rattle.std.specs.Prelude.{◌≡◌, ℕ, Bool, true, false, List, Option, None}
+use Rattle.hwp_top_words.specs.hwp_script_read.declared.Script.{Script}
 use Rattle.hwp_top_report.specs.hwp_report_text.declared.Report.{Report}
 use Rattle.hwp_top_report.specs.hwp_report_text.ReportText.{report_text}
 use Rattle.hwp_top_report.specs.hwp_law.Law.{IsLawful}
@@ -9,20 +9,9 @@ use Rattle.hwp_top_report.specs.hwp_table_words.Ends.{EndValue}
 use Rattle.hwp_top_report.specs.Caches.{IsCachedEnd}
 use Rattle.hwp_top.specs.ThreadRuns.{IsThreadRun}
 use Rattle.hwp_top.specs.Outputs.{HasRun, tlb_entries}
-use Rattle.hwp_top.specs.Top.{Takes, done_status}
-
--- the words ask for a run on threads, with translation caches or without
-abbrev pub IsRun : List (List ℕ) → Bool → Type 0
-IsRun words false = words ≡ codes "run" ∷ []
-IsRun words true = words ≡ codes "run" ∷ codes "tlb" ∷ []
-
--- the words ask for one or the other
-abbrev pub AsksRun : List (List ℕ) → Type 0
-AsksRun words = (caches : Bool) × IsRun words caches
-
--- the words ask for no run on threads
-abbrev pub IsNoRun : List (List ℕ) → Type 0
-IsNoRun words = (caches : Bool) → IsRun words caches → ⊥
+use Rattle.hwp_top_words.specs.Calls.{IsRun}
+use Rattle.hwp_top_words.specs.Inputs.{Takes}
+use Rattle.hwp_top_words.specs.Statuses.{done_status}
 
 -- the report is one of the script, and of a run of its processors, each on a thread of its own; and the table at which they made
 -- that run was closed with this

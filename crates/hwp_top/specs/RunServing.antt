@@ -1,14 +1,14 @@
 -- What `run` and `run tlb` come to where nothing fails.
 use Rattle.std.specs.Prelude.{◌≡◌, ℕ, Bool, not, List, Option, Some, None, IsTrue}
 use Rattle.std.specs.Io.KnownBytes.{Appends}
-use Rattle.hwp_script.specs.hwp_script_read.declared.Script.{Script}
+use Rattle.hwp_top_words.specs.hwp_script_read.declared.Script.{Script}
 use Rattle.hwp_top_report.specs.hwp_report_text.declared.Report.{Report}
 use Rattle.hwp_top_report.specs.hwp_report_text.ReportText.{report_text}
 use Rattle.hwp_top_report.specs.hwp_table_words.Ends.{EndValue}
 use Rattle.hwp_top_report.specs.Caches.{IsCachedEnd}
 use Rattle.hwp_top.specs.Outputs.{tlb_entries}
 use Rattle.hwp_top.specs.Serving.{end_at}
-use Rattle.hwp_top.specs.Top.{done_status}
+use Rattle.hwp_top_words.specs.Statuses.{done_status}
 use Rattle.hwp_top.specs.RunCalls.{IsReportOfThreads}
 
 -- The report of a run of the script on threads is there, and what the run's table was closed with, and no other table; at the end of a

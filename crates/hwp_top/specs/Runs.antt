@@ -10,8 +10,8 @@ use Rattle.hwp_top_report.specs.hwp_plain.Openings.{home_with}
 use Rattle.hwp_top_report.specs.hwp_table_words.Ends.{EndValue, HasAll}
 use Rattle.hwp_top_report.specs.hwp_table_words.Known.{Known}
 use Rattle.hwp_table.specs.Boards.{whole_then}
-use Rattle.hwp_script.specs.hwp_script_read.declared.Command.{Command}
-use Rattle.hwp_script.specs.hwp_script_read.declared.Script.{Script}
+use Rattle.hwp_top_words.specs.hwp_script_read.declared.Command.{Command}
+use Rattle.hwp_top_words.specs.hwp_script_read.declared.Script.{Script}
 use Rattle.hwp_top_report.specs.hwp_plain.Order.{InOrder, Running, logged, running}
 use Rattle.hwp_top_report.specs.hwp_report_text.declared.Report.{Report}
 use Rattle.hwp_top_report.specs.hwp_law.Law.{IsLawful}

@@ -1,13 +1,14 @@
 -- What `step` and `step tlb` come to where nothing fails.
 use Rattle.std.specs.Prelude.{◌≡◌, ℕ, Bool, true, false, not, List, Option, Some, None, IsTrue}
 use Rattle.std.specs.Io.KnownBytes.{Appends}
-use Rattle.hwp_script.specs.hwp_script_read.declared.Script.{Script}
-use Rattle.hwp_report.specs.hwp_report_text.declared.Report.{Report}
-use Rattle.hwp_report.specs.hwp_report_text.ReportText.{report_text}
+use Rattle.hwp_top_words.specs.hwp_script_read.declared.Script.{Script}
+use Rattle.hwp_top_report.specs.hwp_report_text.declared.Report.{Report}
+use Rattle.hwp_top_report.specs.hwp_report_text.ReportText.{report_text}
 use Rattle.hwp_top_report.specs.hwp_table_words.Ends.{EndValue}
 use Rattle.hwp_top_report.specs.Caches.{IsCachedEnd}
 use Rattle.hwp_top.specs.Outputs.{tlb_entries}
-use Rattle.hwp_top.specs.Top.{IsReportOfRun, done_status}
+use Rattle.hwp_top_words.specs.Statuses.{done_status}
+use Rattle.hwp_top.specs.Top.{IsReportOfRun}
 
 -- what the run's table was closed with: the one without translation caches, or the one with them
 abbrev pub end_at : Bool → Option EndValue → Option EndValue → Option EndValue

@@ -13,7 +13,7 @@ use Rattle.hwp_threads.specs.hwp_core_rule.Boards.{Played}
 use Rattle.hwp_threads.specs.hwp_core_rule.Ranks.{Pending, is_refused, words_at}
 use Rattle.hwp_threads.specs.Own.{IsOwnRun, Turned, made_of}
 use Rattle.hwp_threads.specs.Parts.{AreParts, Own}
-use Rattle.hwp_script.specs.hwp_script_read.declared.Script.{Script}
+use Rattle.hwp_top_words.specs.hwp_script_read.declared.Script.{Script}
 use Rattle.hwp_top_report.specs.hwp_plain.Order.{logged}
 use Rattle.hwp_top_report.specs.hwp_report_text.declared.Report.{Report}
 use Rattle.hwp_top_report.specs.hwp_law_served.Ends.{EndsWith}

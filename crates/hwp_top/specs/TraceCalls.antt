@@ -1,9 +1,10 @@
 -- What the program writes.
 use Rattle.std.specs.Prelude.{◌≡◌, ℕ, ◌++◌, ◌==◌, if◌then◌else◌, List, [], ◌∷◌, Option, Some, IsSomeAnd, codes}
-use Rattle.hwp_script.specs.hwp_script_read.declared.Script.{Script}
+use Rattle.hwp_top_words.specs.hwp_script_read.declared.Script.{Script}
 use Rattle.hwp_top_report.specs.hwp_report_text.declared.Report.{Report}
-use Rattle.hwp_top.specs.Top.{Takes, done_status}
-use Rattle.hwp_top.specs.Top as top
+use Rattle.hwp_top_words.specs.Inputs.{Takes}
+use Rattle.hwp_top_words.specs.Statuses.{done_status}
+use Rattle.hwp_top_words.specs.Statuses as statuses
 use Rattle.hwp_top_report.specs.hwp_plain.declared.TraceLine.{TraceLine}
 use Rattle.hwp_top_report.specs.hwp_plain.TraceText.{trace_text}
 use Rattle.hwp_top.specs.Traces.{IsTrace}
@@ -27,4 +28,4 @@ usage_text = codes "usage: hwp-trace < SCRIPT" ++ 10 ∷ []
 
 -- the text that a status tells on the error sink: but for the usage, that of `hwp`
 abbrev pub told_text : ℕ → Option (List ℕ)
-told_text status = if status == 2 then Some usage_text else top.told_text status
+told_text status = if status == 2 then Some usage_text else statuses.told_text status

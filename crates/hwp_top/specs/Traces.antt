@@ -1,7 +1,7 @@
 -- The lines of a script's run, and its report.
 use Rattle.std.specs.Prelude.{List}
 use Rattle.hwp_top_report.specs.hwp_geom.Pairs.{Pairs}
-use Rattle.hwp_script.specs.hwp_script_read.declared.Script.{Script}
+use Rattle.hwp_top_words.specs.hwp_script_read.declared.Script.{Script}
 use Rattle.hwp_top_report.specs.hwp_report_text.declared.Report.{Report}
 use Rattle.hwp_top_report.specs.hwp_law.Law.{IsLawful}
 use Rattle.hwp_top_report.specs.hwp_law.Runs.{IsOfRun}

@@ -1,53 +1,15 @@
-ghost use Rattle.std.specs.Prelude.{◌≡◌, ◌≢◌, ◌↔◌, ◌⊎◌, ◌<◌, ℕ, List, [], ◌∷◌, map, string_bytes, Contains, Some, None};
+ghost use Rattle.std.specs.Prelude.{◌≡◌, ◌≢◌, ◌↔◌, ◌<◌, ℕ, List, [], ◌∷◌, map, string_bytes, Contains, Some, None};
 ghost use Rattle.std.specs.Io.KnownBytes.{Appends};
-ghost use Rattle.std.specs.Process.{exit_status};
-ghost use Rattle.hwp_io.specs.Causes.{AppendsStrictFront};
-ghost use Rattle.hwp_script.specs.hwp_script_read.declared.Refused.{Refused};
-ghost use Rattle.hwp_top.specs.Calls.{IsNoCall, IsReading};
-ghost use Rattle.hwp_top.specs.Outputs.{IsOutput, IsRefusedCall, IsReported};
-ghost use Rattle.hwp_top.specs.Top.{IsDone, Told, memory_text, refusal_text, told_text, write_fault_text};
+ghost use Rattle.hwp_top_words.specs.hwp_io.Causes.{AppendsStrictFront};
+ghost use Rattle.hwp_top_words.specs.hwp_script_read.declared.Refused.{Refused};
+ghost use Rattle.hwp_top_words.specs.Calls.{IsNoCall, IsReading};
+ghost use Rattle.hwp_top_words.specs.Reported.{IsReported};
+ghost use Rattle.hwp_top.specs.Outputs.{IsOutput, IsRefusedCall};
+ghost use Rattle.hwp_top_words.specs.Statuses.{IsDone, Told, refusal_text, told_text};
 
-use crate::inputs::InputFault;
-use crate::messages::{OUT_OF_MEMORY, READ_FAULT, USAGE, WRITE_FAULT, refusal, tell};
-use crate::outputs::{Output, output_of};
-use crate::words::call_of;
-use hwp_io::{Sink, Source, WriteFault, write_all};
-use hwp_top_report::{Bare, Cached, Ended, Report};
+use crate::outputs::output_of;
+use hwp_top_words::{Done, Sink, Source, USAGE, call_of, deliver, tell, tell_fault};
 use std::alloc::Global;
-use std::process::ExitCode;
-
-/// How a call ended: its exit status; and, where it made a run, the report, and what the run's table was closed with: `tlb` has it of
-/// a table with translation caches, `ended` of any other.
-pub struct Done {
-    pub status: u8,
-    pub report: Option<Report>,
-    pub ended: Option<Ended<Bare>>,
-    pub tlb: Option<Ended<Cached>>,
-}
-
-// Proved here once: crates above that let one go cite it.
-impl Drop for Done {
-    fn drop(self) {
-        let Done {
-            status: _,
-            report,
-            ended,
-            tlb,
-        } = self;
-        drop(report);
-        drop(ended);
-        drop(tlb);
-    }
-}
-
-impl Done {
-    /// The exit code of the program: the status.
-    pub fn exit_code(&self) -> ExitCode
-        ensures { exit_status result ≡ self.now.status }
-    {
-        ExitCode::from(self.status)
-    }
-}
 
 /// Serves the command that the words are:
 ///
@@ -132,75 +94,4 @@ pub fn top<S: Source, K: Sink, E: Sink>(
             tlb: None,
         },
     }
-}
-
-/// Writes an output, and says how that ended.
-pub(crate) fn deliver<K: Sink, E: Sink>(out: &mut K, err: &mut E, output: Output) -> Done
-    requires { IsDone output.status }
-    ensures statuses { (result.status ≡ output.status) ⊎ (result.status ≡ 5) }
-    ensures report { (result.report ≡ output.report) × (result.ended ≡ output.ended) × (result.tlb ≡ output.tlb) }
-    ensures done { IsDone result.status → (result.status ≡ output.status) × Appends (K.taken out.old) (K.taken out.new) output.text }
-    ensures silent { IsDone result.status → err.new ≡ err.old }
-    ensures write_fault { result.status ≡ 5 → K.faults out.old < K.faults out.new }
-    ensures cut { result.status ≡ 5 → AppendsStrictFront (K.taken out.old) (K.taken out.new) output.text }
-    ensures told { result.status ≡ 5 → Told (E.taken err.old) (E.taken err.new) (E.faults err.old) (E.faults err.new) write_fault_text }
-{
-    let Output {
-        text,
-        status,
-        report,
-        ended,
-        tlb,
-    } = output;
-    match write_all(out, text.as_slice()) {
-        Ok(()) => Done {
-            status,
-            report,
-            ended,
-            tlb,
-        },
-        Err(WriteFault) => {
-            tell(err, WRITE_FAULT);
-            Done {
-                status: 5,
-                report,
-                ended,
-                tlb,
-            }
-        }
-    }
-}
-
-/// Tells the fault of an input on `err`, and gives its exit status.
-pub(crate) fn tell_fault<E: Sink>(alloc: Global, err: &mut E, fault: InputFault) -> u8
-    ensures statuses { (result ≡ 3) ⊎ ((result ≡ 4) ⊎ (result ≡ 6)) }
-    ensures refused { result ≡ 3 → (r : Refused) × (fault ≡ InputFault.Refused r)
-        × Told (E.taken err.old) (E.taken err.new) (E.faults err.old) (E.faults err.new) (refusal_text r) }
-    ensures read_fault { result ≡ 4 → fault ≡ InputFault.ReadFault }
-    ensures told { (text : List ℕ) → told_text result ≡ Some text
-        → Told (E.taken err.old) (E.taken err.new) (E.faults err.old) (E.faults err.new) text }
-{
-    match fault {
-        InputFault::Refused(refused) => match refusal(alloc, refused) {
-            Ok(text) => {
-                tell(err, text.as_bytes());
-                3
-            }
-            Err(_) => tell_memory(err),
-        },
-        InputFault::ReadFault => {
-            tell(err, READ_FAULT);
-            4
-        }
-        InputFault::OutOfMemory => tell_memory(err),
-    }
-}
-
-/// Tells `err` that memory ran out, and gives the exit status for it.
-fn tell_memory<E: Sink>(err: &mut E) -> u8
-    ensures status { result ≡ 6 }
-    ensures told { Told (E.taken err.old) (E.taken err.new) (E.faults err.old) (E.faults err.new) memory_text }
-{
-    tell(err, OUT_OF_MEMORY);
-    6
 }

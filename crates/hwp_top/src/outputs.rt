@@ -1,31 +1,19 @@
 //! What each call writes.
 ghost use Rattle.std.specs.Prelude.{◌≡◌, ◌≢◌, ◌<◌, IfOk, IsErrOf, None};
-ghost use Rattle.hwp_script.specs.hwp_script_read.declared.Refused.{Refused};
-ghost use Rattle.hwp_report.specs.hwp_report_text.ReportText.{report_text};
-ghost use Rattle.hwp_top.specs.Outputs.{HasRun, IsGenerated, IsOutputOf, IsRefusedFor, IsSummed};
-ghost use Rattle.hwp_top.specs.Top.{Refuses, Reports, done_status};
+ghost use Rattle.hwp_top_words.specs.hwp_script_read.declared.Refused.{Refused};
+ghost use Rattle.hwp_top_report.specs.hwp_report_text.ReportText.{report_text};
+ghost use Rattle.hwp_top.specs.Outputs.{HasRun, IsOutputOf, IsRefusedFor, IsSummed};
+ghost use Rattle.hwp_top_words.specs.Inputs.{Refuses};
+ghost use Rattle.hwp_top.specs.Top.{Reports};
 ghost use Rattle.hwp_top_report.specs.Caches.{IsCachedEnd};
 
-use crate::checking::checked;
-use crate::inputs::{InputFault, take_script};
 use crate::running::run_in_turns;
-use crate::served::Call;
-use hwp_io::Source;
-use hwp_report::{print_summary, summary};
-use hwp_script::generate;
-use hwp_top_report::{Bare, Cached, Ended, Finished, Report, Text, Ways};
+use hwp_top_report::{Bare, Cached, Finished, Text, Ways};
+use hwp_top_words::{
+    Call, InputFault, Output, Source, checked, generate, print_summary, script_text, status_of,
+    summary, take_script,
+};
 use std::alloc::Global;
-
-/// What a call writes, the status where all of it is written, and, where it made a run, the report, and what the run's table was
-/// closed with: `tlb` has it of a table with translation caches, `ended` of any other.
-#[derive(Drop)]
-pub(crate) struct Output {
-    pub text: Text,
-    pub status: u8,
-    pub report: Option<Report>,
-    pub ended: Option<Ended<Bare>>,
-    pub tlb: Option<Ended<Cached>>,
-}
 
 /// The run, and the text of its report.
 pub(crate) fn printed<W: Ways>(
@@ -99,35 +87,6 @@ fn stepped_tlb<S: Source>(alloc: Global, src: &mut S) -> Result<Output, InputFau
         report: Some(run.report),
         ended: None,
         tlb: Some(run.ended),
-    })
-}
-
-/// The status of a report that is written: 8 where the machine stopped.
-pub(crate) fn status_of(report: &Report) -> u8
-    ensures { result ≡ done_status report.now }
-{
-    if report.stop.is_some() { 8 } else { 0 }
-}
-
-/// The output of `gen`.
-fn script_text(alloc: Global, seed: u64) -> Result<Output, InputFault>
-    ensures output { IfOk result (λ o. IsGenerated seed o.text × (o.status ≡ 0) × (o.report ≡ None) × (o.ended ≡ None) × (o.tlb ≡ None)) }
-    ensures memory { (fault : InputFault) → IsErrOf result fault → fault ≡ InputFault.OutOfMemory }
-{
-    let Ok(script) = generate(alloc, seed) else {
-        return Err(InputFault::OutOfMemory);
-    };
-    let Ok(text) = hwp_script::print(alloc, &script) else {
-        drop(script);
-        return Err(InputFault::OutOfMemory);
-    };
-    drop(script);
-    Ok(Output {
-        text,
-        status: 0,
-        report: None,
-        ended: None,
-        tlb: None,
     })
 }
 

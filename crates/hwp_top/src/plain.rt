@@ -1,7 +1,7 @@
 ghost use Rattle.std.specs.Prelude.{◌≡◌, IfOk};
 ghost use Rattle.hwp_top_report.specs.hwp_law.Law.{IsLawful};
 ghost use Rattle.hwp_top_report.specs.hwp_law.Runs.{IsOfRun};
-ghost use Rattle.hwp_script.specs.hwp_script_read.hwp_script_words.Valid.{IsValid};
+ghost use Rattle.hwp_top_words.specs.hwp_script_read.hwp_script_words.Valid.{IsValid};
 ghost use Rattle.hwp_top.specs.Runs.{IsCoreRun, IsPlayed, IsReportOf};
 
 use crate::playing::play;

@@ -1,61 +1,19 @@
-ghost use Rattle.std.specs.Prelude.{◌≡◌, ◌≢◌, ◌↔◌, ◌<◌, ℕ, List, [], ◌∷◌, true, map, string_bytes, Contains, IfSome, IfNone, IsSomeAnd, IsTrue, Some, None};
+ghost use Rattle.std.specs.Prelude.{◌≡◌, ◌≢◌, ◌↔◌, ◌<◌, ℕ, List, [], ◌∷◌, map, string_bytes, Contains, IsSomeAnd, Some, None};
 ghost use Rattle.std.specs.Io.KnownBytes.{Appends};
-ghost use Rattle.hwp_io.specs.Causes.{AppendsStrictFront};
-ghost use Rattle.hwp_script.specs.hwp_script_read.declared.Refused.{Refused};
-ghost use Rattle.hwp_top.specs.Outputs.{IsStepReport};
-ghost use Rattle.hwp_top.specs.Top.{IsDone, Refuses, Told, refusal_text, told_text};
-ghost use Rattle.hwp_top.specs.RunCalls.{AsksRun, IsNoRun, IsRun, IsThreadedCall};
+ghost use Rattle.hwp_top_words.specs.hwp_io.Causes.{AppendsStrictFront};
+ghost use Rattle.hwp_top_words.specs.hwp_script_read.declared.Refused.{Refused};
+ghost use Rattle.hwp_top_words.specs.Reported.{IsStepReport};
+ghost use Rattle.hwp_top_words.specs.Statuses.{IsDone, Told, refusal_text, told_text};
+ghost use Rattle.hwp_top_words.specs.Inputs.{Refuses};
+ghost use Rattle.hwp_top_words.specs.Calls.{AsksRun, IsNoRun};
+ghost use Rattle.hwp_top.specs.RunCalls.{IsThreadedCall};
 
-use crate::calls::{Done, deliver, tell_fault};
-use crate::messages::{USAGE, tell};
 use crate::threaded::threaded;
-use hwp_io::{Sink, Source};
 use hwp_threads::Gate;
-use hwp_top_report::is_text;
+use hwp_top_words::{Done, Sink, Source, USAGE, deliver, run_of, tell, tell_fault};
 use std::alloc::Global;
 use std::sync::Wait;
 use std::thread::Threads;
-
-/// Whether one word asks for a run on threads. It has no translation caches.
-fn run_alone(word: &[u8]) -> Option<bool>
-    ensures some { IfSome result (IsRun (word.now ∷ [])) }
-    ensures none { IfNone result (IsNoRun (word.now ∷ [])) }
-{
-    if is_text(word, "run") {
-        return Some(false);
-    }
-    None
-}
-
-/// Whether the words are `run tlb`.
-fn is_run_tlb(word: &[u8], second: &[u8]) -> bool
-    ensures { IsTrue result ↔ IsRun (word.now ∷ second.now ∷ []) true }
-{
-    is_text(word, "run") && is_text(second, "tlb")
-}
-
-/// Whether two words ask for a run on threads. It has translation caches.
-fn run_with(word: &[u8], second: &[u8]) -> Option<bool>
-    ensures some { IfSome result (IsRun (word.now ∷ second.now ∷ [])) }
-    ensures none { IfNone result (IsNoRun (word.now ∷ second.now ∷ [])) }
-{
-    if is_run_tlb(word, second) {
-        return Some(true);
-    }
-    None
-}
-
-/// Whether the words ask for a run on threads, and then whether it has translation caches.
-fn run_of(words: &[String]) -> Option<bool>
-    ensures some { IfSome result (IsRun (map string_bytes words.now)) }
-    ensures none { IfNone result (IsNoRun (map string_bytes words.now)) }
-{
-    match words {
-        [word] => run_alone(word.as_bytes()),
-        [word, second] => run_with(word.as_bytes(), second.as_bytes()),
-        _ => None,
-    }
-}
 
 /// Serves the word `run`: reads a fault script from `src`, runs it with each of its processors on a thread of its own, all at one
 /// table of atomic words, and writes the report to `out`. The schedule is read and not used. A worker passes `gate` after the first

@@ -1,7 +1,7 @@
 ghost use Rattle.std.specs.Prelude.{◌≡◌, [], IfOk};
 ghost use Rattle.hwp_top_report.specs.hwp_law.Law.{IsLawful};
 ghost use Rattle.hwp_top_report.specs.hwp_law.Runs.{IsOfRun};
-ghost use Rattle.hwp_script.specs.hwp_script_read.hwp_script_words.Valid.{IsValid};
+ghost use Rattle.hwp_top_words.specs.hwp_script_read.hwp_script_words.Valid.{IsValid};
 ghost use Rattle.hwp_top_report.specs.hwp_table_words.Known.{first_knowing};
 ghost use Rattle.hwp_top_report.specs.hwp_table_words.Seats.{IsTableOf};
 ghost use Rattle.hwp_top_report.specs.Caches.{IsCachedEnd};

@@ -1,17 +1,16 @@
 //! What `run` and `run tlb` write.
 ghost use Rattle.std.specs.Prelude.{◌≡◌, ◌<◌, true, false, IfOk, IsErrOf};
-ghost use Rattle.hwp_script.specs.hwp_script_read.declared.Refused.{Refused};
+ghost use Rattle.hwp_top_words.specs.hwp_script_read.declared.Refused.{Refused};
 ghost use Rattle.hwp_top_report.specs.hwp_report_text.ReportText.{report_text};
-ghost use Rattle.hwp_top.specs.Top.{Refuses};
+ghost use Rattle.hwp_top_words.specs.Inputs.{Refuses};
 ghost use Rattle.hwp_top_report.specs.Caches.{IsCachedEnd};
 ghost use Rattle.hwp_top.specs.RunCalls.{IsThreadedOf, Reports};
 
-use crate::inputs::{InputFault, take_script};
-use crate::outputs::{Output, printed, status_of};
+use crate::outputs::printed;
 use crate::threading::run_on_threads;
-use hwp_io::Source;
 use hwp_threads::Gate;
 use hwp_top_report::{Bare, Cached, Finished, Text, Ways};
+use hwp_top_words::{InputFault, Output, Source, status_of, take_script};
 use std::alloc::Global;
 use std::sync::Wait;
 use std::thread::Threads;

@@ -1,14 +1,13 @@
 ghost use Rattle.std.specs.Prelude.{◌≡◌, ◌≢◌, ◌↔◌, ◌<◌, ℕ, List, [], ◌∷◌, Contains, None, Some};
 ghost use Rattle.std.specs.Io.KnownBytes.{Appends};
-ghost use Rattle.hwp_io.specs.Causes.{AppendsStrictFront};
-ghost use Rattle.hwp_script.specs.hwp_script_read.declared.Refused.{Refused};
-ghost use Rattle.hwp_top.specs.Top.{IsDone, Refuses, Told, refusal_text};
+ghost use Rattle.hwp_top_words.specs.hwp_io.Causes.{AppendsStrictFront};
+ghost use Rattle.hwp_top_words.specs.hwp_script_read.declared.Refused.{Refused};
+ghost use Rattle.hwp_top_words.specs.Statuses.{IsDone, Told, refusal_text};
+ghost use Rattle.hwp_top_words.specs.Inputs.{Refuses};
 ghost use Rattle.hwp_top.specs.TraceCalls.{IsShown, told_text};
 
-use crate::calls::{Done, deliver, tell_fault};
-use crate::messages::tell;
 use crate::traced::traced;
-use hwp_io::{Sink, Source};
+use hwp_top_words::{Done, Sink, Source, deliver, tell, tell_fault};
 use std::alloc::Global;
 
 /// The text where there are words.

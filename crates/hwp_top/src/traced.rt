@@ -1,14 +1,13 @@
 //! The trace of a script that a source gives.
 ghost use Rattle.std.specs.Prelude.{◌≡◌, ◌<◌, None, IfOk, IsErrOf};
-ghost use Rattle.hwp_script.specs.hwp_script_read.declared.Refused.{Refused};
-ghost use Rattle.hwp_top.specs.Top.{Refuses, done_status};
+ghost use Rattle.hwp_top_words.specs.hwp_script_read.declared.Refused.{Refused};
+ghost use Rattle.hwp_top_words.specs.Inputs.{Refuses};
+ghost use Rattle.hwp_top_words.specs.Statuses.{done_status};
 ghost use Rattle.hwp_top.specs.TraceCalls.{IsShown, IsTraceOf};
 
-use crate::inputs::{InputFault, take_script};
-use crate::outputs::{Output, status_of};
 use crate::tracing::trace;
-use hwp_io::Source;
 use hwp_top_report::{Report, Text, print_trace};
+use hwp_top_words::{InputFault, Output, Source, status_of, take_script};
 use std::alloc::Global;
 
 /// The report of the run of the script that a source gives, and the text of its trace.

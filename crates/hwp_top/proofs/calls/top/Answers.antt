@@ -1,10 +1,11 @@
 use Rattle.std.specs.Prelude.{map, string_bytes}
 use Rattle.std.proofs.Common.{List, ℕ, lit<, refl, subst}
 use Rattle.std.proofs.lemmas.Option.{same_Some}
-use Rattle.hwp_top.specs.Top.{Told, usage_text}
+use Rattle.hwp_top_words.specs.Statuses.{Told, usage_text}
 use Rattle.hwp_top.proofs.ReportLevel.{delivered}
 use Rattle.hwp_top.proofs.RunLevel.{handed-cut, handed-whole}
-use Rattle.hwp_top.proofs.Statuses.{delivered_somehow, fault_is_listed, output_is_done, output_is_listed, told_of_delivery}
+use Rattle.hwp_top_words.proofs.Statuses.{delivered_somehow, fault_is_listed, told_of_delivery}
+use Rattle.hwp_top.proofs.Statuses.{output_is_done, output_is_listed}
 use Rattle.hwp_top.proofs.calls.top.Goals as goal
 
 pub returns-in_default-clause-statuses : goal.returns-in_default-clause-statuses

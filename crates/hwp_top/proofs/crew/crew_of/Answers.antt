@@ -2,7 +2,7 @@ use Rattle.std.specs.Arc.{arc_value}
 use Rattle.std.proofs.Common.{◌≡◌, ℕ, ◌+◌, ◌<◌, ◌≤◌, List, [], ◌∷◌, ◌++◌, length, get_or, sym, ap, ◌∙◌, subst, arith}
 use Rattle.std.proofs.lemmas.List.{length-append}
 use Rattle.hwp_top_report.specs.hwp_geom.declared.Layout.{Layout}
-use Rattle.hwp_script.specs.hwp_script_read.declared.Command.{Command}
+use Rattle.hwp_top_words.specs.hwp_script_read.declared.Command.{Command}
 use Rattle.hwp_top_report.specs.hwp_plain.Order.{cpu_of}
 use Rattle.hwp_cpu.specs.declared.Processor.{Processor}
 use Rattle.hwp_cpu.specs.Processors.{AreCommands, AtBeginning}

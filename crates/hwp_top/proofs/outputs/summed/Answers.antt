@@ -1,7 +1,7 @@
 use Rattle.std.proofs.Common.{◌≡◌, ◌∙◌, ap, refl, subst}
-use Rattle.hwp_script.specs.hwp_script_read.declared.Script.{Script}
-use Rattle.hwp_script.specs.Generated.{generated}
-use Rattle.hwp_report.specs.SummaryText.{summary_text}
+use Rattle.hwp_top_words.specs.hwp_script_read.declared.Script.{Script}
+use Rattle.hwp_top_words.specs.hwp_script.Generated.{generated}
+use Rattle.hwp_top_words.specs.hwp_report.SummaryText.{summary_text}
 use Rattle.hwp_top.specs.Top.{IsReportOfRun}
 use Rattle.hwp_top.proofs.outputs.summed.Goals as goal
 

@@ -1,9 +1,9 @@
 use Rattle.std.specs.Prelude.{map, string_bytes}
 use Rattle.std.proofs.Common.{List, ℕ, lit<, refl, subst}
 use Rattle.std.proofs.lemmas.Option.{same_Some}
-use Rattle.hwp_top.specs.Top.{Told, usage_text}
-use Rattle.hwp_top.proofs.ReportLevel.{delivered-report}
-use Rattle.hwp_top.proofs.Statuses.{delivered_somehow, fault_is_run_status, told_of_delivery}
+use Rattle.hwp_top_words.specs.Statuses.{Told, usage_text}
+use Rattle.hwp_top_words.proofs.Delivered.{delivered-report}
+use Rattle.hwp_top_words.proofs.Statuses.{delivered_somehow, fault_is_run_status, told_of_delivery}
 use Rattle.hwp_top.proofs.RunReportLevel.{threaded-report}
 use Rattle.hwp_top.proofs.RunThreadLevel.{handed-cut, handed-whole}
 use Rattle.hwp_top.proofs.RunStatuses.{output-done, output-listed}

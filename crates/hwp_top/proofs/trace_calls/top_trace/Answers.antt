@@ -1,8 +1,8 @@
 use Rattle.std.proofs.Common.{List, ℕ, lit<, refl, subst}
 use Rattle.std.proofs.lemmas.Option.{same_Some}
-use Rattle.hwp_top.specs.Top.{Told}
+use Rattle.hwp_top_words.specs.Statuses.{Told}
 use Rattle.hwp_top.specs.TraceCalls.{usage_text}
-use Rattle.hwp_top.proofs.Statuses.{fault_is_run_status}
+use Rattle.hwp_top_words.proofs.Statuses.{fault_is_run_status}
 use Rattle.hwp_top.proofs.TraceStatuses.{output-done, output-listed}
 use Rattle.hwp_top.proofs.trace_calls.top_trace.Goals as goal
 

@@ -1,13 +1,11 @@
 //! What `check` says of an input.
-ghost use Rattle.std.specs.Prelude.{◌≡◌, ◌≤◌, ◌<◌, IfOk, IsErrOf, length};
+ghost use Rattle.std.specs.Prelude.{◌≡◌, ◌≤◌, ◌<◌, IfOk, IsErrOf, None, length};
 ghost use Rattle.std.specs.Io.KnownBytes.{Consumes, IsAtEnd};
 ghost use Rattle.hwp_script.specs.hwp_script_read.declared.Refused.{Refused};
-ghost use Rattle.hwp_top.specs.Checked.{RefusesChecked, check_limit, verdict_status};
-ghost use Rattle.hwp_top.specs.Outputs.{IsOutputOf};
+ghost use Rattle.hwp_top_words.specs.Checked.{IsChecked, RefusesChecked, check_limit, verdict_status};
 
 use crate::inputs::{InputFault, whole};
-use crate::outputs::Output;
-use crate::served::Call;
+use crate::output::Output;
 use hwp_check::{Verdict, judge, print};
 use hwp_io::{Bytes, ReadAll, Source, read_all};
 use hwp_script::{ReadScript, Why};
@@ -42,8 +40,8 @@ fn status_of(verdict: Verdict) -> u8
 }
 
 /// The output of `check`.
-pub(crate) fn checked<S: Source>(alloc: Global, src: &mut S) -> Result<Output, InputFault>
-    ensures output { IfOk result (λ o. IsOutputOf Call.Check (S.left src.old) (S.left src.new) o.status o.text o.report o.ended o.tlb) }
+pub fn checked<S: Source>(alloc: Global, src: &mut S) -> Result<Output, InputFault>
+    ensures output { IfOk result (λ o. IsChecked (S.left src.old) (S.left src.new) o.status o.text × (o.report ≡ None) × (o.ended ≡ None) × (o.tlb ≡ None)) }
     ensures refused { (r : Refused) → IsErrOf result (InputFault.Refused r) → RefusesChecked (S.left src.old) (S.left src.new) r }
     ensures fault { IsErrOf result InputFault.ReadFault → S.faults src.old < S.faults src.new }
 {

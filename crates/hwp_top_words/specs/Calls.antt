@@ -1,7 +1,7 @@
 -- What the words of a command ask for.
 use Rattle.std.specs.Prelude.{◌≡◌, ◌<◌, ◌^◌, ◌⊎◌, ℕ, Bool, true, false, List, [], ◌∷◌, codes, decimal}
-use Rattle.hwp_top.specs.declared.served.Call.{Call}
-use Rattle.hwp_top.specs.declared.served.Call.TheVariants as calls
+use Rattle.hwp_top_words.specs.declared.served.Call.{Call}
+use Rattle.hwp_top_words.specs.declared.served.Call.TheVariants as calls
 
 -- the words ask for the report of a script, with translation caches or without
 abbrev pub IsStep : List (List ℕ) → Bool → Type 0
@@ -31,3 +31,18 @@ IsCall words (calls.Sum seed) = AreWith words (codes "sum") seed
 -- the words ask for nothing that is served
 abbrev pub IsNoCall : List (List ℕ) → Type 0
 IsNoCall words = (call : Call) → IsCall words call → ⊥
+
+-- ---- runs on threads
+
+-- the words ask for a run on threads, with translation caches or without
+abbrev pub IsRun : List (List ℕ) → Bool → Type 0
+IsRun words false = words ≡ codes "run" ∷ []
+IsRun words true = words ≡ codes "run" ∷ codes "tlb" ∷ []
+
+-- the words ask for one or the other
+abbrev pub AsksRun : List (List ℕ) → Type 0
+AsksRun words = (caches : Bool) × IsRun words caches
+
+-- the words ask for no run on threads
+abbrev pub IsNoRun : List (List ℕ) → Type 0
+IsNoRun words = (caches : Bool) → IsRun words caches → ⊥

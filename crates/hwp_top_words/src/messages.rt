@@ -1,13 +1,13 @@
 //! The texts on the error sink.
 ghost use Rattle.std.specs.Prelude.{◌≡◌, ◌≤◌, IfOk, string_bytes};
-ghost use Rattle.hwp_top.specs.Top.{Told, refusal_text, why_text};
+ghost use Rattle.hwp_top_words.specs.Statuses.{Told, refusal_text, why_text};
 
 use hwp_io::{Sink, write_all};
 use hwp_script::{Refused, Why};
 use std::alloc::{AllocError, Global};
 
 /// Usage line.
-pub(crate) const USAGE: &[u8] = b"usage: hwp step [tlb]|run [tlb]|check|gen N|sum N\n";
+pub const USAGE: &[u8] = b"usage: hwp step [tlb]|run [tlb]|check|gen N|sum N\n";
 /// Printed when a read fails.
 pub(crate) const READ_FAULT: &[u8] = b"read fault\n";
 /// Printed when a write fails.
@@ -42,7 +42,7 @@ pub(crate) fn refusal(alloc: Global, refused: Refused) -> Result<String, AllocEr
 }
 
 /// Writes a text to the error sink. A fault there changes no answer.
-pub(crate) fn tell<E: Sink>(err: &mut E, text: &[u8])
+pub fn tell<E: Sink>(err: &mut E, text: &[u8])
     ensures { Told (E.taken err.old) (E.taken err.new) (E.faults err.old) (E.faults err.new) text.now }
 {
     let _ = write_all(err, text);

@@ -1,9 +1,9 @@
 //! The words of a command.
 ghost use Rattle.std.specs.Prelude.{◌↔◌, [], ◌∷◌, true, map, string_bytes, IfSome, IfNone, IsTrue};
-ghost use Rattle.hwp_top.specs.Calls.{IsCall, IsNoCall, IsStep};
+ghost use Rattle.hwp_top_words.specs.Calls.{IsCall, IsNoCall, IsStep};
 
 use crate::served::Call;
-use hwp_top_report::{is_text, read_number};
+use hwp_script::{is_text, read_number};
 
 /// The call that one word is.
 fn call_alone(word: &[u8]) -> Option<Call>
@@ -47,7 +47,7 @@ fn call_with(word: &[u8], second: &[u8]) -> Option<Call>
 }
 
 /// The call that the words are, if they are one.
-pub(crate) fn call_of(words: &[String]) -> Option<Call>
+pub fn call_of(words: &[String]) -> Option<Call>
     ensures some { IfSome result (IsCall (map string_bytes words.now)) }
     ensures none { IfNone result (IsNoCall (map string_bytes words.now)) }
 {

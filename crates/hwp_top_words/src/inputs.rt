@@ -2,16 +2,15 @@
 ghost use Rattle.std.specs.Prelude.{◌≡◌, ◌≤◌, ◌<◌, IfOk, IsErrOf};
 ghost use Rattle.hwp_script.specs.hwp_script_read.hwp_script_words.Valid.{IsValid};
 ghost use Rattle.hwp_script.specs.hwp_script_read.declared.Refused.{Refused};
-ghost use Rattle.hwp_top.specs.Top.{Refuses, Takes};
+ghost use Rattle.hwp_top_words.specs.Inputs.{Refuses, Takes};
 
 use hwp_io::{ReadAll, Source, read_all};
-use hwp_script::{ReadScript, Refused, Script, Why, read};
-use hwp_top_report::MAX_SCRIPT;
+use hwp_script::{MAX_SCRIPT, ReadScript, Refused, Script, Why, read};
 use std::alloc::Global;
 
 /// Why a source gives no script.
 #[derive(Clone, Copy)]
-pub(crate) enum InputFault {
+pub enum InputFault {
     /// The bytes are refused.
     Refused(Refused),
     /// The source failed.
@@ -28,7 +27,7 @@ pub(crate) fn whole(why: Why) -> InputFault
 }
 
 /// Reads a source to its end, and the script that it gives.
-pub(crate) fn take_script<S: Source>(alloc: Global, src: &mut S) -> Result<Script, InputFault>
+pub fn take_script<S: Source>(alloc: Global, src: &mut S) -> Result<Script, InputFault>
     ensures script { IfOk result (Takes (S.left src.old) (S.left src.new)) }
     ensures valid { IfOk result IsValid }
     ensures refused { (r : Refused) → IsErrOf result (InputFault.Refused r)
