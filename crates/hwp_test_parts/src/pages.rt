@@ -3,9 +3,10 @@
 use crate::checking::check;
 use crate::machine::machine;
 use hwp_core::{
-    Body, Code, Cpu, Entry, Line, List, Mask, Met, Page, PageState, Proc, Signal, Situation,
-    Thread, VSlot, What, Who,
+    Body, Code, Cpu, Entry, Line, List, Mask, Page, PageState, Proc, Signal, Situation, Thread,
+    VSlot, What, Who,
 };
+use hwp_page::Met;
 use std::alloc::Global;
 use std::process::Abort;
 use std::sync::Arc;
